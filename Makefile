@@ -9,11 +9,12 @@
 #                 which it otherwise refuses.
 # make dist       packs the proved programs and the library for users without the toolchain, in bin/dist/. make check-dist packs them
 #                 again in another folder and compares each byte.
-# make web        makes the modules of the page in web/ anew, and tests the page in a browser. It is not part of make test.
+# make modules    makes the modules of the page and of the package for JavaScript in web/, if they are not there or older than the code.
+# make web        makes the modules and tests the page in a browser. It is not part of make test.
 # make safe       checks the safe HTML of hostile documents with an HTML5 parser (Debian's python3-html5lib). It is not part of make test.
 # make fuzz       tests the library for C on texts that libFuzzer makes, for ten minutes. It is not part of make test.
 # make test       runs all proofs and tests; its last line is the gate's count. docs/GATE.md describes each part and its time.
-.PHONY: all mdhtml mdevents quick kept lib install install-mdhtml dist check-dist web safe fuzz test edits gate programs wrong outside installed beside
+.PHONY: all mdhtml mdevents quick kept lib install install-mdhtml dist check-dist modules web safe fuzz test edits gate programs wrong outside installed beside
 .NOTPARALLEL:
 
 PREFIX = /usr/local
@@ -80,8 +81,10 @@ dist:
 check-dist:
 	tools/dist --twice
 
-web: bin/mdhtml bin/mdevents lib
+modules: lib
 	tools/web
+
+web: bin/mdhtml bin/mdevents modules
 	tests/bindings/web
 	tests/bindings/safe --browser
 
@@ -119,7 +122,7 @@ wrong:
 
 # The tests over the gate's libraries and programs, as two jobs in parallel: one uses one processor, the other all of them.
 beside:
-	$(MAKE) lib installed > bin/lib.log 2>&1 & lib=$$!; \
+	$(MAKE) modules installed > bin/lib.log 2>&1 & lib=$$!; \
 	$(MAKE) outside wrong; outside=$$?; \
 	wait $$lib; lib=$$?; cat bin/lib.log; \
 	test "$$lib $$outside" = "0 0"
@@ -141,5 +144,6 @@ outside:
 installed:
 	tests/programs/run
 	tests/bindings/run
+	tests/bindings/streams
 	tests/programs/examples
 	tests/programs/dist

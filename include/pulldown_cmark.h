@@ -1,21 +1,21 @@
 /* Markdown to HTML and to events, for C and C++.
 
-   The ten functions that are declared here are proved: if one returns PCM_DONE, it has written exactly the output that its comment
+   The thirteen functions that are declared here are proved: if one returns PCM_DONE, it has written exactly the output that its comment
    describes. The proof assumes the following of the caller, which C cannot check:
 
    - No pointer is NULL, even if its length is 0; then any valid address will do, for example that of a spare byte. The inline functions
      below accept NULL for a text of length 0.
-   - text has text_len bytes that may be read, room has room_len bytes that may be written, and size is one size_t.
-   - text, room and size do not overlap, and no other thread writes them during the call.
+   - text has text_len bytes that may be read, room has room_len bytes that may be written, and size, cut and settled are one size_t each.
+   - text, room, size, cut and settled do not overlap, and no other thread writes them during the call.
    - A call does not come from a signal handler, nor from the forked child of a process with threads.
 
    The library has no data of its own: calls on separate memory may run at the same time on any number of threads. It takes memory
    by malloc and realloc, and has returned it by free at the end of each call. A call takes at most 16 KB of the stack, however deep the
-   parts of a text nest; this is tested, not proved. The data of a thread come on top: on Linux a thread needs a stack of 24 KB, and 16 KB
-   are too few.
+   parts of a text nest; pcm_stream and pcm_safe_stream take at most 32 KB. This is tested, not proved. The data of a thread come on top:
+   on Linux a thread needs a stack of 24 KB, or of 40 KB for these two calls.
 
-   The options are the bits below; other bits have no meaning yet, so leave them 0. The known entity names are amp, lt, gt, quot, apos,
-   nbsp, copy, reg, hellip, mdash and ndash; the HTML keeps any other as it is written. */
+   The options are the bits below; a call with any other bit returns PCM_UNKNOWN_OPTIONS. The known entity names are amp, lt, gt, quot,
+   apos, nbsp, copy, reg, hellip, mdash and ndash, or all 2,125 of HTML with PCM_ALL_ENTITIES; the HTML keeps any other as it is written. */
 #ifndef PULLDOWN_CMARK_H
 #define PULLDOWN_CMARK_H
 
@@ -41,10 +41,14 @@ enum pcm_status {
     PCM_TOO_LONG = 1,  /* The output has *size bytes, which is more than room_len. room is unchanged. */
     PCM_NOT_UTF8 = 2,  /* The text is not UTF-8. room is unchanged, and *size is 0. */
     PCM_NO_MEMORY = 3, /* Memory was refused. room is unchanged, and *size is 0. */
-    PCM_MALFORMED = 4  /* Only pcm_render and pcm_events_answered: the given records are malformed. room is unchanged, and *size is 0. */
+    PCM_MALFORMED = 4, /* Only pcm_render, pcm_safe_render and pcm_events_answered: the given records are malformed. room is unchanged,
+                          and *size is 0. */
+    PCM_UNKNOWN_OPTIONS = 5, /* A bit of the options has no meaning. room is unchanged, and *size is 0. */
+    PCM_BAD_CUT = 6 /* Only pcm_stream and pcm_safe_stream: *cut is past the end of the text or inside a character. room is unchanged, and
+                       *size is 0. */
 };
 
-/* The rules beyond CommonMark that apply. Combine options with |. */
+/* The rules beyond CommonMark that apply, and whether all entity names are known. Combine options with |. */
 enum pcm_options {
     PCM_TABLES = 2,
     PCM_FOOTNOTES = 4,
@@ -62,11 +66,12 @@ enum pcm_options {
     PCM_SUBSCRIPT = 16384,
     PCM_WIKILINKS = 32768,
     PCM_HIGHLIGHT = 65536,
-    PCM_EMAIL_AUTOLINKS = 131072
+    PCM_EMAIL_AUTOLINKS = 131072,
+    PCM_ALL_ENTITIES = 1073741824 /* all names of the HTML Standard's list, in place of eleven */
 };
 
 /* Writes the HTML of the text into room, and returns a status. *size is always written: the length of the HTML in bytes, or 0 if there
-   is none. No NUL is added. The HTML is the same as that of the program mdhtml. It is not safe to show for a text of a stranger: raw
+   is none. No NUL is added. The HTML is that of the program mdhtml. It is not safe to show for a text of a stranger: raw
    HTML passes through, links may lead to javascript:, and headings may have attributes such as onclick. Use pcm_safe_html for it. */
 uint32_t pcm_html(const uint8_t *text, size_t text_len, uint32_t options, uint8_t *room, size_t room_len, size_t *size);
 
@@ -83,6 +88,33 @@ uint32_t pcm_safe_html(const uint8_t *text, size_t text_len, uint32_t options, u
 /* Like pcm_safe_html, but addresses may also begin with further schemes: names in UTF-8 with white space between them, such as
    "tel sms". javascript, vbscript, data and file are never accepted. Returns PCM_NOT_UTF8 also if the list is not UTF-8. */
 uint32_t pcm_safe_html_with(const uint8_t *text, size_t text_len, uint32_t options, const uint8_t *schemes, size_t schemes_len, uint8_t *room, size_t room_len, size_t *size);
+
+/* The HTML of a text that grows at its end, such as the output of a language model. The library keeps nothing: the caller keeps the text,
+   its HTML, and the cut, an offset in bytes. A call reads only the lines from the cut on. It looks at the earlier bytes only to see that
+   the text is UTF-8.
+
+   - *cut is 0 at first. Later it is what the last call that returned PCM_DONE left, for a beginning of this text, with the same options,
+     limit and schemes.
+   - At PCM_DONE *cut is the new cut, and room has HTML of *size bytes. Its first *settled bytes are the HTML of the blocks before the new
+     cut. No further text changes them, as long as the text defines neither a link nor a footnote. The rest is the HTML of the other
+     blocks, which that of the next call replaces.
+   - If the new cut is 0, the HTML is that of the whole text, and the settled HTML of earlier calls is dropped. This is so if the text
+     defines a link or a footnote, or if nothing is settled yet.
+   - At any other status *cut is unchanged, and *settled is 0. At PCM_TOO_LONG *size is the length of the HTML. PCM_BAD_CUT means that *cut
+     is past the end of the text or inside a character.
+
+   So after PCM_DONE a caller does this:
+
+     if (cut == 0) clear(html);
+     append(html, room, settled);
+     tail = the bytes room[settled] to room[size - 1];
+
+   html followed by tail is the HTML of the whole text, that of pcm_html_within. A *cut that no call returned for this text is safe: the
+   HTML is that of the lines after it. */
+uint32_t pcm_stream(const uint8_t *text, size_t text_len, uint32_t options, size_t limit, size_t *cut, size_t *settled, uint8_t *room, size_t room_len, size_t *size);
+
+/* Like pcm_stream, but writes safe HTML, as pcm_safe_html_with does. Returns PCM_NOT_UTF8 also if the list of schemes is not UTF-8. */
+uint32_t pcm_safe_stream(const uint8_t *text, size_t text_len, uint32_t options, const uint8_t *schemes, size_t schemes_len, size_t limit, size_t *cut, size_t *settled, uint8_t *room, size_t room_len, size_t *size);
 
 /* Like pcm_html, but writes the events of the text in place of its HTML. Each event, in order, is a line of JSON as the program mdevents
    writes it, {"range":[FROM,TO],"event":[NAME,DATA..]}, and ends with a line feed. The range is in bytes of the text. */
@@ -177,8 +209,12 @@ uint32_t pcm_events(const uint8_t *text, size_t text_len, uint32_t options, uint
 /* Writes the HTML of the events that flat records stand for: those of pcm_events, or records that a filter has changed. Returns
    PCM_MALFORMED if the bytes are not the records of events: a record is cut short or out of order, a length leads past the end, a text is
    not UTF-8, or a number has no meaning. Never returns PCM_NOT_UTF8. The events need not be balanced. The HTML is not safe to show for a
-   text of a stranger, as with pcm_html. */
+   text of a stranger, as with pcm_html: use pcm_safe_render for it. */
 uint32_t pcm_render(const uint8_t *records, size_t records_len, uint8_t *room, size_t room_len, size_t *size);
+
+/* Like pcm_render, but writes safe HTML, as pcm_safe_html_with does, whoever made the records. schemes may be empty. Returns PCM_NOT_UTF8
+   only if this list is not UTF-8. */
+uint32_t pcm_safe_render(const uint8_t *records, size_t records_len, const uint8_t *schemes, size_t schemes_len, uint8_t *room, size_t room_len, size_t *size);
 
 /* Like pcm_html, but writes the link reference definitions of the text in place of its HTML: of each label the first one, in no particular
    order. Each is a record of the kind PCM_DEFINITION. Its start and end are the range of the definition in the text, and its text is the
@@ -300,6 +336,44 @@ static inline uint32_t pcm_render_alloc(const uint8_t *records, size_t records_l
     return pcm_answer(pcm_render_call, (const char *)records, records_len, 0, html, size);
 }
 
+/* pcm_safe_render without further schemes, with the parameters of pcm_html. */
+static inline uint32_t pcm_safe_render_call(const uint8_t *records, size_t records_len, uint32_t options, uint8_t *room, size_t room_len, size_t *size)
+{
+    (void)options;
+    return pcm_safe_render(records, records_len, (const uint8_t *)"", 0, room, room_len, size);
+}
+
+/* Returns the safe HTML of flat records in memory of its own, as pcm_render_alloc does. */
+static inline uint32_t pcm_safe_render_alloc(const uint8_t *records, size_t records_len, char **html, size_t *size)
+{
+    return pcm_answer(pcm_safe_render_call, (const char *)records, records_len, 0, html, size);
+}
+
+/* Returns the flat records of pcm_events_answered in memory of their own, as pcm_answer does. answers may be NULL if answers_len is 0.
+   pcm_put_answer writes answers. */
+static inline uint32_t pcm_answered_alloc(const char *text, size_t text_len, uint32_t options, const uint8_t *answers, size_t answers_len, uint8_t **records, size_t *size)
+{
+    size_t room_len = pcm_first_room(text_len, 8, 1024);
+    *records = NULL;
+    *size = 0;
+    for (;;) {
+        uint8_t *room = (uint8_t *)malloc(room_len);
+        uint32_t status;
+        if (!room)
+            return PCM_NO_MEMORY;
+        status = pcm_events_answered((const uint8_t *)(text_len ? text : ""), text_len, options, answers_len ? answers : (const uint8_t *)"", answers_len, room, room_len, size);
+        if (status == PCM_DONE) {
+            *records = room;
+            return status;
+        }
+        free(room);
+        if (status != PCM_TOO_LONG)
+            return status;
+        room_len = *size;
+        *size = 0;
+    }
+}
+
 /* Frees the memory that one of these functions returned. NULL is allowed. */
 static inline void pcm_free(void *answer)
 {
@@ -377,6 +451,46 @@ static inline int pcm_next_record(const uint8_t *records, size_t size, size_t *a
     record->len = (size_t)len;
     *at += PCM_HEAD + record->len;
     return 1;
+}
+
+/* Writes a number as eight bytes, the lowest first. */
+static inline void pcm_put_wide(uint8_t *bytes, uint64_t number)
+{
+    int i;
+    for (i = 0; i < 8; i++)
+        bytes[i] = (uint8_t)(number >> 8 * i);
+}
+
+/* Writes the answer to a question to bytes: the link leads to dest, or it is no link if dest is NULL. Returns the number of bytes of the
+   answer: PCM_HEAD if dest is NULL, else 2 * PCM_HEAD + dest_len + title_len. If bytes is NULL, only this number is returned. dest and
+   title are UTF-8; title may be NULL if title_len is 0. */
+static inline size_t pcm_put_answer(uint8_t *bytes, const struct pcm_record *question, const char *dest, size_t dest_len, const char *title, size_t title_len)
+{
+    const size_t text_len = dest ? dest_len : 0, size = dest ? 2 * PCM_HEAD + dest_len + title_len : PCM_HEAD;
+    size_t i;
+    uint8_t *part;
+    if (!bytes)
+        return size;
+    for (i = 0; i < PCM_HEAD; i++)
+        bytes[i] = 0;
+    bytes[0] = PCM_ANSWER;
+    bytes[2] = dest ? 1 : 0;
+    pcm_put_wide(bytes + 8, question->start);
+    pcm_put_wide(bytes + 16, question->end);
+    pcm_put_wide(bytes + 24, text_len);
+    if (!dest)
+        return size;
+    for (i = 0; i < dest_len; i++)
+        bytes[PCM_HEAD + i] = (uint8_t)dest[i];
+    part = bytes + PCM_HEAD + dest_len;
+    for (i = 0; i < PCM_HEAD; i++)
+        part[i] = 0;
+    part[0] = PCM_FURTHER;
+    part[1] = PCM_PART_TITLE;
+    pcm_put_wide(part + 24, title_len);
+    for (i = 0; i < title_len; i++)
+        part[PCM_HEAD + i] = (uint8_t)title[i];
+    return size;
 }
 
 /* A function that receives a record. It returns 0 to continue; after any other value it is not called again. The record is valid until it

@@ -26,10 +26,10 @@ class Piece:
         self.words = frozenset(word for it in tokens if it.kind != "Literal" for word in WORD.findall(it.text))
         # the token before each token, except for the dots of a range, and the token after it
         befores = ["", *("" if pair == (".", ".") else pair[1] for pair in zip(["", *texts], texts))]
-        code = [(before, text, behind) for it, before, text, behind in zip(tokens, befores, texts, [*texts[1:], ""]) if it.kind == "Code"]
+        code = [(before, text, rest) for it, before, text, rest in zip(tokens, befores, texts, [*texts[1:], ""]) if it.kind == "Code"]
         self.functions = frozenset(text for before, text, _ in code if before != ".")
         # no parenthesis and no colon follow the name of a field, as they follow the name of `parse::<u8>`
-        self.methods = frozenset(text for before, text, behind in code if before == ":" or before == "." and behind in ("(", ":"))
+        self.methods = frozenset(text for before, text, rest in code if before == ":" or before == "." and rest in ("(", ":"))
 
 
 class Item:

@@ -11,7 +11,7 @@ WITH_VECTORS = "module_simd.js"
 FILES = ("module.js", WITH_VECTORS)
 LIBRARY = "pulldown_cmark_c"
 # The files, besides the code of the crates, from which the modules are made.
-TOOLS = ("web", "web_memory.c")
+TOOLS = ("llvm.py", "web", "web_memory.c")
 
 
 def digest_of_sources(rt):
@@ -45,12 +45,12 @@ def age(rt, folder=ROOT / "web"):
     for name in FILES:
         file = folder / name
         if not file.exists():
-            return f"there is no web/{name}: run make web"
+            return f"there is no web/{name}: run make modules"
         text = file.read_text()
         if f'sources: "{digest_of_sources(rt)}"' not in text:
-            return f"web/{name} is older than the code of the library: run make web"
+            return f"web/{name} is older than the code of the library: run make modules"
         if f'tools: "{digest_of_tools()}"' not in text:
-            return f"web/{name} is older than tools/web or tools/web_memory.c: run make web"
+            return f"web/{name} is older than the tools that make it: run make modules"
     return None
 
 

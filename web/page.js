@@ -1,4 +1,5 @@
-// The page: the text typed on the left is shown on the right, as HTML, as its source and as events.
+// The page: the text typed on the left is shown on the right, as HTML, as its source and as events. Text that is added at the end is read as a
+// text that grows: only the blocks that may still change are read and shown again.
 "use strict";
 (async () => {
   const SAMPLE = `# For *tonight*
@@ -44,11 +45,13 @@ bag, says <https://example.com>.
   };
   let written = null;
   const write = () => {
+    if (player) return;
     written = `#o=${options()}&t=${packed(text.value)}${safe.checked ? "" : "&s=0"}`;
     history.replaceState(null, "", written);
   };
   const read = () => {
     if (location.hash === written) return;
+    stop();
     const state = new URLSearchParams(location.hash.slice(1));
     choose(Number(state.get("o")) || 0);
     safe.checked = state.get("s") !== "0";
@@ -128,23 +131,81 @@ bag, says <https://example.com>.
     return all.extractContents();
   };
 
+  // The text as a stream, what of it was pushed, and the settings with which it is read. If the text is not the pushed one with more at its
+  // end, or if a setting has changed, a new stream begins.
+  let stream = null, pushed = "", settings = "";
+  const refresh = (value) => {
+    const wanted = `${options()} ${safe.checked}`, isNew = stream === null || settings !== wanted || !value.startsWith(pushed);
+    if (isNew) [stream, pushed, settings] = [new calls.Stream(options(), { safe: safe.checked }), "", wanted];
+    stream.push(value.slice(pushed.length));
+    pushed = value;
+    return stream.refresh() === calls.Change.ANEW || isNew;
+  };
+
+  // The source of the settled blocks, and that of the others.
+  const settledSource = new Text(), tailSource = new Text();
+  source.append(settledSource, tailSource);
+  // The number of nodes in the pane that are of settled blocks: they stay. Raw HTML may open an element in one block and end it in a later
+  // one, so all nodes are replaced if the HTML is not the safe one.
+  let kept = 0;
+  const replaceTail = (isAnew) => {
+    if (isAnew) settledSource.data = "";
+    settledSource.appendData(stream.added);
+    tailSource.data = stream.tail;
+    const body = rendered.contentDocument && rendered.contentDocument.body;
+    if (!body) return;
+    if (isAnew || !safe.checked) kept = 0;
+    while (body.childNodes.length > kept) body.lastChild.remove();
+    if (!safe.checked) return body.append(elements(stream.html));
+    body.append(elements(stream.added));
+    kept = body.childNodes.length;
+    body.append(elements(stream.tail));
+  };
+
   const show = () => {
-    const value = text.value, set = options(), began = performance.now();
-    let html, events;
+    const value = text.value, began = performance.now();
+    let events;
     try {
-      html = calls.html(value, set, { safe: safe.checked });
-      events = calls.events(value, set);
+      const isAnew = refresh(value);
+      events = calls.events(value, options());
+      replaceTail(isAnew);
     } catch (error) {
+      stream = null;
       at("told").textContent = error.message;
       return;
     }
-    at("told").textContent = `${value.length} characters, ${events.length} events, read twice in ${(performance.now() - began).toFixed(1)} ms`;
-    source.textContent = html;
-    if (rendered.contentDocument && rendered.contentDocument.body) rendered.contentDocument.body.replaceChildren(elements(html));
+    const settled = stream.settled.length, all = settled + stream.tail.length;
+    at("told").textContent = `${value.length} characters, ${events.length} events, shown in ${(performance.now() - began).toFixed(1)} ms; ${settled} of ${all} characters of HTML settled`;
     list.replaceChildren(...rows(events));
     at("more").textContent = events.length > ROWS ? `These are the first ${ROWS} of ${events.length} events.` : "";
     point(null);
     document.documentElement.dataset.shown = String(Number(document.documentElement.dataset.shown || 0) + 1);
+  };
+
+  // Plays the text: it comes again in chunks, as if a model wrote it. Nobody types meanwhile. If it is stopped, the whole text is back.
+  const CHUNK = 12, PAUSE = 40;
+  let player = 0, whole = "";
+  const stop = () => {
+    if (!player) return;
+    clearInterval(player);
+    player = 0;
+    text.readOnly = false;
+    text.value = whole;
+    at("play").textContent = "play";
+  };
+  const playOn = () => {
+    const end = text.value.length + CHUNK, isInside = /[\ud800-\udbff]/.test(whole.charAt(end - 1));
+    text.value = whole.slice(0, isInside ? end + 1 : end);
+    text.scrollTop = text.scrollHeight;
+    if (text.value.length === whole.length) stop();
+    show();
+  };
+  const play = () => {
+    whole = text.value;
+    text.readOnly = true;
+    text.value = "";
+    at("play").textContent = "stop";
+    player = setInterval(playOn, PAUSE);
   };
 
   let waiting = 0;
@@ -158,6 +219,17 @@ bag, says <https://example.com>.
   at("options").addEventListener("change", changed);
   safe.addEventListener("change", changed);
   window.addEventListener("hashchange", read);
-  rendered.addEventListener("load", show);
+  at("play").addEventListener("click", () => {
+    if (player) {
+      stop();
+      show();
+    } else {
+      play();
+    }
+  });
+  rendered.addEventListener("load", () => {
+    stream = null;
+    show();
+  });
   read();
 })();

@@ -10,11 +10,15 @@
 var pulldownCmark = ((records) => {
   const DONE = 0, TOO_LONG = 1, NOT_UTF8 = 2, MALFORMED = 4;
 
-  /** The rules beyond CommonMark; join them by `|`. */
+  /**
+   * The rules beyond CommonMark; join them by `|`. With ALL_ENTITIES all 2,125 entity names of the HTML standard are known, and otherwise
+   * eleven: amp, lt, gt, quot, apos, nbsp, copy, reg, hellip, mdash and ndash.
+   */
   const OPTIONS = {
     TABLES: 2, FOOTNOTES: 4, STRIKETHROUGH: 8, TASKLISTS: 16, SMART_PUNCTUATION: 32, HEADING_ATTRIBUTES: 64,
     YAML_STYLE_METADATA_BLOCKS: 128, PLUSES_DELIMITED_METADATA_BLOCKS: 256, OLD_FOOTNOTES: 516, MATH: 1024, GFM: 2048,
     DEFINITION_LIST: 4096, SUPERSCRIPT: 8192, SUBSCRIPT: 16384, WIKILINKS: 32768, HIGHLIGHT: 65536, EMAIL_AUTOLINKS: 131072,
+    ALL_ENTITIES: 1073741824,
   };
   const ALL = Object.values(OPTIONS).reduce((set, bits) => set | bits);
 
@@ -223,6 +227,13 @@ var pulldownCmark = ((records) => {
     yield* joined();
   }
 
+  /** A number that a call of the module may change. */
+  class Cell {
+    constructor(value) {
+      this.value = value;
+    }
+  }
+
   /** An instance of the module: its calls with their memory. */
   class Instance {
     constructor({ exports }) {
@@ -233,6 +244,11 @@ var pulldownCmark = ((records) => {
       return new Uint8Array(this.calls.memory.buffer);
     }
 
+    /** The module's memory, for numbers of eight bytes. */
+    get words() {
+      return new DataView(this.calls.memory.buffer);
+    }
+
     /** The address of `size` bytes of the module's memory. */
     take(size) {
       const place = Number(this.calls.take(BigInt(size)));
@@ -241,25 +257,35 @@ var pulldownCmark = ((records) => {
     }
 
     /**
-     * The output of a call, as `read` takes it from the module's memory. The call gets these bytes, then `more`: numbers, and lists of bytes.
-     * `length` is the size of its first buffer. All memory is given back, also if an error is thrown.
+     * The output of a call, as `read` takes it from the module's memory. The call gets these bytes, then `more`: numbers, lists of bytes, and
+     * cells, which have the numbers that the call leaves once `read` is called. `length` is the size of its first buffer. All memory is given
+     * back, also if an error is thrown.
      */
     answer(call, data, more, length, read) {
-      const held = [], given = [];
+      const held = [], given = [], cells = [];
       const keep = (size) => (held.push(this.take(size)), held[held.length - 1]);
       const put = (bytes) => {
         const place = keep(bytes.length + 1);
         this.bytes.set(bytes, place);
         given.push(BigInt(place), BigInt(bytes.length));
       };
+      const putCell = (cell) => {
+        const place = keep(8);
+        this.words.setBigUint64(place, BigInt(cell.value), true);
+        given.push(BigInt(place));
+        cells.push([cell, place]);
+      };
       try {
         put(data);
-        for (const it of more) if (isBytes(it)) put(it); else given.push(it);
+        for (const it of more) if (isBytes(it)) put(it); else if (it instanceof Cell) putCell(it); else given.push(it);
         const size = keep(8);
         for (;;) {
-          const room = keep(length), status = this.calls[call](...given, BigInt(room), BigInt(length), BigInt(size));
-          const written = Number(new DataView(this.calls.memory.buffer).getBigUint64(size, true));
-          if (status === DONE) return read(this.bytes.subarray(room, room + written));
+          const room = keep(length), status = this.calls[call](...given, BigInt(room), BigInt(length), BigInt(size)), words = this.words;
+          const written = Number(words.getBigUint64(size, true));
+          if (status === DONE) {
+            for (const [cell, place] of cells) cell.value = Number(words.getBigUint64(place, true));
+            return read(this.bytes.subarray(room, room + written));
+          }
           if (status !== TOO_LONG) throw failure(status);
           this.calls.give(BigInt(held.pop()));
           length = written;
@@ -282,6 +308,11 @@ var pulldownCmark = ((records) => {
     /** The HTML of the events that some records stand for. */
     rendered(bytes) {
       return this.answer("pcm_render", bytes, [], bytes.length + 256, stringOf);
+    }
+
+    /** The safe HTML of the events that some records stand for. */
+    renderedSafely(bytes, schemes) {
+      return this.answer("pcm_safe_render", bytes, [encoded(schemes.join(" "))], bytes.length + 256, stringOf);
     }
   }
 
@@ -315,6 +346,158 @@ var pulldownCmark = ((records) => {
     if (typeof brokenLink !== "function") throw new TypeError("brokenLink is no function");
     return answeredRecords(instance, data, bits, brokenLink, placedIn(text, data.length));
   };
+
+  /**
+   * The effect of a refresh on the settled HTML. After GROWN it begins with the settled HTML of before. After ANEW the settled HTML of before
+   * is dropped, and nothing is settled: the text defines a link or a footnote, so that earlier blocks may have changed.
+   */
+  const Change = Object.freeze({ GROWN: "grown", ANEW: "anew" });
+
+  /** The bytes of a text that arrives in chunks, each a string or bytes in UTF-8. A chunk may end inside a character. */
+  class Chunks {
+    #room = new Uint8Array(256);
+    #size = 0;
+    /** The first bytes of a character, and the first half of a pair of surrogates, at the end of the last chunk. One of them is empty. */
+    #begun = new Uint8Array();
+    #half = "";
+
+    /** The bytes of all whole characters. They are valid until the next chunk. */
+    get bytes() {
+      return this.#room.subarray(0, this.#size);
+    }
+
+    get endsInsideCharacter() {
+      return this.#begun.length + this.#half.length > 0;
+    }
+
+    /** Appends a chunk. Nothing changes if an error is thrown. */
+    push(chunk) {
+      if (typeof chunk === "string") this.#pushString(chunk);
+      else this.#pushBytes(encoded(chunk));
+    }
+
+    #pushString(chunk) {
+      if (chunk !== "" && this.#begun.length > 0) throw new NotUtf8Error("a string follows bytes that end inside a character");
+      const text = this.#half + chunk, whole = text.replace(/[\ud800-\udbff]$/, "");
+      this.#append(encoded(whole));
+      this.#half = text.slice(whole.length);
+    }
+
+    #pushBytes(chunk) {
+      if (chunk.length > 0 && this.#half !== "") throw new NotUtf8Error("bytes follow a string that ends with half of a pair of surrogates");
+      const bytes = new Uint8Array(this.#begun.length + chunk.length);
+      bytes.set(this.#begun);
+      bytes.set(chunk, this.#begun.length);
+      const size = encoder.encode(beginningOf(bytes)).length;
+      this.#append(bytes.subarray(0, size));
+      this.#begun = bytes.slice(size);
+    }
+
+    /** Appends bytes to the room, which doubles if it is too small. */
+    #append(bytes) {
+      const size = this.#size + bytes.length;
+      if (size > this.#room.length) {
+        const room = new Uint8Array(2 * size);
+        room.set(this.bytes);
+        this.#room = room;
+      }
+      this.#room.set(bytes, this.#size);
+      this.#size = size;
+    }
+  }
+
+  /** The text of some bytes, without the first bytes of a character at their end. */
+  const beginningOf = (bytes) => {
+    try {
+      return new TextDecoder("utf-8", { fatal: true, ignoreBOM: true }).decode(bytes, { stream: true });
+    } catch (error) {
+      throw error instanceof TypeError ? new NotUtf8Error("the text is not UTF-8") : error;
+    }
+  };
+
+  /** The class of texts that grow, for an instance of the module. */
+  const streamOf = (instance) =>
+    /**
+     * A text that grows at its end, such as the output of a language model, with the HTML of all of it. `settled` is the HTML of blocks that
+     * no further text changes, as long as the text defines neither a link nor a footnote. `tail` is the HTML of the other blocks.
+     *
+     * A refresh reads the lines after the settled blocks. It reads the whole text in three cases: the text defines a link or a footnote, the
+     * options enable metadata or definition lists, or the text is one block. From the first table on, nothing is settled. `safe` and `schemes`
+     * are as for `html`, and `expansionLimit` too, which is 100,000 by default.
+     */
+    class Stream {
+      #bits;
+      #schemes;
+      #limit;
+      #chunks = new Chunks();
+      /** The byte offset after the settled blocks. */
+      #cut = 0;
+      #settled = "";
+      #added = "";
+      #tail = "";
+
+      constructor(options = 0, { safe = false, schemes = [], expansionLimit = 100_000 } = {}) {
+        this.#bits = bitsOf(options);
+        this.#limit = limitOf(expansionLimit);
+        this.#schemes = safe ? encoded(schemes.join(" ")) : null;
+      }
+
+      /** The text so far: all chunks, joined. The beginning of a character is not in it until the rest of it is pushed. */
+      get text() {
+        return stringOf(this.#chunks.bytes);
+      }
+
+      /** The HTML of the settled blocks, at the last refresh that returned. */
+      get settled() {
+        return this.#settled;
+      }
+
+      /** The end of `settled` that the last refresh has added. A page appends it. */
+      get added() {
+        return this.#added;
+      }
+
+      /** The HTML of the other blocks, at the last refresh that returned. The next refresh replaces it. */
+      get tail() {
+        return this.#tail;
+      }
+
+      /** The HTML of the whole text, as it was at the last refresh that returned: `settled` and then `tail`. */
+      get html() {
+        return this.#settled + this.#tail;
+      }
+
+      /** Whether the chunks end inside a character. If no more arrive, the text was cut off. */
+      get endsInsideCharacter() {
+        return this.#chunks.endsInsideCharacter;
+      }
+
+      /**
+       * Appends a chunk to the text: a string, or bytes in UTF-8. It may end inside a character, which the next chunk continues. Nothing is
+       * read: the HTML stays as it is until the next refresh. If an error is thrown, the text is as before.
+       */
+      push(chunk) {
+        this.#chunks.push(chunk);
+      }
+
+      /**
+       * Reads the lines after the settled blocks. Afterwards `settled` and `tail` are the HTML of the whole text. If an error is thrown, the
+       * text and its HTML are as before.
+       *
+       * The call copies the whole text into the module's memory, and the library checks that it is UTF-8. The module keeps nothing between
+       * calls, so a stream needs no call that gives its memory back.
+       */
+      refresh() {
+        const data = this.#chunks.bytes, cut = new Cell(this.#cut), settled = new Cell(0);
+        const call = this.#schemes === null ? "pcm_stream" : "pcm_safe_stream", schemes = this.#schemes === null ? [] : [this.#schemes];
+        const parts = (html) => [html.subarray(0, settled.value), html.subarray(settled.value)].map(stringOf);
+        const [added, tail] = instance.answer(call, data, [this.#bits, ...schemes, this.#limit, cut, settled], htmlRoom(data.length - this.#cut), parts);
+        const isAnew = cut.value === 0 && this.#settled !== "";
+        this.#settled = cut.value === 0 ? "" : this.#settled + added;
+        [this.#cut, this.#added, this.#tail] = [cut.value, added, tail];
+        return isAnew ? Change.ANEW : Change.GROWN;
+      }
+    };
 
   /** The functions of an instance of the module. */
   const callsOf = (exported) => {
@@ -354,12 +537,21 @@ var pulldownCmark = ((records) => {
       return records.readReferences(instance.records("pcm_references", data, [bits]), placedIn(text, data.length));
     };
 
-    /** The HTML of some events, as `events` returns them or changed, or of the bytes of their records. It is not safe to show for a stranger. */
-    const render = (events) => {
-      if (isBytes(events)) return instance.rendered(events);
-      if (events instanceof Events) return instance.rendered(events.records);
+    /** The records of some events, as `events` returns them or changed, or the bytes of records as they are. */
+    const bytesOfEvents = (events) => {
+      if (isBytes(events)) return events;
+      if (events instanceof Events) return events.records;
       if (typeof events?.[Symbol.iterator] !== "function") throw new TypeError("events are an iterable object, or the bytes of records");
-      return instance.rendered(records.recordsOf(events));
+      return records.recordsOf(events);
+    };
+
+    /**
+     * The HTML of some events, as `events` returns them or changed, or of the bytes of their records. It is not safe to show if a stranger
+     * has a part in the events, except with `safe`: then it is safe as that of `html`, whoever made the events.
+     */
+    const render = (events, { safe = false, schemes = [] } = {}) => {
+      const bytes = bytesOfEvents(events);
+      return safe ? instance.renderedSafely(bytes, schemes) : instance.rendered(bytes);
     };
 
     const version = () => {
@@ -367,7 +559,7 @@ var pulldownCmark = ((records) => {
       const label = number >>> 31 ? " (not proved: what the proof rules out is checked at run time)" : "";
       return `${(number >> 16) & 0x7fff}.${(number >> 8) & 255}.${number & 255}${label}`;
     };
-    return { html, events, references, merged, render, version, OPTIONS, ...errors };
+    return { html, events, references, merged, render, Stream: streamOf(instance), Change, version, OPTIONS, ...errors };
   };
 
   const errors = { NotUtf8Error, OutOfMemoryError, MalformedError: records.MalformedError };

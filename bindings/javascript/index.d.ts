@@ -93,12 +93,16 @@ export interface EventsWishes {
   brokenLink?: BrokenLinkCallback | null;
 }
 
-/** Further settings of the HTML of a text. At most one of `safe`, `expansionLimit` and `brokenLink` may be set. */
-export interface HtmlWishes extends EventsWishes {
-  /** Whether the HTML is to be safe to show, also if the text comes from a stranger. */
+/** Whether HTML is to be safe. */
+export interface SafeWishes {
+  /** Whether the HTML is to be safe to show, also if the text or the events come from a stranger. */
   safe?: boolean;
   /** For safe HTML: schemes that addresses may have, besides `http`, `https` and `mailto`. */
   schemes?: readonly string[];
+}
+
+/** Further settings of the HTML of a text. At most one of `safe`, `expansionLimit` and `brokenLink` may be set. */
+export interface HtmlWishes extends EventsWishes, SafeWishes {
   /** For plain HTML: once the destinations and titles of references have this number of bytes in all, further references stay text. */
   expansionLimit?: number | bigint | null;
 }
@@ -111,11 +115,49 @@ export interface LinkDef extends Range {
   title: string | null;
 }
 
-/** The rules beyond CommonMark; join them by `|`. */
+/** Settings of a text that grows. */
+export interface StreamWishes extends SafeWishes {
+  /** Once the destinations and titles of references have this number of bytes in all, further references stay text. It is 100,000 by default. */
+  expansionLimit?: number | bigint;
+}
+
+/** The effect of a refresh on the settled HTML. */
+export type Change = "grown" | "anew";
+/**
+ * After `GROWN` the settled HTML begins with the settled HTML of before. After `ANEW` the settled HTML of before is dropped, and nothing is
+ * settled: the text defines a link or a footnote.
+ */
+export declare const Change: Readonly<{ GROWN: "grown"; ANEW: "anew" }>;
+
+/**
+ * A text that grows at its end, such as the output of a language model, with the HTML of all of it. The HTML is not safe to show if the text
+ * comes from a stranger, except with `{ safe: true }`.
+ */
+export declare class Stream {
+  constructor(options?: number, wishes?: StreamWishes);
+  /** The text so far: all chunks, joined. The beginning of a character is not in it until the rest of it is pushed. */
+  readonly text: string;
+  /** The HTML of blocks that no further text changes, as long as the text defines neither a link nor a footnote. */
+  readonly settled: string;
+  /** The end of `settled` that the last refresh has added. A page appends it. */
+  readonly added: string;
+  /** The HTML of the other blocks. The next refresh replaces it. */
+  readonly tail: string;
+  /** The HTML of the whole text at the last refresh: `settled` and then `tail`. */
+  readonly html: string;
+  /** Whether the chunks end inside a character. If no more arrive, the text was cut off. */
+  readonly endsInsideCharacter: boolean;
+  /** Appends a chunk: a string, or bytes in UTF-8. It may end inside a character. The HTML stays as it is until the next refresh. */
+  push(chunk: string | Uint8Array): void;
+  /** Reads the lines after the settled blocks. If an error is thrown, the text and its HTML are as before. */
+  refresh(): Change;
+}
+
+/** The rules beyond CommonMark; join them by `|`. With `ALL_ENTITIES` all 2,125 entity names of the HTML standard are known, and else eleven. */
 export declare const Options: Readonly<Record<
   | "TABLES" | "FOOTNOTES" | "STRIKETHROUGH" | "TASKLISTS" | "SMART_PUNCTUATION" | "HEADING_ATTRIBUTES" | "YAML_STYLE_METADATA_BLOCKS"
   | "PLUSES_DELIMITED_METADATA_BLOCKS" | "OLD_FOOTNOTES" | "MATH" | "GFM" | "DEFINITION_LIST" | "SUPERSCRIPT" | "SUBSCRIPT" | "WIKILINKS"
-  | "HIGHLIGHT" | "EMAIL_AUTOLINKS", number>>;
+  | "HIGHLIGHT" | "EMAIL_AUTOLINKS" | "ALL_ENTITIES", number>>;
 
 /** Bytes that are not UTF-8, or a string with half of a pair of surrogates. */
 export declare class NotUtf8Error extends TypeError {}
@@ -132,9 +174,9 @@ export declare function events(text: string | Uint8Array, options?: number, wish
 export declare function references(text: string | Uint8Array, options?: number): LinkDef[];
 /** The events, with adjacent texts joined. */
 export declare function merged(events: Iterable<Event>): IterableIterator<Event>;
-/** The HTML of events, or of their records. They need not be balanced, and need no ranges. The HTML is not safe to show for a stranger. */
-export declare function render(events: Iterable<EventValue & Partial<Range>>): string;
-/** The HTML of the flat records of events. It is not safe to show for a stranger. */
-export declare function render(records: Uint8Array): string;
+/** The HTML of events, which need not be balanced and need no ranges. It is not safe to show for a stranger, except with `{ safe: true }`. */
+export declare function render(events: Iterable<EventValue & Partial<Range>>, wishes?: SafeWishes): string;
+/** The HTML of the flat records of events. It is not safe to show for a stranger, except with `{ safe: true }`. */
+export declare function render(records: Uint8Array, wishes?: SafeWishes): string;
 /** The version of the library. */
 export declare function version(): string;

@@ -6,5 +6,5 @@ const place = core.hasVectors() ? new URL("./module_simd.wasm", import.meta.url)
 const bytes = place.protocol === "file:" ? (await import("node:fs")).readFileSync(place) : await (await fetch(place)).arrayBuffer();
 const { instance } = await WebAssembly.instantiate(bytes, {});
 
-export const { html, events, references, merged, render, version, NotUtf8Error, OutOfMemoryError, MalformedError } = core.callsOf(instance);
+export const { html, events, references, merged, render, Stream, Change, version, NotUtf8Error, OutOfMemoryError, MalformedError } = core.callsOf(instance);
 export const Options = core.OPTIONS;

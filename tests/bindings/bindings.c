@@ -1,10 +1,10 @@
 /* Tests the library from C: tests/bindings/run builds it, with the archive and with the shared library, and reads its output.
 
    bindings batch     reads records of options, a length and a text; writes for each the status, the size and the output of both calls
-   bindings large     the same for all calls, with the default limit and without further schemes
-   bindings safe      the same for the call for safe HTML
-   bindings tries     tries the same records for properties that no output shows: short rooms, rooms at the end, refused memory, bad UTF-8.
-                      The flat records of each text are the text of pcm_render
+   bindings large     writes the outputs of all calls, with the default limit and without further schemes
+   bindings safe      writes the outputs of the call for safe HTML
+   bindings tries     tries the records for properties that no output shows: short rooms, rooms at the end, refused memory, bad UTF-8.
+                      The flat records of each text are the text of pcm_render and pcm_safe_render
    bindings refusals  writes for each record the number of allocations of each call that were refused in turn
 
    Numbers have eight bytes, in this machine's order. The status is 0 if all tests pass. */
@@ -89,60 +89,54 @@ static void try_rooms(pcm_call call, const struct record *it)
     free(all);
 }
 
+typedef uint32_t (*records_helper)(const uint8_t *, size_t, char **, size_t *);
+
 /* The HTML of the records of a text is that of the text. */
-static void try_render(const struct record *it, const struct record *flat)
+static void try_render(pcm_call of_text, pcm_call of_records, records_helper helper, const struct record *it, const struct record *flat)
 {
     size_t wanted, size, given_size;
     uint32_t status, rendered;
-    uint8_t *all = answer(pcm_html, it, &status, &wanted), *html = answer(RENDER, flat, &rendered, &size);
+    uint8_t *all = answer(of_text, it, &status, &wanted), *html = answer(of_records, flat, &rendered, &size);
     char *given;
     if (rendered != PCM_DONE || (status == PCM_DONE && (size != wanted || memcmp(all, html, size))))
         stop("the records of a text have other HTML", it);
-    if (pcm_render_alloc(flat->text, flat->len, &given, &given_size) != PCM_DONE || given_size != size || memcmp(given, html, size) || given[size])
+    if (helper(flat->text, flat->len, &given, &given_size) != PCM_DONE || given_size != size || memcmp(given, html, size) || given[size])
         stop("a helper renders other HTML", it);
     pcm_free(given);
     free(html);
     free(all);
 }
 
-/* Records that are cut short at any byte, or changed there, are malformed or have some HTML. */
+/* One call with records that are damaged. */
+static uint32_t damaged(pcm_call call, const struct record *bad)
+{
+    uint32_t status;
+    size_t size;
+    free(answer(call, bad, &status, &size));
+    return status;
+}
+
+/* Records that are cut short at any byte, or changed there, are malformed or have some HTML, and safe HTML in the same cases. */
 static void try_malformed(const struct record *flat)
 {
     struct record bad = *flat;
     uint32_t status;
-    size_t at, size;
+    size_t at;
     bad.text = memory(flat->len);
     memcpy(bad.text, flat->text, flat->len);
     for (at = 0; at < flat->len; at++) {
         bad.len = at;
-        free(answer(RENDER, &bad, &status, &size));
-        if (status != PCM_DONE && status != PCM_MALFORMED)
+        status = damaged(RENDER, &bad);
+        if ((status != PCM_DONE && status != PCM_MALFORMED) || damaged(SAFE_RENDER, &bad) != status)
             stop("records that were cut short were judged wrongly", flat);
         bad.len = flat->len;
         bad.text[at] ^= 0xFF;
-        free(answer(RENDER, &bad, &status, &size));
-        if (status != PCM_DONE && status != PCM_MALFORMED)
+        status = damaged(RENDER, &bad);
+        if ((status != PCM_DONE && status != PCM_MALFORMED) || damaged(SAFE_RENDER, &bad) != status)
             stop("records that were changed were judged wrongly", flat);
         bad.text[at] ^= 0xFF;
     }
     free(bad.text);
-}
-
-static void put(uint8_t *bytes, size_t *at, uint8_t kind, uint8_t tag, uint8_t data, const struct pcm_record *question, const char *text)
-{
-    uint64_t numbers[3];
-    size_t i;
-    numbers[0] = question ? question->start : 0;
-    numbers[1] = question ? question->end : 0;
-    numbers[2] = strlen(text);
-    memset(bytes + *at, 0, PCM_HEAD);
-    bytes[*at] = kind;
-    bytes[*at + 1] = tag;
-    bytes[*at + 2] = data;
-    for (i = 0; i < 24; i++)
-        bytes[*at + 8 + i] = (uint8_t)(numbers[i / 8] >> 8 * (i % 8));
-    memcpy(bytes + *at + PCM_HEAD, text, strlen(text));
-    *at += PCM_HEAD + strlen(text);
 }
 
 /* The records of an answer to each question of a text: every other one is a link. The caller frees them. */
@@ -155,15 +149,32 @@ static uint8_t *answers_to(const struct record *it, size_t *len)
     *len = 0;
     while (pcm_next_record(found, size, &at, &record))
         if (record.kind == PCM_QUESTION) {
-            if (questions++ % 2)
-                put(made, len, PCM_ANSWER, 0, 0, &record, "");
-            else {
-                put(made, len, PCM_ANSWER, 0, 1, &record, "/d");
-                put(made, len, PCM_FURTHER, PCM_PART_TITLE, 0, NULL, "t");
-            }
+            size_t part = pcm_put_answer(NULL, &record, questions % 2 ? NULL : "/d", 2, "t", 1);
+            if (pcm_put_answer(made + *len, &record, questions++ % 2 ? NULL : "/d", 2, "t", 1) != part)
+                stop("an answer has another size than it said", it);
+            *len += part;
         }
     free(found);
     return made;
+}
+
+/* The helper for events with answers. */
+static void try_answered_helper(const struct record *it, const uint8_t *made, size_t len)
+{
+    size_t size, given_size, at = 0, links = 0;
+    uint32_t status;
+    uint8_t *wanted = answer(answered, it, &status, &size), *given;
+    struct pcm_record record;
+    if (pcm_answered_alloc((const char *)it->text, it->len, (uint32_t)it->options, len ? made : NULL, len, &given, &given_size) != status || given_size != size)
+        stop("the helper for answers answers another status or size", it);
+    if (status == PCM_DONE ? memcmp(given, wanted, size) : given != NULL)
+        stop("the helper for answers answers other bytes", it);
+    while (pcm_next_record(given, given_size, &at, &record))
+        links += record.kind == PCM_START && record.len == 2 && !memcmp(record.text, "/d", 2);
+    if (len && !links)
+        stop("no link has its answer", it);
+    pcm_free(given);
+    free(wanted);
 }
 
 static void try_rooms(pcm_call call, const struct record *it);
@@ -182,6 +193,7 @@ static long try_answers(const struct record *it)
         if (status != PCM_DONE && status != PCM_MALFORMED)
             stop("answers that were cut short were judged wrongly", it);
     }
+    try_answered_helper(it, made, len);
     if (len) {
         try_rooms(answered, it);
 #ifdef REFUSES
@@ -303,6 +315,7 @@ static void try_no_text(void)
 {
     size_t k, size;
     char *given;
+    uint8_t *records_given;
     int taken;
     for (k = 0; k < CALLS; k++) {
         if (pcm_answer(calls[k], NULL, 0, 0, &given, &size) != PCM_DONE || size || given[0])
@@ -312,6 +325,12 @@ static void try_no_text(void)
     if (pcm_render_alloc(NULL, 0, &given, &size) != PCM_DONE || size || given[0])
         stop("a helper rendered something for no records", NULL);
     pcm_free(given);
+    if (pcm_safe_render_alloc(NULL, 0, &given, &size) != PCM_DONE || size || given[0])
+        stop("a helper rendered something safe for no records", NULL);
+    pcm_free(given);
+    if (pcm_answered_alloc(NULL, 0, 0, NULL, 0, &records_given, &size) != PCM_DONE || size)
+        stop("a helper gave an answered event for no text", NULL);
+    pcm_free(records_given);
     size = 0;
     if (pcm_html_to(NULL, 0, 0, gather, &size, &taken) != PCM_DONE || size != 1 || pcm_events_to(NULL, 0, 0, gather, &size, &taken) != PCM_DONE || size != 1)
         stop("a helper gave something for no text", NULL);
@@ -333,6 +352,30 @@ static void try_bad_utf8(void)
             if (guarded(calls[k], &it, 256, whole, &size) != PCM_NOT_UTF8 || guarded(calls[k], &it, 0, whole, &size) != PCM_NOT_UTF8)
                 stop("bytes that are not UTF-8 were read", &it);
         }
+}
+
+/* Definitions come in the order of their labels, and of each label the first one. */
+static void try_order(void)
+{
+    static uint8_t text[] = "[b]: /1\n[Straße]: /2\n[a]: /3\n[STRASSE]: /4\n[C]: /5\n[A]: /6\n";
+    static const char *const wanted[] = {"/3", "a", "/1", "b", "/5", "C", "/2", "Straße"};
+    size_t size, at = 0, number = 0;
+    uint32_t status;
+    struct record it;
+    struct pcm_record record;
+    uint8_t *given;
+    it.options = 0;
+    it.len = sizeof text - 1;
+    it.text = text;
+    given = answer(pcm_references, &it, &status, &size);
+    while (pcm_next_record(given, size, &at, &record)) {
+        if (number == sizeof wanted / sizeof *wanted || record.len != strlen(wanted[number]) || memcmp(record.text, wanted[number], record.len))
+            stop("definitions come in another order", &it);
+        number++;
+    }
+    if (status != PCM_DONE || number != sizeof wanted / sizeof *wanted)
+        stop("there are other definitions", &it);
+    free(given);
 }
 
 /* A call within a limit, with the signature of the others. */
@@ -395,12 +438,71 @@ static uint32_t safe_html_with_none(const uint8_t *text, size_t text_len, uint32
     return pcm_safe_html_with(text, text_len, options, (const uint8_t *)"", 0, room, room_len, size);
 }
 
+/* Each call with a bit that is no option, for a text, for one that is not UTF-8, and for none. */
+static void try_unknown_options(void)
+{
+    static const uint32_t unknown[] = {1, 1u << 18, 1u << 29, 1u << 31, PCM_TABLES | 1, PCM_ALL_ENTITIES | 1u << 31, 0xFFFFFFFF};
+    static const pcm_call more[] = {html_within, safe_html_with_none};
+    static const char *const texts[] = {"*a*", "\xff", ""};
+    uint8_t whole[256 + 2 * GUARD];
+    size_t i, j, k, size;
+    for (i = 0; i < sizeof unknown / sizeof *unknown; i++)
+        for (j = 0; j < sizeof texts / sizeof *texts; j++)
+            for (k = 0; k < CALLS + 2; k++) {
+                struct record it;
+                it.options = unknown[i];
+                it.len = strlen(texts[j]);
+                it.text = (uint8_t *)texts[j];
+                if (guarded(k < CALLS ? calls[k] : more[k - CALLS], &it, 256, whole, &size) != PCM_UNKNOWN_OPTIONS || size)
+                    stop("a bit that is no option was taken", &it);
+            }
+}
+
+/* Entity names: the eleven, and with the bit for all of them also others, for each call that reads a text. */
+static void try_entities(void)
+{
+    static const struct {
+        uint32_t options;
+        const char *html;
+    } tried[] = {
+        {0, "<p>\xc2\xa9 &amp;ouml; &amp;NotEqualTilde; &amp;nosuch;</p>\n"},
+        {PCM_ALL_ENTITIES, "<p>\xc2\xa9 \xc3\xb6 \xe2\x89\x82\xcc\xb8 &amp;nosuch;</p>\n"},
+    };
+    static const pcm_call some[] = {pcm_html, html_within, pcm_safe_html, safe_html_with_none};
+    static uint8_t text[] = "&copy; &ouml; &NotEqualTilde; &nosuch;";
+    size_t i, k, size, records_size;
+    uint32_t status;
+    for (i = 0; i < sizeof tried / sizeof *tried; i++) {
+        struct record it, flat;
+        uint8_t *given;
+        it.options = tried[i].options;
+        it.len = sizeof text - 1;
+        it.text = text;
+        for (k = 0; k < sizeof some / sizeof *some; k++) {
+            given = answer(some[k], &it, &status, &size);
+            if (status != PCM_DONE || size != strlen(tried[i].html) || memcmp(given, tried[i].html, size))
+                stop("entity names are read wrongly", &it);
+            free(given);
+        }
+        flat = flat_of(&it);
+        given = answer(RENDER, &flat, &status, &size);
+        if (status != PCM_DONE || size != strlen(tried[i].html) || memcmp(given, tried[i].html, size))
+            stop("entity names have other events", &it);
+        free(given);
+        given = answer(answered, &it, &status, &records_size);
+        if (status != PCM_DONE || records_size != flat.len || memcmp(given, flat.text, records_size))
+            stop("entity names have other answered events", &it);
+        free(given);
+        free(flat.text);
+    }
+}
+
 static void large(void)
 {
-    static const pcm_call all[] = {pcm_html, pcm_events_json, html_within, pcm_safe_html, safe_html_with_none};
+    static const pcm_call all[] = {pcm_html, pcm_events_json, html_within, pcm_safe_html, safe_html_with_none, streamed, safe_streamed};
     size_t i;
     for (i = 0; i < count; i++) {
-        limit = records[i].len < 100000 ? 100000 : records[i].len;
+        limit = growing_limit = records[i].len < 100000 ? 100000 : records[i].len;
         write_answers(all, sizeof all / sizeof *all, &records[i]);
     }
 }
@@ -435,9 +537,10 @@ static void refusals(void)
     for (i = 0; i < count; i++) {
         struct record flat = flat_of(&records[i]);
         long html = try_refusals(pcm_html, &records[i]), lines = try_refusals(pcm_events_json, &records[i]);
-        long events = try_refusals(pcm_events, &records[i]), render = try_refusals(RENDER, &flat);
+        long events = try_refusals(pcm_events, &records[i]), render = try_refusals(RENDER, &flat), safe = try_refusals(SAFE_RENDER, &flat);
         long references = try_refusals(pcm_references, &records[i]), with_answers = try_refusals(answered, &records[i]);
-        printf("%ld %ld %ld %ld %ld %ld\n", html, lines, events, render, references, with_answers);
+        long grown = try_refusals(streamed, &records[i]), safe_grown = try_refusals(safe_streamed, &records[i]);
+        printf("%ld %ld %ld %ld %ld %ld %ld %ld %ld\n", html, lines, events, render, safe, references, with_answers, grown, safe_grown);
         free(flat.text);
     }
 }
@@ -452,16 +555,20 @@ static void tries(void)
     try_no_text();
     try_schemes();
     try_limits();
+    try_unknown_options();
+    try_entities();
+    try_order();
     for (i = 0; i < count; i++) {
         struct record flat = flat_of(&records[i]);
         try_usual_limit(&records[i]);
         try_helpers(&records[i]);
         try_record_helpers(&records[i]);
-        try_render(&records[i], &flat);
+        try_render(pcm_html, RENDER, pcm_render_alloc, &records[i], &flat);
+        try_render(pcm_safe_html, SAFE_RENDER, pcm_safe_render_alloc, &records[i], &flat);
         try_malformed(&flat);
         refused += try_answers(&records[i]);
-        for (k = 0; k <= CALLS; k++) {
-            pcm_call call = k < CALLS ? calls[k] : RENDER;
+        for (k = 0; k < CALLS + 2; k++) {
+            pcm_call call = k < CALLS ? calls[k] : k == CALLS ? RENDER : SAFE_RENDER;
             const struct record *given = k < CALLS ? &records[i] : &flat;
             try_rooms(call, given);
 #ifdef REFUSES
@@ -470,6 +577,10 @@ static void tries(void)
             (void)try_refusals;
 #endif
         }
+        try_rooms(streamed_from_middle, &records[i]);
+#ifdef REFUSES
+        refused += try_refusals(streamed_from_middle, &records[i]);
+#endif
         free(flat.text);
     }
     printf("%ld\n", refused);

@@ -18,7 +18,7 @@ sys.path.append(str(pathlib.Path(__file__).resolve().parent.parent / "common"))
 from programs import ALL, NONE
 from pulldown_cmark import (
     BlockQuote, BlockQuoteEnd, BrokenLink, Code, CodeBlock, End, Event, Events, Fenced, FootnoteDefinition, HardBreak, Heading, HeadingEnd, Image, Indented,
-    Item, Lines, Link, LinkDef, List, ListEnd, MetadataBlock, Options, Paragraph, Place, SoftBreak, Start, Table, Tag, TagEnd, TaskListMarker, Text, WikiLink,
+    InlineHtml, Item, Lines, Link, LinkDef, List, ListEnd, MetadataBlock, Options, Paragraph, Place, SoftBreak, Start, Table, Tag, TagEnd, TaskListMarker, Text, WikiLink,
     _records, events, html, merged, references, render,
 )  # fmt: skip
 from pulldown_cmark._library import answer, library
@@ -282,6 +282,8 @@ def try_changed(judge, flat, draw):
         judge(f"the HTML of {given!r}", (bindings_flat.DONE, render(given).encode()), flat.render(records))
         judge(f"the HTML of {given!r} by an iterator", render(iter(given)), render(given))
     lifted = [it._replace(value=it.value._replace(level=it.value.level + 1)) if isinstance(it.value, (Heading, HeadingEnd)) else it for it in events("# a\n\nb\n===\n\n## c")]
+    judge("a stranger's events", render([Start(Link("Inline", "javascript:a", "", "")), InlineHtml("<b>")], safe=True), '<a href="">&lt;b&gt;')
+    judge("a scheme that is named", [render([Start(Link("Inline", "tel:1", "", ""))], safe=True, schemes=it) for it in ((), ["sms", "tel"])], ['<a href="">', '<a href="tel:1">'])
     judge("lifted headings", render(lifted), "<h2>a</h2>\n<h2>b</h2>\n<h3>c</h3>\n")
 
 

@@ -2,8 +2,9 @@
 
    bindings_guard threads   reads records of options, a length and a text; renders them in four threads at once, each all of them, and
                             compares. The flat records of each text are the text of pcm_render, here and below
-   bindings_guard stacks    the same in sixteen threads, each with a stack of 24 KB
-   bindings_guard depth     writes the most bytes of the stack that a call takes for the records
+   bindings_guard stacks    the same in sixteen threads: each with a stack of 24 KB, without the calls for a text that grows, and then with
+                            all calls, each with a stack of 40 KB
+   bindings_guard depth     writes the most bytes of the stack that a call takes for the records: for a text that grows, and otherwise
    bindings_guard pages     renders each beginning of each record next to pages that may not be accessed, and compares
    bindings_guard exact     renders the records in memory of exactly their sizes, for a program that watches each access
 
@@ -14,8 +15,10 @@
 #include <sys/mman.h>
 #include <unistd.h>
 
-/* The stack size that the header calls enough for a thread, including the thread's own data. */
+/* The stack sizes that the header calls enough for a thread, including the thread's own data: without the calls for a text that grows, and
+   with them. */
 #define SMALL_STACK (24 * 1024)
+#define STREAM_STACK (40 * 1024)
 /* A stack whose use is measured. */
 #define LARGE_STACK (256 * 1024)
 
@@ -29,6 +32,14 @@ struct wanted {
 
 static struct wanted *wanted;
 
+/* Whether the calls for a text that grows are tried too. */
+static int with_streams = 1;
+
+static int is_stream(size_t k)
+{
+    return k < CALLS && (calls[k] == streamed || calls[k] == safe_streamed);
+}
+
 static void *work(void *user)
 {
     size_t i, k, size, at = (size_t)(uintptr_t)user;
@@ -36,7 +47,10 @@ static void *work(void *user)
     for (i = 0; i < count; i++, at++)
         for (k = 0; k <= CALLS; k++) {
             struct wanted *it = &wanted[at % count];
-            uint8_t *given = k < CALLS ? answer(calls[k], &records[at % count], &status, &size) : answer(RENDER, &it->flat, &status, &size);
+            uint8_t *given;
+            if (is_stream(k) && !with_streams)
+                continue;
+            given = k < CALLS ? answer(calls[k], &records[at % count], &status, &size) : answer(RENDER, &it->flat, &status, &size);
             if (status != it->status[k] || size != it->size[k] || memcmp(given, it->bytes[k], size))
                 stop("a thread answered something else", &records[at % count]);
             free(given);
@@ -110,7 +124,7 @@ static size_t depth_of(struct job *job, uint8_t *stack)
 static void depth(void)
 {
     uint8_t *stack = mmap(NULL, LARGE_STACK, PROT_READ | PROT_WRITE, MAP_PRIVATE | MAP_ANONYMOUS, -1, 0);
-    size_t i, k, most = 0;
+    size_t i, k, own, most[2] = {0, 0};
     struct job idle = {NULL, NULL, NULL, 0, 0, 0};
     if (stack == MAP_FAILED)
         stop("there is no memory for the test itself", NULL);
@@ -124,12 +138,14 @@ static void depth(void)
             found = depth_of(&job, stack);
             if (job.status != PCM_DONE)
                 stop("a call for the measure of its stack is not done", &records[i]);
-            most = found > most ? found : most;
+            if (found > most[is_stream(k)])
+                most[is_stream(k)] = found;
             free(job.room);
         }
         free(flat.text);
     }
-    printf("%lu\n", (unsigned long)(most - depth_of(&idle, stack)));
+    own = depth_of(&idle, stack);
+    printf("%lu %lu\n", (unsigned long)(most[1] - own), (unsigned long)(most[0] - own));
     munmap(stack, LARGE_STACK);
 }
 
@@ -190,7 +206,7 @@ static uint32_t at_end(pcm_call call, const struct record *it, struct pages room
    with its pages, followed by bytes that would continue it. */
 static long try_pages(pcm_call call, const struct record *whole, size_t len, struct pages text, struct pages room)
 {
-    static const uint8_t behind[] = {'`', '\n', ']', 0x80};
+    static const uint8_t following[] = {'`', '\n', ']', 0x80};
     struct record it = *whole;
     size_t wanted, size, i;
     uint32_t status;
@@ -206,13 +222,13 @@ static long try_pages(pcm_call call, const struct record *whole, size_t len, str
     if (wanted && (at_end(call, &it, room, wanted - 1, &size) != PCM_TOO_LONG || size != wanted))
         stop("a room at the end of its pages was judged wrongly", &it);
     it.text = text.begin;
-    for (i = 0; i < sizeof behind; i++) {
+    for (i = 0; i < sizeof following; i++) {
         may_write(text, 1);
-        memset(text.begin, behind[i], (size_t)(text.end - text.begin));
+        memset(text.begin, following[i], (size_t)(text.end - text.begin));
         memcpy(it.text, whole->text, len);
         may_write(text, 0);
         if (at_end(call, &it, room, wanted, &size) != status || size != wanted || memcmp(room.end - wanted, all, wanted))
-            stop("an answer depends on what stands behind the text", &it);
+            stop("a result depends on the bytes after the text", &it);
     }
     free(all);
     return wanted ? 6 : 5;
@@ -239,10 +255,27 @@ static long try_beginnings(const pcm_call *some, size_t number, const struct rec
     return calls_made;
 }
 
-/* Beginnings of texts, and beginnings of their flat records, which mostly are cut short in a record. */
+/* Beginnings of the answers to two questions, which mostly are cut short in a record. */
+static long try_beginnings_of_answers(void)
+{
+    static const pcm_call call[] = {with_answers};
+    uint8_t made[5 * PCM_HEAD];
+    struct pcm_record question = {PCM_QUESTION, 0, 6, 0, 3, NULL, 0};
+    struct record it;
+    it.options = 0;
+    it.text = made;
+    it.len = pcm_put_answer(made, &question, "/dest", 5, "title", 5);
+    question.start = 4;
+    question.end = 7;
+    it.len += pcm_put_answer(made + it.len, &question, NULL, 0, NULL, 0);
+    return try_beginnings(call, 1, &it, 1);
+}
+
+/* Beginnings of texts, of their flat records, and of answers. */
 static void pages(void)
 {
-    static const pcm_call read[] = {pcm_html, pcm_events_json, pcm_events, pcm_references, answered}, render[] = {RENDER};
+    static const pcm_call read[] = {pcm_html, pcm_events_json, pcm_events, pcm_references, answered, streamed, safe_streamed, streamed_from_middle};
+    static const pcm_call render[] = {RENDER, SAFE_RENDER};
     size_t i;
     long number = 0;
     signal(SIGSEGV, touched);
@@ -250,9 +283,10 @@ static void pages(void)
     for (i = 0; i < count; i++) {
         struct record flat = flat_of(&records[i]);
         number += try_beginnings(read, sizeof read / sizeof *read, &records[i], 1);
-        number += try_beginnings(render, 1, &flat, 3);
+        number += try_beginnings(render, sizeof render / sizeof *render, &flat, 3);
         free(flat.text);
     }
+    number += try_beginnings_of_answers();
     printf("%ld\n", number);
 }
 
@@ -284,6 +318,7 @@ static void exact(void)
         struct record flat = flat_of(&records[i]), cut = flat;
         for (k = 0; k < CALLS; k++)
             sum += try_exact(calls[k], &records[i]);
+        sum += try_exact(streamed_from_middle, &records[i]);
         cut.text = memory(flat.len);
         memcpy(cut.text, flat.text, flat.len);
         sum += try_exact(RENDER, &cut);
@@ -303,9 +338,12 @@ int main(int words, char **word)
     read_records();
     if (words == 2 && !strcmp(word[1], "threads"))
         threads(4, 0);
-    else if (words == 2 && !strcmp(word[1], "stacks"))
+    else if (words == 2 && !strcmp(word[1], "stacks")) {
+        with_streams = 0;
         threads(16, SMALL_STACK);
-    else if (words == 2 && !strcmp(word[1], "depth"))
+        with_streams = 1;
+        threads(16, STREAM_STACK);
+    } else if (words == 2 && !strcmp(word[1], "depth"))
         depth();
     else if (words == 2 && !strcmp(word[1], "pages"))
         pages();

@@ -9,7 +9,7 @@ const { readFileSync } = require("fs");
 const [folder, module_] = process.argv.slice(2);
 const core = require(`${folder}/pulldown_cmark.js`), { recordsOf } = require(`${folder}/records.js`);
 const calls = core.callsOf(new WebAssembly.Instance(new WebAssembly.Module(readFileSync(module_)), {}));
-const { html, events, references, merged, render } = calls;
+const { html, events, references, merged, render, Stream, Change, OPTIONS } = calls;
 const faults = [];
 
 const judge = (what, found, wanted) => {
@@ -27,6 +27,7 @@ const answerFor = ([bits, text]) => {
   judge(`the last event of ${what}`, found.at(-1), all[all.length - 1]);
   judge(`no event after the last of ${what}`, found.at(found.length), undefined);
   judge(`render of the records of ${what}`, render(found), plain);
+  judge(`safe render of the records of ${what}`, render(found, { safe: true }), html(text, bits, { safe: true }));
   judge(`render of the events of ${what}`, render(all), plain);
   judge(`render of the merged events of ${what}`, render(merged(found)), plain);
   judge(`the HTML of the bytes of ${what}`, html(bytes, bits), plain);
@@ -119,6 +120,13 @@ const WRONG = [
   [() => render([start({ ...LINK, title: undefined })]), "MalformedError: event 0: a title is undefined, not a string"],
   [() => render([start({ name: "MetadataBlock", kind: null })]), "MalformedError: event 0: there is no kind of a metadata block null"],
   [() => render(Uint8Array.of(1, 2)), "MalformedError: the bytes are not the records of events"],
+  [() => new Stream(1), "RangeError: there is no such set of options: 1"],
+  [() => new Stream(0, { expansionLimit: -1 }), "RangeError: a limit is at least 0"],
+  [() => new Stream(0, { safe: true, schemes: ["\ud800"] }), "NotUtf8Error: the text has half of a pair of surrogates"],
+  [() => new Stream().push(null), "TypeError: Markdown is a string or a Uint8Array, not null"],
+  [() => new Stream().push(3), "TypeError: Markdown is a string or a Uint8Array, not number"],
+  [() => new Stream().push(Uint8Array.of(97, 255)), "NotUtf8Error: the text is not UTF-8"],
+  [() => new Stream().push("a\ud800b"), "NotUtf8Error: the text has half of a pair of surrogates"],
 ];
 
 /** Errors, and that a call after them works. */
@@ -183,10 +191,92 @@ const tryTexts = () => {
   judge("lines and columns", placesIn(found), [[1, 1], [3, 1], [5, 1], [7, 1], [7, 3]]);
   judge("lines and columns of bytes", placesIn(ofBytes), [[1, 1], [3, 1], [5, 1], [7, 1], [7, 4]]);
   judge("an entity that is not one of eleven", html("&ouml;&copy;"), "<p>&amp;ouml;©</p>\n");
+  const named = "&ouml;&NotEqualTilde; [a](&ouml;)", all = OPTIONS.ALL_ENTITIES, shown = '<p>ö\u2242\u0338 <a href="%C3%B6">a</a></p>\n';
+  const ways = [html(named, all), render(events(named, all)), html(named, all, { safe: true }), html(named, all, { expansionLimit: 0 }), html(named, all, { brokenLink: () => null })];
+  judge("all entity names", ways, ways.map(() => shown));
+  judge("an entity in a definition", references("[a]: &ouml;", all)[0].dest, "ö");
+  const call = events("[a](tel:1) <b>");
+  judge("safe HTML of events", [render(call, { safe: true }), render([...call], { safe: true, schemes: ["sms", "tel"] })], ['<p><a href="">a</a> &lt;b&gt;</p>\n', '<p><a href="tel:1">a</a> &lt;b&gt;</p>\n']);
   const ofOtherRealm = require("vm").runInNewContext("Uint8Array.of(42, 97, 42)");
   judge("bytes of another realm", [html(ofOtherRealm), render(events(ofOtherRealm))], ["<p><em>a</em></p>\n", "<p><em>a</em></p>\n"]);
   judge("no events", [events("").length, [...events("")], events("").at(0)], [0, [], undefined]);
   judge("a text with a byte order mark", [...events("\ufeffa")].map((it) => it.value), [{ name: "Paragraph" }, "\ufeffa", { name: "Paragraph" }]);
+};
+
+// Pieces of texts that grow. Texts of the first ones define nothing.
+const PIECES = [
+  "a", "b c", "\n", "\n\n", "\n\n", "\r", "- ", "1. ", "> ", "# ", "    ", "```\n", "`", "*", "**", "~~", "$", "<div>\n", "<!--", "-->", "|", "a|b\n-|-\n",
+  "---\n", "===\n", "\t", "é", "\u{1f600}", "\ufeff", "\0", "![", "](u)", "[", "]", "<b>", "&amp;", "\\", ":", ": d\n", "+++\n", "> [!NOTE]\n", "a\n\nb\n\n",
+  "]: /u\n", "[a]: /u\n\n", "[^x]: n\n\n", "[a]",
+];
+const UNDEFINED = 41, TEXTS = 120;
+
+/** A function that returns random integers below a number, always the same ones. */
+const drawn = () => {
+  let seed = 1;
+  return (below) => (seed = (Math.imul(seed, 1103515245) + 12345) >>> 0, (seed >>> 8) % below);
+};
+
+/** A random text, as chunks of bytes or of a string. A chunk may end inside a character. Some texts have a definition late. */
+const randomChunks = (draw) => {
+  const choice = draw(2) ? PIECES.length : UNDEFINED, longest = [1, 4, 20][draw(3)], chunks = [];
+  const part = (most) => Array.from({ length: draw(most) }, () => PIECES[draw(choice)]).join("");
+  const text = part(30) + ["", "\n\n[a]: /b\n\n"][draw(2)] + part(10), whole = draw(2) ? text : new TextEncoder().encode(text);
+  for (let at = 0; at < whole.length; ) {
+    const end = at + 1 + draw(longest);
+    chunks.push(whole.slice(at, end));
+    at = end;
+  }
+  return chunks;
+};
+
+/** The text of chunks, without a character that they do not end. */
+const textOf = (chunks) => {
+  if (typeof chunks[0] === "string") return chunks.join("").replace(/[\ud800-\udbff]$/, "");
+  return new TextDecoder("utf-8", { ignoreBOM: true }).decode(Buffer.concat(chunks), { stream: true });
+};
+
+/** One text that grows, compared with its whole HTML after each refresh. Returns how often it had settled HTML, and how often that was dropped. */
+const growOne = (draw) => {
+  const bits = [0, 2 | 4 | 8 | 16 | 2048, 2 | 8 | 32 | 8192, Object.values(OPTIONS).reduce((a, b) => a | b)][draw(4)];
+  const wishes = [{ expansionLimit: [0, 1, 100_000][draw(3)] }, { safe: true }, { safe: true, schemes: ["tel"] }][draw(3)];
+  const stream = new Stream(bits, wishes), pushed = [], counts = [0, 0];
+  let page = "";
+  for (const chunk of randomChunks(draw)) {
+    stream.push(chunk);
+    pushed.push(chunk);
+    if (draw(5) === 0) continue;
+    const isAnew = stream.refresh() === Change.ANEW, text = textOf(pushed), what = `${JSON.stringify(text)}, which grows, with ${bits}`;
+    if (isAnew) [page, counts[1]] = [stream.settled, counts[1] + 1];
+    page += stream.added;
+    counts[0] += page !== "";
+    judge(`the text ${what}`, stream.text, text);
+    judge(`the HTML of ${what}`, stream.html, html(text, bits, { expansionLimit: wishes.safe ? null : 100_000, ...wishes }));
+    judge(`the settled HTML of ${what}`, [stream.settled, stream.settled + stream.tail, isAnew && page !== ""], [page, stream.html, false]);
+  }
+  return counts;
+};
+
+/** Texts that grow: random ones, and wrong chunks, after which the text and its HTML are as before. */
+const tryStreams = () => {
+  const draw = drawn(), counts = [0, 0];
+  for (let at = 0; at < TEXTS; at++) growOne(draw).forEach((it, place) => (counts[place] += it));
+  judge("settled HTML was seen and was dropped", [counts[0] > TEXTS, counts[1] > 2], [true, true]);
+  const bytes = (...all) => Uint8Array.from(all);
+  for (const [before, wrong] of [[bytes(97, 195), bytes(97)], [bytes(97, 195), "a"], ["a\ud83d", "b"], ["a\ud83d", bytes(98)], ["a", bytes(169)], ["a", {}]]) {
+    const stream = new Stream();
+    stream.push("# a\n\n");
+    stream.push(before);
+    stream.refresh();
+    const state = () => [stream.text, stream.settled, stream.added, stream.tail, stream.endsInsideCharacter], wanted = state();
+    judge(`a wrong chunk ${JSON.stringify(wrong)}`, [/Error/.test(thrown(() => stream.push(wrong))), state()], [true, wanted]);
+    stream.push("");
+    stream.push(bytes());
+    judge("empty chunks", state(), wanted);
+  }
+  const parts = new Stream();
+  for (const chunk of ["\ud83d", "\ude00", bytes(195), bytes(169), "b"]) parts.push(chunk);
+  judge("characters in parts", [parts.text, parts.endsInsideCharacter, parts.refresh(), parts.html], ["\u{1f600}éb", false, Change.GROWN, "<p>\u{1f600}éb</p>\n"]);
 };
 
 /** The ways to the HTML of a text whose names of entities are not all known. */
@@ -204,5 +294,6 @@ tryErrors();
 tryMade();
 tryLinks();
 tryTexts();
+tryStreams();
 const answers = { cases: cases.map(answerFor), filters: filters.map(filtered), damaged: damaged.map(renderedOrNot), entities: entities(), version: calls.version() };
 process.stdout.write(JSON.stringify({ answers, faults }));

@@ -1,7 +1,7 @@
 """The tests of the package for JavaScript and of the modules of the page, in Node. tests/bindings/run calls them.
 
 Both modules, with vectors and without, give for each text the HTML of mdhtml, the safe HTML of the archive, the events of mdevents, and the
-records of pcm_events. tests/bindings/bindings_javascript.js has what needs no other program: each way to the same answer, errors, callbacks. Here the
+records of pcm_events. tests/bindings/bindings_javascript.js has what needs no other program: each way to the same answer, errors, callbacks, texts that grow. Here the
 HTML of changed and unbalanced events, and of damaged records, is compared with that of pcm_render. All kinds of events, tags and links occur.
 
 The package is put together as tools/dist does it: the examples of its README run over it, `require` and `import` give what index.d.ts
@@ -35,7 +35,7 @@ KINDS_OF_TEXTS = ["\x7f\x80\u07ff\u0800\uffff\U00010000 *a*", "---\na: b\n---\n\
 FILTERS, DAMAGED = 300, 150
 # The time limit for one run of Node, in seconds.
 PATIENCE = 300
-# A text with a name of an entity that is not one of the eleven, and the library's bit for all names.
+# A text with a name of an entity that is not one of the eleven.
 ENTITIES = b"&ouml;&copy; [a]\n\n[a]: &ouml;&copy;\n"
 # How Node runs as an engine without vectors.
 NO_VECTORS = "WebAssembly.validate = () => false;"
@@ -172,7 +172,7 @@ def exports(node):
 
 # Uses of each declaration. A line below an expected error has to be refused.
 TYPED = """
-import { html, events, references, merged, render, version, Options, MalformedError, NotUtf8Error, OutOfMemoryError } from "pulldown-cmark-proved";
+import { html, events, references, merged, render, Stream, Change, version, Options, MalformedError, NotUtf8Error, OutOfMemoryError } from "pulldown-cmark-proved";
 import type { BrokenLink, Event, Events, LinkDef, Tag, TagEnd } from "pulldown-cmark-proved";
 const safe: string = html("a", Options.TABLES | Options.MATH, { safe: true, schemes: ["tel"] as const });
 const answered: string = html(new Uint8Array(), 0, { brokenLink: (link: BrokenLink) => ({ destUrl: link.reference }) });
@@ -198,6 +198,11 @@ const ordered = (end: TagEnd) => end.name === "List" && end.isOrdered;
 const changed = Array.from(merged(found), (it): Event => (it.name === "Text" ? { ...it, value: it.value.toUpperCase() } : it));
 const rendered: string = render(changed) + render(found) + render(found.records) + render([{ name: "Rule", value: null }]) + version();
 const wrong: Error[] = [new MalformedError(), new NotUtf8Error(), new OutOfMemoryError()];
+const stream: Stream = new Stream(Options.TABLES, { safe: true, schemes: ["tel"] as const, expansionLimit: 1n });
+stream.push("a");
+stream.push(new Uint8Array());
+const change: Change = stream.refresh(), isAnew: boolean = change === Change.ANEW;
+const shown: string = stream.text + stream.settled + stream.added + stream.tail + stream.html + String(stream.endsInsideCharacter || isAnew);
 // @ts-expect-error
 html(1);
 // @ts-expect-error
@@ -212,6 +217,12 @@ render([{ name: "Start", value: { name: "Link", linkType: "Inline", destUrl: "a"
 const field = (tag: Tag) => tag.level;
 // @ts-expect-error
 html("a", 0, { brokenLink: () => "b" });
+// @ts-expect-error
+stream.push(1);
+// @ts-expect-error
+stream.tail = "a";
+// @ts-expect-error
+new Stream(0, { brokenLink: () => null });
 """
 
 
@@ -286,14 +297,19 @@ def refusals(node, name, written, refused):
     return counts, found
 
 
-# Calls after the memory of the module has grown to the maximum. Another instance makes the records.
+# Calls after the memory of the module has grown to the maximum. Another instance makes the records. The first calls leave pieces of memory that
+# are enough for short texts.
 FULL = """
 const { load } = require(process.argv[1]), whole = WebAssembly.instantiate;
 let memory = null;
 WebAssembly.instantiate = async (...words) => { const made = await whole(...words); memory = made.instance.exports.memory; return made; };
 (async () => {
   const other = await load(), calls = await load(), records = other.events('>'.repeat(2e4)).records;
+  const stream = new calls.Stream(), state = () => [stream.text.length, stream.settled, stream.tail];
+  stream.push('# a\\n\\nb\\nc');
+  stream.refresh();
   calls.html('*a*');
+  calls.events('*a*');
   for (let pages = 65536; pages >= 1; pages = Math.floor(pages / 2)) try { for (;;) memory.grow(pages); } catch {}
   const said = [], tried = (call) => { try { call(); said.push('read'); } catch (error) { said.push(`${error.name}: ${error.message}`); } };
   for (const text of ['>'.repeat(3e6), '>'.repeat(2e4)]) {
@@ -301,7 +317,9 @@ WebAssembly.instantiate = async (...words) => { const made = await whole(...word
     tried(() => calls.events(text, 0, { brokenLink: () => null }));
   }
   tried(() => calls.render(records));
-  process.stdout.write(JSON.stringify([...said, calls.html('*a*'), calls.events('*a*').length]));
+  stream.push('>'.repeat(3e6));
+  tried(() => stream.refresh());
+  process.stdout.write(JSON.stringify([...said, state(), calls.html('*a*'), calls.events('*a*').length]));
 })();
 """
 
@@ -309,6 +327,6 @@ WebAssembly.instantiate = async (...words) => { const made = await whole(...word
 def without_memory(node, name):
     """The faults of a module when there is no memory for a long text or to read a nested one, and enough for a short one after that."""
     given = json.loads(node.run("-e", PRELUDES[name] + FULL, ROOT / "web" / "pulldown_cmark.js"))
-    wanted = ["OutOfMemoryError: out of memory"] * 9 + ["<p><em>a</em></p>\n", 5]
+    wanted = ["OutOfMemoryError: out of memory"] * 10 + [[3_000_008, "<h1>a</h1>\n", "<p>b\nc</p>\n"], "<p><em>a</em></p>\n", 5]
     print(f"bindings: {name}: out of memory, and works afterwards")
     return [] if given == wanted else [f"{name} without memory: {given}"]

@@ -4,8 +4,8 @@ import json
 import os
 
 import pulldown_cmark
-from programs import BITS, NONE
-from pulldown_cmark import Event, Fenced, Indented, Options, Paragraph, Start, Tag, TagEnd, WikiLink, events, html, render
+from programs import ALL_ENTITIES, BITS, NONE, ROOT
+from pulldown_cmark import Event, Fenced, Indented, Options, Paragraph, Start, Tag, TagEnd, WikiLink, events, html, references, render
 
 
 # References within a limit of bytes; footnotes, inline links and wikilinks do not count.
@@ -80,6 +80,32 @@ def forked(texts, wanted):
     return os.waitstatus_to_exitcode(status)
 
 
+def faults_of_names():
+    """The failures with entity names: with the option each of the standard's list has its text in all calls, and without it eleven have."""
+    found, given = [], json.loads((ROOT / "share" / "entities.json").read_text())
+    if len(given) != 2125:
+        found.append(f"the list has {len(given)} names")
+    eleven = {"amp", "lt", "gt", "quot", "apos", "nbsp", "copy", "reg", "hellip", "mdash", "ndash"}
+    for bits, known in ((NONE, eleven), (ALL_ENTITIES, given.keys())):
+        for name in given:
+            text, tried = f"&{name};", [f"&{name};", f"&{name}x;", f"&{name[:-1]};", f"&x{name};"]
+            shown = [f"<p>{escape(given[it[1:-1]] if it[1:-1] in known else it)}</p>\n" for it in tried]
+            if (said := [html(it, options=bits) for it in tried]) != shown:
+                found.append(f"{text} with {bits}: {said} in place of {shown}")
+            ways = [render(events(text, options=bits)), html(text, options=bits, safe=True), html(text, options=bits, expansion_limit=0)]
+            ways += [html(text, options=bits, broken_link=lambda link: None)]
+            if ways != [shown[0]] * len(ways):
+                found.append(f"{text} with {bits}: {ways} in place of {shown[0]}")
+    if (said := [references("[a]: &ouml;", options=bits)[0].dest for bits in (NONE, ALL_ENTITIES)]) != ["&ouml;", "ö"]:
+        found.append(f"the destinations of a definition: {said}")
+    return found
+
+
+def escape(text):
+    """A text as the HTML of a paragraph has it."""
+    return text.replace("&", "&amp;").replace("<", "&lt;").replace(">", "&gt;")
+
+
 def faults(texts, wanted):
     """The failures with types, ranges of texts, errors and threads."""
     found = []
@@ -109,7 +135,8 @@ def faults(texts, wanted):
             judge(f"{call.__name__} with the bits {bits}", raised(call, "a", options=bits), ValueError)
         judge(f"{call.__name__} with options by place", raised(call, "a", 2), TypeError)
         judge(f"{call.__name__} with a text for options", raised(call, "a", options="2"), TypeError)
-    judge("the bits of the options", [int(it) for it in Options.__members__.values()], [NONE, *BITS])
+    judge("the bits of the options", [int(it) for it in Options.__members__.values()], [NONE, *BITS, ALL_ENTITIES])
+    found += faults_of_names()
     for text in texts:
         string = text.decode()
         for a, b in zip(events(text), events(string)):

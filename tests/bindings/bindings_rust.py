@@ -28,10 +28,10 @@ from programs import BITS, FLAGS, ROOT, lacking
 CRATE = ROOT / "bindings" / "rust"
 DEBIAN = pathlib.Path("/usr/share/cargo/registry")
 NEEDED = ["bitflags", "serde", "unicase"]
-EXAMPLES = ["outline", "links", "lint", "filter"]
+EXAMPLES = ["outline", "links", "lint", "filter", "follow"]
 # The options of pulldown-cmark, and the flag of the programs for a rule that it always applies.
 OPTIONS = {flag: bits for flag, bits in zip(FLAGS, BITS) if flag not in ("highlight", "email-autolinks")}
-ALWAYS = ["--email-autolinks"]
+ALWAYS = ["--email-autolinks", "--entities", str(ROOT / "share" / "entities.json")]
 README_SAYS = "<p><del>HI</del>, <em>YOU</em></p>\n"
 USER = """[package]
 name = "user"

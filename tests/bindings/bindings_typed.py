@@ -14,8 +14,8 @@ import pathlib
 PROGRAM = '''
 from typing import Optional, Tuple
 from pulldown_cmark import (
-    BrokenLink, Code, CodeBlock, End, Event, Fenced, HardBreak, Heading, HeadingEnd, Lines, Link, List, SoftBreak, Start, Table, TaskListMarker, Text,
-    events, html, merged, references, render,
+    BrokenLink, Change, Code, CodeBlock, End, Event, Fenced, HardBreak, Heading, HeadingEnd, Lines, Link, List, SoftBreak, Start, Stream, Table,
+    TaskListMarker, Text, events, html, merged, references, render,
 )
 
 def by_class(event: Event) -> None:
@@ -60,6 +60,16 @@ def calls(text: str) -> None:
     events(text, broken_link=lambda link: "/")  #: Argument "broken_link" to "events" has incompatible type
     render([text])  #: List item 0 has incompatible type "str"; expected "Event"
     Lines(3)  #: Argument 1 to "Lines" has incompatible type "int"
+
+def grow(stream: Stream) -> bool:
+    stream.push("a")
+    stream.push(b"a")
+    reveal_type(stream.refresh())  #: "pulldown_cmark._stream.Change"
+    reveal_type(stream.settled + stream.added + stream.tail + stream.html + stream.text)  #: "builtins.str"
+    stream.push(3)  #: Argument 1 to "push" of "Stream" has incompatible type "int"
+    stream.tail = "a"  #: Property "tail" defined in "Stream" is read-only
+    Stream("a")  #: Too many positional arguments for "Stream"
+    return stream.refresh() is Change.ANEW or stream.ends_inside_character
 '''
 # What follows for a Python with patterns.
 PATTERNS = '''

@@ -3,7 +3,8 @@
 // The first three bytes of an input choose the options, the others are the text. This file's own reader reads the events from their JSON.
 // It checks that they are balanced, and that their ranges end at character boundaries. The ranges have to be in order, and each inside the
 // one around it, unless a wikilink with a pipe or a task marker cuts an element's range. Then the HTML of these events is written, which
-// has to equal the library's. A fault ends the process with the text.
+// has to equal the library's. The text also grows in parts, with the HTML of the whole after each part. A fault ends the process with the
+// text.
 #include "pulldown_cmark.h"
 
 #include <cstdio>
@@ -14,6 +15,9 @@
 #include <vector>
 
 namespace {
+
+// The bits of all options. tests/documents/check compares them with the library's.
+constexpr uint32_t ALL_OPTIONS = 0x3FFFE;
 
 std::string text;
 uint32_t options;
@@ -391,7 +395,7 @@ void judge(const Event &it, bool is_uncut, std::vector<Open> &opened) {
         return;
     }
     Open &around = opened.back();
-    want(!is_uncut || (around.from <= it.start && it.end <= around.end), "a range does not lie behind the one before it, or in the one around it");
+    want(!is_uncut || (around.from <= it.start && it.end <= around.end), "a range does not begin after the one before it, or in the one around it");
     around.from = it.end;
     if (name == "Start")
         opened.push_back({it.said.items.at(1).name(), it.start, it.end, it.start});
@@ -415,7 +419,7 @@ std::string html_of_events(const std::string &lines) {
         reader.take("],\"event\":");
         it.said = reader.value();
         reader.take("}");
-        want(reader.is_over(), "something stands behind an event");
+        want(reader.is_over(), "something follows an event");
         judge(it, is_uncut, opened);
         writer.event(it);
         from = to + 1;
@@ -434,17 +438,66 @@ uint32_t answer(pcm_call call, std::string &out) {
     return status;
 }
 
+constexpr size_t LIMIT = 100000;
+
+// The HTML that a call writes. The call gets a room, its length, and the place of the size.
+template <typename Call> std::string written(Call call) {
+    std::string room(4096, 0);
+    size_t size;
+    uint32_t status = call((uint8_t *)&room[0], room.size(), &size);
+    if (status == PCM_TOO_LONG) {
+        room.resize(size);
+        status = call((uint8_t *)&room[0], room.size(), &size);
+    }
+    want(status == PCM_DONE, "a text that grows has no HTML");
+    room.resize(size);
+    return room;
+}
+
+// A text that grows: its cut, and its settled HTML.
+struct Grown {
+    size_t cut = 0;
+    std::string settled;
+
+    // Reads the text up to an offset, and compares the HTML with that of pcm_html_within.
+    void read_to(size_t end) {
+        const uint8_t *bytes = (const uint8_t *)text.data();
+        size_t before = cut, more = 0;
+        std::string whole = written([&](uint8_t *room, size_t len, size_t *size) { return pcm_html_within(bytes, end, options, LIMIT, room, len, size); });
+        std::string html = written([&](uint8_t *room, size_t len, size_t *size) { return pcm_stream(bytes, end, options, LIMIT, &cut, &more, room, len, size); });
+        want(more <= html.size() && cut <= end && (cut >= before || !cut) && (cut || !more), "a cut or a settled size is out of its bounds");
+        if (cut == 0)
+            settled.clear();
+        want(settled + html == whole, "the HTML of a text that grows is not that of the whole text");
+        settled.append(html, 0, more);
+    }
+};
+
+// The text in a few parts, whose sizes depend on its bytes.
+void grow() {
+    Grown grown;
+    for (size_t end = 0; end < text.size();) {
+        end += 1 + (unsigned char)text[end] % (text.size() / 4 + 2);
+        end = end < text.size() ? end : text.size();
+        while (cuts(end))
+            end++;
+        grown.read_to(end);
+    }
+}
+
 } // namespace
 
 extern "C" int LLVMFuzzerTestOneInput(const uint8_t *data, size_t size) {
     if (size < 3)
         return 0;
-    options = (uint32_t)(data[0] | data[1] << 8 | data[2] << 16) & 0x1FFFE;
+    options = (uint32_t)(data[0] | data[1] << 8 | data[2] << 16) & ALL_OPTIONS;
     text.assign((const char *)data + 3, size - 3);
     std::string html, lines;
     uint32_t status = answer(pcm_html, html);
     want(answer(pcm_events_json, lines) == status, "the two calls end otherwise");
-    if (status == PCM_DONE)
+    if (status == PCM_DONE) {
         want(html_of_events(lines) == html, "the HTML is not that of the events");
+        grow();
+    }
     return 0;
 }

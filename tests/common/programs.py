@@ -10,6 +10,8 @@ FLAGS = """tables footnotes strikethrough tasklists smart-punctuation heading-at
 old-footnotes math gfm definition-list superscript subscript wikilinks highlight email-autolinks""".split()
 # The bits of each flag's option, in the same order.
 BITS = [2, 4, 8, 16, 32, 64, 128, 256, 516, 1024, 2048, 4096, 8192, 16384, 32768, 65536, 131072]
+# The library's bit for all entity names. It is no option of the programs, which read a file of names.
+ALL_ENTITIES = 1 << 30
 # The flags that `--github` stands for.
 GITHUB = "tables footnotes strikethrough tasklists gfm email-autolinks".split()
 NONE, ALL = 0, functools.reduce(operator.or_, BITS)

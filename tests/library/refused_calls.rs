@@ -9,9 +9,9 @@ use cmark_inline::{InlineState, Reader, special_bytes};
 use cmark_leaf_text::{LeafLine, LeafText};
 use cmark_references::{FootnoteDef, FootnoteDefs, RefDefs};
 use cmark_text::FootnoteLabel;
-use mdhtml_parts::Watched;
+use program_io::Watched;
 use mdhtml_run::run;
-use mdhtml_settings::read_entities;
+use program_settings::read_entities;
 use pulldown_cmark::html::push_html;
 use pulldown_cmark::{
     BasicEntities, BrokenLink, BrokenLinkCallback, CowStr, EntityLookup, Options, Parser,

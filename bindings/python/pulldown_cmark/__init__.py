@@ -18,6 +18,7 @@ from ._kinds import Alignment, BlockQuoteKind, CodeBlockKind, Fenced, Indented, 
 from ._library import Options, library_version
 from ._lines import Lines, Place
 from ._records import Events
+from ._stream import Change, Stream
 from ._tags import (
     BlockQuote, CodeBlock, DefinitionList, DefinitionListDefinition, DefinitionListTitle, Emphasis, FootnoteDefinition, Heading, Highlight, HtmlBlock,
     Image, Item, Link, List, MetadataBlock, Paragraph, Strikethrough, Strong, Subscript, Superscript, Table, TableCell, TableHead, TableRow, Tag,
@@ -25,14 +26,14 @@ from ._tags import (
 
 __version__: str = library_version()
 __all__ = [
-    "Alignment", "BlockQuote", "BlockQuoteEnd", "BlockQuoteKind", "BrokenLink", "BrokenLinkCallback", "Code", "CodeBlock", "CodeBlockEnd",
-    "CodeBlockKind", "DefinitionList", "DefinitionListDefinition", "DefinitionListDefinitionEnd", "DefinitionListEnd",
+    "Alignment", "BlockQuote", "BlockQuoteEnd", "BlockQuoteKind", "BrokenLink", "BrokenLinkCallback", "Change", "Code", "CodeBlock",
+    "CodeBlockEnd", "CodeBlockKind", "DefinitionList", "DefinitionListDefinition", "DefinitionListDefinitionEnd", "DefinitionListEnd",
     "DefinitionListTitle", "DefinitionListTitleEnd", "DisplayMath", "Emphasis", "EmphasisEnd", "End", "Event", "Events", "Fenced",
     "FootnoteDefinition", "FootnoteDefinitionEnd", "FootnoteReference", "HardBreak", "Heading", "HeadingEnd", "Highlight", "HighlightEnd",
     "Html", "HtmlBlock", "HtmlBlockEnd", "Image", "ImageEnd", "Indented", "InlineHtml", "InlineMath", "Item", "ItemEnd", "Lines", "Link",
     "LinkDef", "LinkEnd", "LinkType", "List", "ListEnd", "MetadataBlock", "MetadataBlockEnd", "MetadataBlockKind", "Options", "Paragraph",
-    "ParagraphEnd", "Place", "Rule", "SoftBreak", "Start", "Strikethrough", "StrikethroughEnd", "Strong", "StrongEnd", "Subscript",
-    "SubscriptEnd", "Superscript", "SuperscriptEnd", "Table", "TableCell", "TableCellEnd", "TableEnd", "TableHead", "TableHeadEnd",
+    "ParagraphEnd", "Place", "Rule", "SoftBreak", "Start", "Stream", "Strikethrough", "StrikethroughEnd", "Strong", "StrongEnd",
+    "Subscript", "SubscriptEnd", "Superscript", "SuperscriptEnd", "Table", "TableCell", "TableCellEnd", "TableEnd", "TableHead", "TableHeadEnd",
     "TableRow", "TableRowEnd", "Tag", "TagEnd", "TaskListMarker", "Text", "WikiLink", "events", "html", "merged", "references", "render",
     "__version__",
 ]  # fmt: skip

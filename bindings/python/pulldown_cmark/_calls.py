@@ -3,7 +3,7 @@ from typing import Callable, Iterable, List, NamedTuple, Optional, Set, Tuple
 
 from ._events import Event
 from ._kinds import LinkType
-from ._library import Options, answer, bits_of, bytes_of, library, limit_of
+from ._library import Options, answer, bits_of, bytes_of, library, limit_of, list_of
 from ._lines import Text, continuations, in_characters
 from ._records import LABEL, LINK_TYPES, QUESTION, TITLE, Events, offsets_of, records_from, whole_records
 from ._writing import answer_of, records_of
@@ -78,8 +78,7 @@ def html(
     data, bits = bytes_of(text), bits_of(options)
     room_len = 2 * len(data) + 256
     if safe:
-        names = " ".join(schemes).encode("utf-8")
-        return answer(library.pcm_safe_html_with, room_len, data, bits, names, len(names)).decode("utf-8")
+        return answer(library.pcm_safe_html_with, room_len, data, bits, *list_of(schemes)).decode("utf-8")
     if expansion_limit is not None:
         return answer(library.pcm_html_within, room_len, data, bits, limit_of(expansion_limit)).decode("utf-8")
     return answer(library.pcm_html, room_len, data, bits).decode("utf-8")
@@ -142,10 +141,11 @@ def references(text: Text, *, options: int = Options.NONE) -> List[LinkDef]:
     return sorted(found, key=lambda it: it.start)
 
 
-def render(events: Iterable[Event]) -> str:
-    """The HTML of events, also of changed ones and of ones that are not balanced. It is not safe to show for a text of a stranger.
+def render(events: Iterable[Event], *, safe: bool = False, schemes: Iterable[str] = ()) -> str:
+    """The HTML of events, also of changed ones and of ones that are not balanced.
 
-    ``render(events(text))`` is ``html(text)``. HTML does not depend on the ranges of events.
+    ``render(events(text))`` is ``html(text)``. HTML does not depend on the ranges of events. It is not safe to show if a stranger has a part
+    in the events; with ``safe=True`` it is safe, as that of ``html``, whoever made the events. ``schemes`` is as for ``html``.
 
     Raises ``TypeError`` if a value does not have the type that its field has, ``ValueError`` if it is outside of the values that the field
     takes, ``UnicodeError`` if a text cannot be encoded as UTF-8, and ``MemoryError`` if memory is refused.
@@ -153,4 +153,6 @@ def render(events: Iterable[Event]) -> str:
     records = whole_records(events) if isinstance(events, Events) else None
     if records is None:
         records = records_of(events)
+    if safe:
+        return answer(library.pcm_safe_render, len(records) + 256, records, *list_of(schemes)).decode("utf-8")
     return answer(library.pcm_render, len(records) + 256, records).decode("utf-8")

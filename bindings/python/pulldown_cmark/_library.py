@@ -5,16 +5,20 @@ import functools
 import operator
 import os
 import pathlib
-from typing import Any, Callable, Dict, List, Union
+from typing import Any, Callable, Dict, Iterable, List, NamedTuple, Tuple, Union
 
 from ._lines import Text
 
 # The statuses of a call, as pulldown_cmark.h defines them.
-_DONE, _TOO_LONG, _NOT_UTF8, _NO_MEMORY, _MALFORMED = range(5)
+_DONE, _TOO_LONG, _NOT_UTF8, _NO_MEMORY, _MALFORMED, _UNKNOWN_OPTIONS, _BAD_CUT = range(7)
 
 
 class Options(enum.IntFlag):
-    """The rules beyond CommonMark. Join them by ``|``."""
+    """The rules beyond CommonMark. Join them by ``|``.
+
+    With ``ALL_ENTITIES`` all 2,125 entity names of the HTML standard are known, and otherwise eleven: ``amp``, ``lt``, ``gt``, ``quot``,
+    ``apos``, ``nbsp``, ``copy``, ``reg``, ``hellip``, ``mdash`` and ``ndash``.
+    """
 
     NONE = 0
     TABLES = 2
@@ -34,6 +38,7 @@ class Options(enum.IntFlag):
     WIKILINKS = 32768
     HIGHLIGHT = 65536
     EMAIL_AUTOLINKS = 131072
+    ALL_ENTITIES = 1073741824
 
 
 # The bits of all options.
@@ -51,6 +56,8 @@ library = _loaded()
 _TEXT = [ctypes.c_char_p, ctypes.c_size_t, ctypes.c_uint32]
 _MORE = [ctypes.c_char_p, ctypes.c_size_t]
 _ROOM = [ctypes.c_void_p, ctypes.c_size_t, ctypes.POINTER(ctypes.c_size_t)]
+_GROWING = [ctypes.c_void_p, ctypes.c_size_t, ctypes.c_uint32]
+_CUT = [ctypes.c_size_t, ctypes.POINTER(ctypes.c_size_t), ctypes.POINTER(ctypes.c_size_t)]
 # The calls of the library, and what they are given.
 _CALLS: Dict[str, List[Any]] = {
     "pcm_version": [],
@@ -61,6 +68,9 @@ _CALLS: Dict[str, List[Any]] = {
     "pcm_events_answered": _TEXT + _MORE + _ROOM,
     "pcm_references": _TEXT + _ROOM,
     "pcm_render": _MORE + _ROOM,
+    "pcm_safe_render": _MORE + _MORE + _ROOM,
+    "pcm_stream": _GROWING + _CUT + _ROOM,
+    "pcm_safe_stream": _GROWING + _MORE + _CUT + _ROOM,
 }
 for _name, _given in _CALLS.items():
     if not hasattr(library, _name):
@@ -102,6 +112,27 @@ def limit_of(limit: int) -> int:
     return min(bytes_left, ctypes.c_size_t(-1).value)
 
 
+def list_of(schemes: Iterable[str]) -> Tuple[bytes, int]:
+    """A list of schemes as the library takes it, and its length."""
+    names = " ".join(schemes).encode("utf-8")
+    return names, len(names)
+
+
+def _failure(status: int) -> Exception:
+    """The exception for a status without output."""
+    if status == _NOT_UTF8:
+        return UnicodeError("the text is not UTF-8")
+    if status == _NO_MEMORY:
+        return MemoryError("the library was refused memory")
+    if status == _MALFORMED:
+        return ValueError("the records are malformed")
+    if status == _UNKNOWN_OPTIONS:
+        return ValueError("the library does not know an option")
+    if status == _BAD_CUT:
+        return ValueError("the cut is after the end of the text or inside a character")
+    return RuntimeError(f"the library returned the unknown status {status}")
+
+
 def answer(call: Callable[..., int], room_len: int, data: bytes, *more: Union[bytes, int]) -> bytes:
     """The output of a call of the library for these bytes and further arguments. Python's lock is released while it runs.
 
@@ -116,9 +147,40 @@ def answer(call: Callable[..., int], room_len: int, data: bytes, *more: Union[by
             return bytes(memoryview(room)[: size.value])
         if status == _NOT_UTF8:
             data.decode("utf-8")
-            raise UnicodeError("the text is not UTF-8")
-        if status == _NO_MEMORY:
-            raise MemoryError("the library was refused memory")
-        if status == _MALFORMED:
-            raise ValueError("the records are malformed")
+        if status != _TOO_LONG:
+            raise _failure(status)
         room_len = size.value
+
+
+class Part(NamedTuple):
+    """The HTML of the lines of a text from a cut on.
+
+    The first ``settled`` bytes of ``html`` are the HTML of the blocks before the next cut, ``cut``, which is a byte offset in the text.
+    """
+
+    html: bytes
+    settled: int
+    cut: int
+
+
+def part_from(call: Callable[..., int], text: bytearray, cut: int, *more: Union[bytes, int]) -> Part:
+    """The HTML of the lines of a text from a cut on, by a call of the library. The text is not copied.
+
+    The text cannot be resized during the call: another thread that appends to it gets a ``BufferError``.
+    """
+    next_cut, settled, size = ctypes.c_size_t(cut), ctypes.c_size_t(), ctypes.c_size_t()
+    held = ctypes.c_char.from_buffer(text) if text else ctypes.c_char()
+    room_len = 2 * (len(text) - cut) + 256
+    try:
+        while True:
+            room = bytearray(room_len)
+            places = ctypes.byref(next_cut), ctypes.byref(settled), ctypes.addressof(ctypes.c_char.from_buffer(room))
+            status = call(ctypes.addressof(held), len(text), *more, *places, room_len, ctypes.byref(size))
+            if status == _DONE:
+                return Part(bytes(memoryview(room)[: size.value]), settled.value, next_cut.value)
+            if status != _TOO_LONG:
+                raise _failure(status)
+            room_len = size.value
+    finally:
+        # An exception keeps the variables of this call alive; the text could not grow.
+        del held

@@ -53,7 +53,7 @@ impl Answers {
             let (start, end) = (link.span.start, link.span.end);
             let is_image = text.as_bytes().get(start) == Some(&b'!');
             // The span of `[a][]` ends before the empty brackets.
-            let behind = if link.link_type == LinkType::Collapsed {
+            let following = if link.link_type == LinkType::Collapsed {
                 "[]".len()
             } else {
                 0
@@ -73,7 +73,7 @@ impl Answers {
                     ..question
                 };
                 self.push(&answer, &title)?;
-                answered_to = answered_to.max(end + behind);
+                answered_to = answered_to.max(end + following);
             }
         }
         Ok(answered_to > 0)

@@ -12,6 +12,8 @@ pub enum Error {
     /// The library returned records that are not those of events. A proved library never does. This crate checks the records all the
     /// same, since the linker is not proved.
     Malformed,
+    /// Bytes that were pushed to a [`Stream`](crate::Stream) are not UTF-8 after the bytes before them.
+    NotUtf8,
 }
 
 impl fmt::Display for Error {
@@ -19,6 +21,7 @@ impl fmt::Display for Error {
         f.write_str(match self {
             Error::OutOfMemory => "memory was refused",
             Error::Malformed => "the library returned malformed records",
+            Error::NotUtf8 => "the text is not UTF-8",
         })
     }
 }

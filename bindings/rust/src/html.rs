@@ -3,7 +3,7 @@
 //! Events become flat records, and the library writes their HTML, also if a program has changed the events or made them itself. It is proved
 //! that this is the HTML of the events of the records. That the records are those of the events is tested.
 //!
-//! None of this HTML is safe to show for a text of a stranger, except that of [`to_safe_html`].
+//! None of this HTML is safe to show for a text of a stranger, except that of [`to_safe_html`] and [`push_safe_html`].
 
 use crate::error::expect;
 use crate::{encode, native, Error, Event, Options};
@@ -40,6 +40,32 @@ where
     I: Iterator<Item = Event<'a>>,
 {
     let html = render(iter)?;
+    s.try_reserve(html.len())?;
+    s.push_str(&html);
+    Ok(())
+}
+
+/// Appends HTML that is safe to show to a string, whoever made the events. Otherwise it does what [`try_push_html`] does.
+///
+/// The HTML is that of the events' safe forms, and `schemes` are further schemes for addresses, both as for [`to_safe_html`].
+///
+/// ```
+/// use pulldown_cmark::{html, Parser};
+///
+/// let mut out = String::new();
+/// html::push_safe_html(&mut out, Parser::new("<b> [a](javascript:b)"), &[])?;
+/// assert_eq!(out, "<p>&lt;b&gt; <a href=\"\">a</a></p>\n");
+/// # Ok::<(), pulldown_cmark::Error>(())
+/// ```
+///
+/// # Errors
+///
+/// [`Error::OutOfMemory`] if memory is refused. The string is then as it was, and the iterator may have been read in part.
+pub fn push_safe_html<'a, I>(s: &mut String, iter: I, schemes: &[&str]) -> Result<(), Error>
+where
+    I: Iterator<Item = Event<'a>>,
+{
+    let html = native::safe_render(&records_of(iter)?, &list_of(schemes)?)?;
     s.try_reserve(html.len())?;
     s.push_str(&html);
     Ok(())
@@ -92,11 +118,27 @@ where
 
 /// The HTML of events.
 fn render<'a>(iter: impl Iterator<Item = Event<'a>>) -> Result<String, Error> {
+    native::render(&records_of(iter)?)
+}
+
+/// The records of events.
+fn records_of<'a>(iter: impl Iterator<Item = Event<'a>>) -> Result<Vec<u8>, Error> {
     let mut records = Vec::new();
     for event in iter {
         encode::append(&mut records, &event)?;
     }
-    native::render(&records)
+    Ok(records)
+}
+
+/// Schemes as the library takes them: one text with blanks between them.
+pub(crate) fn list_of(schemes: &[&str]) -> Result<String, Error> {
+    let mut listed = String::new();
+    for scheme in schemes {
+        listed.try_reserve(scheme.len() + 1)?;
+        listed.push_str(scheme);
+        listed.push(' ');
+    }
+    Ok(listed)
 }
 
 /// Returns the HTML of a text. This takes at most a third of the instructions of [`push_html`] with a parser.
@@ -158,11 +200,5 @@ pub fn to_html_within(text: &str, options: Options, limit: usize) -> Result<Stri
 ///
 /// [`Error::OutOfMemory`] if memory is refused.
 pub fn to_safe_html(text: &str, options: Options, schemes: &[&str]) -> Result<String, Error> {
-    let mut listed = String::new();
-    for scheme in schemes {
-        listed.try_reserve(scheme.len() + 1)?;
-        listed.push_str(scheme);
-        listed.push(' ');
-    }
-    native::safe_html(text, options.library_bits(), &listed)
+    native::safe_html(text, options.library_bits(), &list_of(schemes)?)
 }

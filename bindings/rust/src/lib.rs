@@ -49,6 +49,7 @@ mod native;
 mod options;
 mod parser;
 mod record;
+mod stream;
 mod tag;
 
 pub use callback::{BrokenLink, BrokenLinkCallback, DefaultBrokenLinkCallback};
@@ -63,6 +64,7 @@ pub use kinds::{
 pub use merge::{TextMergeStream, TextMergeWithOffset};
 pub use options::Options;
 pub use parser::{OffsetIter, Parser};
+pub use stream::{Change, Stream};
 pub use tag::{Tag, TagEnd};
 
 /// The merge streams, under the name of their module in pulldown-cmark.

@@ -79,6 +79,39 @@ extern "C" {
         room_len: usize,
         size: *mut usize,
     ) -> u32;
+    fn pcm_safe_render(
+        records: *const u8,
+        records_len: usize,
+        schemes: *const u8,
+        schemes_len: usize,
+        room: *mut u8,
+        room_len: usize,
+        size: *mut usize,
+    ) -> u32;
+    fn pcm_stream(
+        text: *const u8,
+        text_len: usize,
+        options: u32,
+        limit: usize,
+        cut: *mut usize,
+        settled: *mut usize,
+        room: *mut u8,
+        room_len: usize,
+        size: *mut usize,
+    ) -> u32;
+    fn pcm_safe_stream(
+        text: *const u8,
+        text_len: usize,
+        options: u32,
+        schemes: *const u8,
+        schemes_len: usize,
+        limit: usize,
+        cut: *mut usize,
+        settled: *mut usize,
+        room: *mut u8,
+        room_len: usize,
+        size: *mut usize,
+    ) -> u32;
     fn pcm_version() -> u32;
 }
 
@@ -109,7 +142,8 @@ fn answer(
             }
             TOO_LONG if size > length => length = size,
             MALFORMED => return Err(Error::Malformed),
-            // PCM_NOT_UTF8 cannot occur, since a `str` is UTF-8, so memory was refused.
+            // PCM_NOT_UTF8 cannot occur, since a `str` is UTF-8. PCM_UNKNOWN_OPTIONS cannot, since other bits are left out. PCM_BAD_CUT
+            // cannot, since a cut is one that the library has left for a beginning of the text. So memory was refused.
             _ => return Err(Error::OutOfMemory),
         }
     }
@@ -228,6 +262,100 @@ pub(crate) fn render(records: &[u8]) -> Result<String, Error> {
             unsafe { pcm_render(records.as_ptr(), records.len(), room, room_len, size) }
         },
     ))
+}
+
+/// The safe HTML of the events of records.
+pub(crate) fn safe_render(records: &[u8], schemes: &str) -> Result<String, Error> {
+    string(answer(
+        records.len().saturating_add(256),
+        |room, room_len, size| {
+            // SAFETY: as for `render`; the schemes are a `str`, of which the library reads as many bytes as it has.
+            unsafe {
+                pcm_safe_render(
+                    records.as_ptr(),
+                    records.len(),
+                    schemes.as_ptr(),
+                    schemes.len(),
+                    room,
+                    room_len,
+                    size,
+                )
+            }
+        },
+    ))
+}
+
+/// The HTML of the lines of a text from a cut on.
+pub(crate) struct Part {
+    pub html: String,
+    /// The number of the first bytes of `html` that are the HTML of the blocks before `cut`.
+    pub settled: usize,
+    /// The next cut: a byte offset in the text.
+    pub cut: usize,
+}
+
+/// The parts of HTML that the library has written for a text that grows. The library is proved to keep to these bounds; they are checked all
+/// the same, since the linker is not proved.
+fn part(html: Result<Vec<u8>, Error>, settled: usize, cut: usize) -> Result<Part, Error> {
+    let html = string(html)?;
+    if !html.is_char_boundary(settled) {
+        return Err(Error::Malformed);
+    }
+    Ok(Part { html, settled, cut })
+}
+
+/// The HTML of the lines of a text from a cut on, which an earlier call has left for a beginning of the text.
+pub(crate) fn stream(text: &str, options: u32, limit: usize, cut: usize) -> Result<Part, Error> {
+    let first = room_for_html(text.len().saturating_sub(cut));
+    let (mut next, mut settled) = (cut, 0);
+    let html = answer(first, |room, room_len, size| {
+        // SAFETY: as for `read`; the cut and the settled size are variables too.
+        unsafe {
+            pcm_stream(
+                text.as_ptr(),
+                text.len(),
+                options,
+                limit,
+                &mut next,
+                &mut settled,
+                room,
+                room_len,
+                size,
+            )
+        }
+    });
+    part(html, settled, next)
+}
+
+/// The safe HTML of the lines of a text from a cut on, which an earlier call has left for a beginning of the text.
+pub(crate) fn safe_stream(
+    text: &str,
+    options: u32,
+    schemes: &str,
+    limit: usize,
+    cut: usize,
+) -> Result<Part, Error> {
+    let first = room_for_html(text.len().saturating_sub(cut));
+    let (mut next, mut settled) = (cut, 0);
+    let html = answer(first, |room, room_len, size| {
+        // SAFETY: as for `stream`; the schemes are a `str`, of which the library reads as many bytes as it has.
+        unsafe {
+            pcm_safe_stream(
+                text.as_ptr(),
+                text.len(),
+                options,
+                schemes.as_ptr(),
+                schemes.len(),
+                limit,
+                &mut next,
+                &mut settled,
+                room,
+                room_len,
+                size,
+            )
+        }
+    });
+    part(html, settled, next)
 }
 
 pub(crate) fn version() -> u32 {

@@ -3,8 +3,8 @@
 bitflags::bitflags! {
     /// The rules beyond CommonMark that apply. Join them by `|`.
     ///
-    /// As in pulldown-cmark, links by email address (`<a@b.c>`) are read without an option. Of the entity names of the HTML standard, only
-    /// eleven are known: `amp lt gt quot apos nbsp copy reg hellip mdash ndash`.
+    /// As in pulldown-cmark, links by email address (`<a@b.c>`) are read without an option, and all entity names of the HTML standard are
+    /// known.
     ///
     /// ```
     /// use pulldown_cmark::{html, Options};
@@ -51,8 +51,8 @@ bitflags::bitflags! {
     }
 }
 
-/// The library's bit for the rule that pulldown-cmark always applies: links by email address.
-const ALWAYS: u32 = 1 << 17;
+/// The library's bits for the rules that pulldown-cmark always applies: links by email address, and all entity names.
+const ALWAYS: u32 = (1 << 17) | (1 << 30);
 
 impl Options {
     /// The rules that GitHub reads: tables, footnotes, strikethrough, task lists and alerts.

@@ -128,12 +128,12 @@ impl<'r> Records<'r> {
         if self.rest.len() < HEAD {
             return Err(Error::Malformed);
         }
-        let (head, behind) = self.rest.split_at(HEAD);
+        let (head, following) = self.rest.split_at(HEAD);
         let length = usize::try_from(wide(head, 24)).map_err(|_| Error::Malformed)?;
-        if head[3..8] != [0; 5] || behind.len() < length {
+        if head[3..8] != [0; 5] || following.len() < length {
             return Err(Error::Malformed);
         }
-        let (text, rest) = behind.split_at(length);
+        let (text, rest) = following.split_at(length);
         self.rest = rest;
         Ok(Some(Record {
             kind: head[0],

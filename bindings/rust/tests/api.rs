@@ -138,12 +138,12 @@ fn options_are_those_of_the_original() {
 }
 
 #[test]
-fn email_addresses_and_eleven_entity_names_are_read_without_an_option() {
-    let text = "<a@b.c> &copy;&mdash;&ouml;";
+fn email_addresses_and_all_entity_names_are_read_without_an_option() {
+    let text = "<a@b.c> &copy;&mdash;&ouml;&NotEqualTilde;&nosuch;";
     let found = html::to_html(text, Options::empty()).unwrap();
     assert_eq!(
         found,
-        "<p><a href=\"mailto:a@b.c\">a@b.c</a> ©—&amp;ouml;</p>\n"
+        "<p><a href=\"mailto:a@b.c\">a@b.c</a> ©—ö\u{2242}\u{338}&amp;nosuch;</p>\n"
     );
     let mut out = String::new();
     html::push_html(&mut out, Parser::new(text));

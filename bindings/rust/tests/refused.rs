@@ -3,7 +3,7 @@
 //! The functions below replace glibc's `malloc`, `calloc` and `realloc`, so these tests are for glibc.
 #![cfg(all(target_os = "linux", target_env = "gnu"))]
 
-use pulldown_cmark::{html, BrokenLink, Error, Event, Options, Parser};
+use pulldown_cmark::{html, BrokenLink, Error, Event, Options, Parser, Stream};
 use std::cell::Cell;
 use std::ffi::c_void;
 use std::ops::Range;
@@ -215,4 +215,52 @@ fn an_iterator_panics_and_does_not_abort() {
     let found = std::panic::catch_unwind(|| refused_at(3, false, || Parser::new(TEXT).count()));
     let said = found.unwrap_err().downcast::<String>().unwrap();
     assert_eq!(*said, "pulldown_cmark: memory was refused");
+}
+
+/// The text and the HTML of a stream.
+fn shown(stream: &Stream) -> [String; 4] {
+    [
+        stream.text(),
+        stream.settled(),
+        stream.added(),
+        stream.tail(),
+    ]
+    .map(String::from)
+}
+
+/// Refuses each allocation of a call that changes a stream, in turn. After an error the stream has to be as before. Returns the number of
+/// errors.
+fn refuse_stream(stream: &Stream, call: impl Fn(&mut Stream) -> Result<(), Error>) -> usize {
+    for place in 0.. {
+        let mut changed = stream.clone();
+        let (found, was_refused) = refused_at(place, true, || call(&mut changed));
+        if !was_refused {
+            assert_eq!(found, Ok(()));
+            assert_ne!(shown(&changed), shown(stream));
+            return place;
+        }
+        assert_eq!(found, Err(Error::OutOfMemory));
+        assert_eq!(shown(&changed), shown(stream));
+    }
+    unreachable!()
+}
+
+#[test]
+fn a_text_that_grows_is_as_before_after_the_error() {
+    let streams = [
+        Stream::new(Options::empty()),
+        Stream::new_safe(Options::empty(), 9, &["tel"]).unwrap(),
+    ];
+    for mut stream in streams {
+        stream.push("# a\n\nb\nc").unwrap();
+        stream.refresh().unwrap();
+        assert_ne!(stream.settled(), "");
+        assert!(refuse_stream(&stream, |it| it.push(" *c*\n\nd\n\ne, f, g, h")) > 0);
+        assert!(refuse_stream(&stream, |it| it.push_bytes(b" *c*\n\nd\xC3\xA9\n\ne")) > 1);
+        for more in [" *c*\n\nd\n\ne", "[a]: /b\n"] {
+            stream.push(more).unwrap();
+            assert!(refuse_stream(&stream, |it| it.refresh().map(|_| ())) > 10);
+        }
+    }
+    assert!(refuse_in_turn(|| Ok(shown(&Stream::new_safe(Options::empty(), 9, &["tel"])?))) > 0);
 }

@@ -7,14 +7,14 @@ use Rattle.cmark_grammar.specs.Rows.{Row, start_of, begin_of, words_of, is_blank
 use Rattle.cmark_grammar.specs.HtmlBlocks.{holds_end}
 use Rattle.cmark_grammar.specs.Containers.{Container, BlockQuote, Item, Footnote, ListDefinition, is_alert, enter, strips, is_bare_start}
 use Rattle.cmark_grammar.specs.Openings.{Leaf, ThematicBreak, AtxHeading, IndentedCode, FencedCode, HtmlBlock, LinkDefinition, Opening, Blank, Nests, Takes, Plain, opens, opens_at, MetadataBlock, Table}
-use Rattle.cmark_grammar.specs.Blocks.{Blocks, Nil as NoBlocks, BlankLine, Paragraph, SetextHeading, LeafBlock, ContainerBlock, join as join_blocks, behind_leaf, behind_container, place_in}
-use Rattle.cmark_grammar.specs.Places.{Place, Apart, BehindLazy, BehindTask, BehindTitle, is_behind_task, over_blank, is_behind_title}
-use Rattle.cmark_grammar.specs.BlocksModel.{within, place_behind}
-use Rattle.cmark_grammar.specs.BlocksByLine.{OpenLines, Between, InContainer, html_begun as html_lines_begun, leaf_begun as leaf_lines_begun, lines_inside_begun, lines_begin_as, lines_begin_in, lines_begin_at, lines_begin}
+use Rattle.cmark_grammar.specs.Blocks.{Blocks, Nil as NoBlocks, BlankLine, Paragraph, SetextHeading, LeafBlock, ContainerBlock, join as join_blocks, after_leaf, after_container, place_in}
+use Rattle.cmark_grammar.specs.Places.{Place, Apart, AfterLazy, AfterTask, AfterTitle, is_after_task, over_blank, is_after_title}
+use Rattle.cmark_block_model.specs.BlocksModel.{within, place_after}
+use Rattle.cmark_block_model.specs.BlocksByLine.{OpenLines, Between, InContainer, html_begun as html_lines_begun, leaf_begun as leaf_lines_begun, lines_inside_begun, lines_begin_as, lines_begin_in, lines_begin_at, lines_begin}
 use Rattle.cmark_grammar.specs.BlockDocument as document
-use Rattle.cmark_grammar.proofs.BlockLaws.{no_metadata, enter-lazy, at-enter, at-len, blank-at, at-same}
-use Rattle.cmark_block_model.specs.OpenBlocks.{OpenList, OpenContainer, Closed, BehindTag as BehindTagLeaf, InParagraph as InParagraphLeaf, Pass, no_siblings, Title, Siblings}
-use Rattle.cmark_block_model.specs.BlockPass.{with_drawn, inside_begun as inside_or_tag, item_begun, list_begun, list_goes_on, container_begun, inside_of, node_opened, is_item, ahead_in, html_begun, leaf_begun, begin_as, begin_in, begin, definitions_in, place_with, place_of, title_made, definition_behind}
+use Rattle.cmark_block_model.proofs.BlockLaws.{no_metadata, enter-lazy, at-enter, at-len, blank-at, at-same}
+use Rattle.cmark_block_model.specs.OpenBlocks.{OpenList, OpenContainer, Closed, AfterTag as AfterTagLeaf, InParagraph as InParagraphLeaf, Pass, no_siblings, Title, Siblings}
+use Rattle.cmark_block_model.specs.BlockPass.{with_drawn, inside_begun as inside_or_tag, item_begun, list_begun, list_goes_on, container_begun, inside_of, node_opened, is_item, ahead_in, html_begun, leaf_begun, begin_as, begin_in, begin, definitions_in, place_with, place_of, title_made, definition_after}
 use Rattle.cmark_block_model.proofs.Replay.{Level, marked, begun, item_if, item_level, level_opened, entered, leaf_level, replay, replay-join, title_level, definition_level}
 use Rattle.cmark_block_model.proofs.Tells.{Tells, tells-at}
 use Rattle.cmark_block_model.proofs.Mirror.{whole, whole-same, pass_with, bare_at, Fits, inner_at, leaf_at, container_at, containers_at, pass_at, paragraph_open}
@@ -59,7 +59,7 @@ module _ (text : List ℕ) (options : Options) (lookup : Lookup) where
       made None parted = refl
       made (Some o) parted = refl
 
-      title : (t : Option Title) → inside_of (ListDefinition width) (node_opened (begin_of r) document.DefinitionListDefinition (definition_behind t (begin_of r) (pass_with l outer false Closed n)))
+      title : (t : Option Title) → inside_of (ListDefinition width) (node_opened (begin_of r) document.DefinitionListDefinition (definition_after t (begin_of r) (pass_with l outer false Closed n)))
           ≡ pass_with (record (level_opened (begin_of r) document.DefinitionListDefinition (definition_level t (begin_of r) l)) { inner = no_siblings }) (outer ++ record { container = ListDefinition width; around = (definition_level t (begin_of r) l).inner } ∷ []) false Closed n
       title None = list l.inner.list
       title (Some t) = made t.list t.parted
@@ -188,7 +188,7 @@ module _ (text : List ℕ) (options : Options) (lookup : Lookup) where
           ap (λ z. pass_with (inner_at text options lookup o (within k false ahead) l) (outer ++ containers_at text options lookup o l) z (leaf_at text options lookup o) n) (bare-begins m k r (within k false ahead) b)
           ∙ ap (λ z. pass_at text options lookup (inside_begun (suc m) k r (within k z ahead)) (within k z ahead) l outer z n) (sym b)
 
-  pub begins : (m : ℕ) (at place : Place) (closed : Blocks) (r : Row) (next ahead : List Row) (l : Level) (outer : List OpenContainer) (b : Bool) (n : ℕ) → is_behind_task at ≡ is_behind_task place → is_behind_title at ≡ is_behind_title place → r.lazy ≡ false → length r.columns < m → ahead_in text options lookup outer next ≡ ahead
+  pub begins : (m : ℕ) (at place : Place) (closed : Blocks) (r : Row) (next ahead : List Row) (l : Level) (outer : List OpenContainer) (b : Bool) (n : ℕ) → is_after_task at ≡ is_after_task place → is_after_title at ≡ is_after_title place → r.lazy ≡ false → length r.columns < m → ahead_in text options lookup outer next ≡ ahead
       → begin_in text options lookup m at r next b (pass_with (replay text options lookup closed l) outer false Closed n) ≡ pass_at text options lookup (lines_begin_in options m place closed r ahead) ahead l outer b n
   begins zero at place closed r next ahead l outer b n s s1 e f a = absurd (omega (arith, f))
   begins (suc m) at place closed r next ahead l outer b n s s1 e f a =
@@ -212,15 +212,15 @@ module _ (text : List ℕ) (options : Options) (lookup : Lookup) where
       Inside k = begin_in text options lookup m (place_in k) (enter k r) next (is_item k) (pass_with (entered k r (replay text options lookup closed l)) (outer ++ container_at text options lookup k r (replay text options lookup closed l) ∷ []) false Closed n)
           ≡ pass_at text options lookup (inside_begun m k r (within k false ahead)) (within k false ahead) (entered k r (replay text options lookup closed l)) (outer ++ container_at text options lookup k r (replay text options lookup closed l) ∷ []) (is_item k) n
 
-      behind_tag : Pass → Pass
-      behind_tag q = record q { leaf = BehindTagLeaf }
+      after_tag : Pass → Pass
+      after_tag q = record q { leaf = AfterTagLeaf }
 
       -- after an alert's tag no block is begun
       tagged : (k : Container) (is_tag : Bool)
           → begin_in text options lookup m (place_in k) (enter k r) next (is_item k) (container_begun k r (pass_with (replay text options lookup closed l) outer false Closed n)) ≡ pass_at text options lookup (InContainer closed k r [] (lines_begin_in options m (place_in k) NoBlocks (enter k r) (within k (is_bare_start k r) ahead))) ahead l outer b n
           → inside_or_tag is_tag (container_begun k r (pass_with (replay text options lookup closed l) outer false Closed n)) (begin_in text options lookup m (place_in k) (enter k r) next (is_item k) (container_begun k r (pass_with (replay text options lookup closed l) outer false Closed n)))
           ≡ pass_at text options lookup (InContainer closed k r [] (lines_inside_begun is_tag (lines_begin_in options m (place_in k) NoBlocks (enter k r) (within k (is_bare_start k r) ahead)))) ahead l outer b n
-      tagged k true same = ap behind_tag (container-begins k r c outer n)
+      tagged k true same = ap after_tag (container-begins k r c outer n)
       tagged k false same = same
 
       go : (o : Opening) → opens_at options place r ahead ≡ o → Tells r o → ((k : Container) → opens_at options place r ahead ≡ Nests k → Inside k)
@@ -288,40 +288,40 @@ module _ (text : List ℕ) (options : Options) (lookup : Lookup) where
       go Plain o t ih = (not-bare place b r ahead e h (λ x. let y : Plain ≡ Blank = sym o ∙ x in cc), q)
 
   -- the place after closed blocks is not after a task marker, unless the place without blocks is
-  not-task : (place : Place) (closed : Blocks) → is_behind_task place ≡ false → is_behind_task (place_behind place closed) ≡ false
+  not-task : (place : Place) (closed : Blocks) → is_after_task place ≡ false → is_after_task (place_after place closed) ≡ false
   not-task place NoBlocks e = e
   not-task place (BlankLine line after) e = not-task (over_blank place) after (over place)
     where
-      over : (place : Place) → is_behind_task (over_blank place) ≡ false
+      over : (place : Place) → is_after_task (over_blank place) ≡ false
       over Apart = refl
-      over BehindLazy = refl
-      over BehindTask = refl
-      over BehindTitle = refl
-  not-task place (Paragraph first more after) e = not-task BehindTitle after refl
+      over AfterLazy = refl
+      over AfterTask = refl
+      over AfterTitle = refl
+  not-task place (Paragraph first more after) e = not-task AfterTitle after refl
   not-task place (SetextHeading level first more underline after) e = not-task Apart after refl
-  not-task place (LeafBlock leaf first more after) e = not-task (behind_leaf leaf) after (behind leaf)
+  not-task place (LeafBlock leaf first more after) e = not-task (after_leaf leaf) after (following leaf)
     where
-      behind : (leaf : Leaf) → is_behind_task (behind_leaf leaf) ≡ false
-      behind ThematicBreak = refl
-      behind (AtxHeading level) = refl
-      behind IndentedCode = refl
-      behind (FencedCode fence) = refl
-      behind (HtmlBlock kind) = refl
-      behind (LinkDefinition definition) = refl
-      behind (MetadataBlock kind) = refl
-      behind (Table alignments) = refl
-  not-task place (ContainerBlock k first more inside after) e = not-task (behind_container k) after (behind k)
+      following : (leaf : Leaf) → is_after_task (after_leaf leaf) ≡ false
+      following ThematicBreak = refl
+      following (AtxHeading level) = refl
+      following IndentedCode = refl
+      following (FencedCode fence) = refl
+      following (HtmlBlock kind) = refl
+      following (LinkDefinition definition) = refl
+      following (MetadataBlock kind) = refl
+      following (Table alignments) = refl
+  not-task place (ContainerBlock k first more inside after) e = not-task (after_container k) after (following k)
     where
-      behind : (k : Container) → is_behind_task (behind_container k) ≡ false
-      behind (BlockQuote alert) = refl
-      behind (Item delimiter number width task) = refl
-      behind (Footnote label old size) = refl
-      behind (ListDefinition width) = refl
+      following : (k : Container) → is_after_task (after_container k) ≡ false
+      following (BlockQuote alert) = refl
+      following (Item delimiter number width task) = refl
+      following (Footnote label old size) = refl
+      following (ListDefinition width) = refl
 
-  not-task-with : (s : Siblings) → is_behind_task (place_of s) ≡ false
+  not-task-with : (s : Siblings) → is_after_task (place_of s) ≡ false
   not-task-with s = go s.title (definitions_in s.list)
     where
-      go : (t : Option Title) (o : Option OpenList) → is_behind_task (place_with t o) ≡ false
+      go : (t : Option Title) (o : Option OpenList) → is_after_task (place_with t o) ≡ false
       go (Some t) o = refl
       go None (Some o) = refl
       go None None = refl
@@ -331,7 +331,7 @@ module _ (text : List ℕ) (options : Options) (lookup : Lookup) where
   IsFresh l = l.inner ≡ no_siblings
 
   -- at a place after closed blocks
-  starts-at : (place : Place) (closed : Blocks) (r : Row) (next ahead : List Row) (l : Level) (outer : List OpenContainer) (n : ℕ) → is_behind_task place ≡ false → is_behind_title (place_of (replay text options lookup closed l).inner) ≡ is_behind_title place → r.lazy ≡ false → ahead_in text options lookup outer next ≡ ahead
+  starts-at : (place : Place) (closed : Blocks) (r : Row) (next ahead : List Row) (l : Level) (outer : List OpenContainer) (n : ℕ) → is_after_task place ≡ false → is_after_title (place_of (replay text options lookup closed l).inner) ≡ is_after_title place → r.lazy ≡ false → ahead_in text options lookup outer next ≡ ahead
       → begin text options lookup r next (pass_with (replay text options lookup closed l) outer false Closed n) ≡ pass_at text options lookup (lines_begin_at options place closed r ahead) ahead l outer false n
   starts-at place closed r next ahead l outer n s t e a =
       begins (suc (length r.columns)) (place_of (replay text options lookup closed l).inner) place closed r next ahead l outer false n (not-task-with (replay text options lookup closed l).inner ∙ sym s) t e (omega arith) a
@@ -340,17 +340,17 @@ module _ (text : List ℕ) (options : Options) (lookup : Lookup) where
       → begin text options lookup r next (pass_with (replay text options lookup closed l) outer false Closed n) ≡ pass_at text options lookup (lines_begin options closed r ahead) ahead l outer false n
   unfolding lines_begin
   starts closed r next ahead l outer n h u e a =
-      starts-at (place_behind Apart closed) closed r next ahead l outer n (not-task Apart closed refl)
-      (place-replay text options lookup closed Apart l u (subst (λ s. IsTidy s.title s.list) (sym h) tt) (ap (λ s. is_behind_title (place_of s)) h)) e a
+      starts-at (place_after Apart closed) closed r next ahead l outer n (not-task Apart closed refl)
+      (place-replay text options lookup closed Apart l u (subst (λ s. IsTidy s.title s.list) (sym h) tt) (ap (λ s. is_after_title (place_of s)) h)) e a
 
   -- directly after an alert's tag
-  pub starts-behind-tag : (r : Row) (next ahead : List Row) (l : Level) (outer : List OpenContainer) (n : ℕ) → IsFresh l → r.lazy ≡ false → ahead_in text options lookup outer next ≡ ahead
-      → begin text options lookup r next (pass_with l outer false Closed n) ≡ pass_at text options lookup (lines_begin_at options BehindLazy NoBlocks r ahead) ahead l outer false n
-  starts-behind-tag r next ahead l outer n h e a = starts-at BehindLazy NoBlocks r next ahead l outer n refl (ap (λ s. is_behind_title (place_of s)) h) e a
+  pub starts-following-tag : (r : Row) (next ahead : List Row) (l : Level) (outer : List OpenContainer) (n : ℕ) → IsFresh l → r.lazy ≡ false → ahead_in text options lookup outer next ≡ ahead
+      → begin text options lookup r next (pass_with l outer false Closed n) ≡ pass_at text options lookup (lines_begin_at options AfterLazy NoBlocks r ahead) ahead l outer false n
+  starts-following-tag r next ahead l outer n h e a = starts-at AfterLazy NoBlocks r next ahead l outer n refl (ap (λ s. is_after_title (place_of s)) h) e a
 
   pub starts-fit-at : (place : Place) (closed : Blocks) (r : Row) (ahead : List Row) → r.lazy ≡ false → Fits false (lines_begin_at options place closed r ahead) ahead r.line_end
   starts-fit-at place closed r ahead e = begins-fit (suc (length r.columns)) place closed r ahead false r.line_end e (omega arith) (λ never. absurd (true≢false (sym never))) refl
 
   pub starts-fit : (closed : Blocks) (r : Row) (ahead : List Row) → r.lazy ≡ false → Fits false (lines_begin options closed r ahead) ahead r.line_end
   unfolding lines_begin
-  starts-fit closed r ahead e = starts-fit-at (place_behind Apart closed) closed r ahead e
+  starts-fit closed r ahead e = starts-fit-at (place_after Apart closed) closed r ahead e

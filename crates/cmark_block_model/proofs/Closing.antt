@@ -7,7 +7,7 @@ use Rattle.cmark_grammar.specs.Leaves.{closes_fence}
 use Rattle.cmark_grammar.specs.Containers.{is_bare_start, bare_after}
 use Rattle.cmark_grammar.specs.Openings.{Leaf, ThematicBreak, AtxHeading, IndentedCode, FencedCode, HtmlBlock, LinkDefinition, MetadataBlock, Table}
 use Rattle.cmark_grammar.specs.Blocks.{Blocks, Nil as NoBlocks, Paragraph, LeafBlock, ContainerBlock, join as join_blocks}
-use Rattle.cmark_grammar.specs.BlocksByLine.{Verbatim, Indented, Fenced, HtmlLines, leaf_in, OpenLines, Between, BehindTag, InParagraph, InLeaf, InVerbatim, InContainer, blank_lines, close_lines, Metadata}
+use Rattle.cmark_block_model.specs.BlocksByLine.{Verbatim, Indented, Fenced, HtmlLines, leaf_in, OpenLines, Between, AfterTag, InParagraph, InLeaf, InVerbatim, InContainer, blank_lines, close_lines, Metadata}
 use Rattle.cmark_grammar.specs.Tokens.{resolved, words_end, stretch_then, stop_at, html_tokens, fenced_lines, code_tokens, code_columns, lines_before}
 use Rattle.cmark_grammar.specs.BlockDocument as document
 use Rattle.cmark_grammar.specs.BlockDocument.{BlockDocument, BlockKind, Nil, Node, node, join}
@@ -43,7 +43,7 @@ module _ (text : List ℕ) (options : Options) (lookup : Lookup) where
   -- the innermost level, when the leaf is closed
   abbrev pub inner_closed : OpenLines → Level → Level
   inner_closed (Between closed) l = replay text options lookup (close_lines (Between closed)) l
-  inner_closed BehindTag l = l
+  inner_closed AfterTag l = l
   inner_closed (InParagraph closed first more) l = replay text options lookup (close_lines (InParagraph closed first more)) l
   inner_closed (InLeaf closed leaf first had left) l = replay text options lookup (close_lines (InLeaf closed leaf first had left)) l
   inner_closed (InVerbatim closed verbatim first had waiting) l = replay text options lookup (close_lines (InVerbatim closed verbatim first had waiting)) l
@@ -99,7 +99,7 @@ module _ (text : List ℕ) (options : Options) (lookup : Lookup) where
   pub leaf-closes : (o : OpenLines) (b : Bool) (n : ℕ) (l : Level) (outer : List OpenContainer) (bare : Bool) → Fits b o [] n
       → close_leaf text options lookup (leaf_at text options lookup o) (pass_with (inner_at text options lookup o [] l) outer bare (leaf_at text options lookup o) n) ≡ pass_with (inner_closed o l) outer bare Closed n
   leaf-closes (Between closed) b n l outer bare f = refl
-  leaf-closes BehindTag b n l outer bare f = refl
+  leaf-closes AfterTag b n l outer bare f = refl
   leaf-closes (InParagraph closed first more) b n l outer bare f =
       let c = replay text options lookup closed l in
       ap (λ p. pass_with (noded document.Paragraph (start_of first) p (join (lines_drawn text options lookup (start_of first) first more) (stretch_then text (last_begin (start_of first) first more) (words_end (last_of first more)) Nil)) (paragraph_begun c)) outer bare Closed n) (sym f.1)
@@ -117,7 +117,7 @@ module _ (text : List ℕ) (options : Options) (lookup : Lookup) where
   pub containers-close : (o : OpenLines) (b : Bool) (n : ℕ) (l : Level) (outer : List OpenContainer) (bare : Bool) → Fits b o [] n
       → containers_closed text options lookup outer (containers_at text options lookup o l) (pass_with (inner_closed o l) (outer ++ containers_at text options lookup o l) bare Closed n) ≡ pass_with (replay text options lookup (close_lines o) l) outer bare Closed n
   containers-close (Between closed) b n l outer bare f = ap (λ o. pass_with (replay text options lookup closed l) o bare Closed n) (append-nil outer)
-  containers-close BehindTag b n l outer bare f = ap (λ o. pass_with l o bare Closed n) (append-nil outer)
+  containers-close AfterTag b n l outer bare f = ap (λ o. pass_with l o bare Closed n) (append-nil outer)
   containers-close (InParagraph closed first more) b n l outer bare f = ap (λ o. pass_with (replay text options lookup (close_lines (InParagraph closed first more)) l) o bare Closed n) (append-nil outer)
   containers-close (InLeaf closed leaf first had left) b n l outer bare f = ap (λ o. pass_with (replay text options lookup (close_lines (InLeaf closed leaf first had left)) l) o bare Closed n) (append-nil outer)
   containers-close (InVerbatim closed verbatim first had waiting) b n l outer bare f =

@@ -4,7 +4,7 @@ use Rattle.std.specs.Prelude.{if◌then◌else◌}
 use Rattle.cmark_grammar.specs.Rows.{Row}
 use Rattle.cmark_grammar.specs.BlockDocument.{Nil, join}
 use Rattle.cmark_grammar.specs.Tokens.{Piece, touches, merge, merge_all, texts_then, verbatim_line, code_columns, code_pieces, code_tokens}
-use Rattle.cmark_block_model.specs.CodeLines.{Run, no_run, longer, put_behind, touch, add_pieces, code_line, rest_of, texts_of}
+use Rattle.cmark_block_model.specs.CodeLines.{Run, no_run, longer, put_after, touch, add_pieces, code_line, rest_of, texts_of}
 use Rattle.cmark_block_model.proofs.PlainTokens.{texts-append, texts-join}
 
 abbrev pub merge_waits : Option Piece → List Piece → List Piece
@@ -52,28 +52,28 @@ touched-plain p q e = go p.owned q.owned e
     go false false f = refl
 
 -- all pieces, with the later ones
-add-merges : (ps : List Piece) (done : List Piece) (waits : Option Piece) (behind : List Piece) → ((add_pieces (run_with done waits) ps).done ++ merge_waits (add_pieces (run_with done waits) ps).waits behind) ≡ (done ++ merge_waits waits (merge_all ps behind))
-add-merges [] done waits behind = refl
-add-merges (q ∷ ps) done None behind = go q.owned refl (λ d w. add-merges ps d w behind)
+add-merges : (ps : List Piece) (done : List Piece) (waits : Option Piece) (following : List Piece) → ((add_pieces (run_with done waits) ps).done ++ merge_waits (add_pieces (run_with done waits) ps).waits following) ≡ (done ++ merge_waits waits (merge_all ps following))
+add-merges [] done waits following = refl
+add-merges (q ∷ ps) done None following = go q.owned refl (λ d w. add-merges ps d w following)
   where
     l : List Piece
-    l = merge_all ps behind
+    l = merge_all ps following
 
-    go : (z : Bool) → q.owned ≡ z → ((d : List Piece) (w : Option Piece) → ((add_pieces (run_with d w) ps).done ++ merge_waits (add_pieces (run_with d w) ps).waits behind) ≡ (d ++ merge_waits w (merge_all ps behind))) → ((add_pieces (put_behind z done q) ps).done ++ merge_waits (add_pieces (put_behind z done q) ps).waits behind) ≡ (done ++ merge q (merge_all ps behind))
+    go : (z : Bool) → q.owned ≡ z → ((d : List Piece) (w : Option Piece) → ((add_pieces (run_with d w) ps).done ++ merge_waits (add_pieces (run_with d w) ps).waits following) ≡ (d ++ merge_waits w (merge_all ps following))) → ((add_pieces (put_after z done q) ps).done ++ merge_waits (add_pieces (put_after z done q) ps).waits following) ≡ (done ++ merge q (merge_all ps following))
     go true e ih = ih (done ++ q ∷ []) None ∙ append_assoc done (q ∷ []) l ∙ ap (λ x. done ++ x) (sym (merge-apart q l e))
     go false e ih = ih done (Some q)
-add-merges (q ∷ ps) done (Some p) behind = touching (touches p q) refl (λ d w. add-merges ps d w behind)
+add-merges (q ∷ ps) done (Some p) following = touching (touches p q) refl (λ d w. add-merges ps d w following)
   where
     l : List Piece
-    l = merge_all ps behind
+    l = merge_all ps following
 
-    go : (z : Bool) → q.owned ≡ z → touches p q ≡ false → ((d : List Piece) (w : Option Piece) → ((add_pieces (run_with d w) ps).done ++ merge_waits (add_pieces (run_with d w) ps).waits behind) ≡ (d ++ merge_waits w (merge_all ps behind))) → ((add_pieces (put_behind z (done ++ p ∷ []) q) ps).done ++ merge_waits (add_pieces (put_behind z (done ++ p ∷ []) q) ps).waits behind) ≡ (done ++ merge p (merge q (merge_all ps behind)))
+    go : (z : Bool) → q.owned ≡ z → touches p q ≡ false → ((d : List Piece) (w : Option Piece) → ((add_pieces (run_with d w) ps).done ++ merge_waits (add_pieces (run_with d w) ps).waits following) ≡ (d ++ merge_waits w (merge_all ps following))) → ((add_pieces (put_after z (done ++ p ∷ []) q) ps).done ++ merge_waits (add_pieces (put_after z (done ++ p ∷ []) q) ps).waits following) ≡ (done ++ merge p (merge q (merge_all ps following)))
     go true e f ih =
         ih ((done ++ p ∷ []) ++ q ∷ []) None ∙ append_assoc (done ++ p ∷ []) (q ∷ []) l ∙ append_assoc done (p ∷ []) (q ∷ l)
         ∙ ap (λ x. done ++ x) (sym (ap (merge p) (merge-apart q l e) ∙ ap (λ z. if z then longer p q ∷ l else p ∷ q ∷ l) f))
     go false e f ih = ih (done ++ p ∷ []) (Some q) ∙ append_assoc done (p ∷ []) (merge q l) ∙ ap (λ x. done ++ x) (sym (apart p q l e f))
 
-    touching : (z : Bool) → touches p q ≡ z → ((d : List Piece) (w : Option Piece) → ((add_pieces (run_with d w) ps).done ++ merge_waits (add_pieces (run_with d w) ps).waits behind) ≡ (d ++ merge_waits w (merge_all ps behind))) → ((add_pieces (touch z done p q) ps).done ++ merge_waits (add_pieces (touch z done p q) ps).waits behind) ≡ (done ++ merge p (merge q (merge_all ps behind)))
+    touching : (z : Bool) → touches p q ≡ z → ((d : List Piece) (w : Option Piece) → ((add_pieces (run_with d w) ps).done ++ merge_waits (add_pieces (run_with d w) ps).waits following) ≡ (d ++ merge_waits w (merge_all ps following))) → ((add_pieces (touch z done p q) ps).done ++ merge_waits (add_pieces (touch z done p q) ps).waits following) ≡ (done ++ merge p (merge q (merge_all ps following)))
     touching true e ih = ih done (Some (longer p q)) ∙ ap (λ x. done ++ x) (together p q l (touched-plain p q e) e)
     touching false e ih = go q.owned refl e ih
 
@@ -82,12 +82,12 @@ add-front : (ps : List Piece) (ds es : List Piece) (waits : Option Piece) → ad
 add-front [] ds es waits = refl
 add-front (q ∷ ps) ds es None = go q.owned (λ e w. add-front ps ds e w)
   where
-    go : (z : Bool) → ((e : List Piece) (w : Option Piece) → add_pieces (run_with (ds ++ e) w) ps ≡ run_with (ds ++ (add_pieces (run_with e w) ps).done) (add_pieces (run_with e w) ps).waits) → add_pieces (put_behind z (ds ++ es) q) ps ≡ run_with (ds ++ (add_pieces (put_behind z es q) ps).done) (add_pieces (put_behind z es q) ps).waits
+    go : (z : Bool) → ((e : List Piece) (w : Option Piece) → add_pieces (run_with (ds ++ e) w) ps ≡ run_with (ds ++ (add_pieces (run_with e w) ps).done) (add_pieces (run_with e w) ps).waits) → add_pieces (put_after z (ds ++ es) q) ps ≡ run_with (ds ++ (add_pieces (put_after z es q) ps).done) (add_pieces (put_after z es q) ps).waits
     go true ih = ap (λ d. add_pieces (run_with d None) ps) (append_assoc ds es (q ∷ [])) ∙ ih (es ++ q ∷ []) None
     go false ih = ih es (Some q)
 add-front (q ∷ ps) ds es (Some p) = touching (touches p q) (λ e w. add-front ps ds e w)
   where
-    go : (z : Bool) → ((e : List Piece) (w : Option Piece) → add_pieces (run_with (ds ++ e) w) ps ≡ run_with (ds ++ (add_pieces (run_with e w) ps).done) (add_pieces (run_with e w) ps).waits) → add_pieces (put_behind z ((ds ++ es) ++ p ∷ []) q) ps ≡ run_with (ds ++ (add_pieces (put_behind z (es ++ p ∷ []) q) ps).done) (add_pieces (put_behind z (es ++ p ∷ []) q) ps).waits
+    go : (z : Bool) → ((e : List Piece) (w : Option Piece) → add_pieces (run_with (ds ++ e) w) ps ≡ run_with (ds ++ (add_pieces (run_with e w) ps).done) (add_pieces (run_with e w) ps).waits) → add_pieces (put_after z ((ds ++ es) ++ p ∷ []) q) ps ≡ run_with (ds ++ (add_pieces (put_after z (es ++ p ∷ []) q) ps).done) (add_pieces (put_after z (es ++ p ∷ []) q) ps).waits
     go true ih =
         ap (λ d. add_pieces (run_with (d ++ q ∷ []) None) ps) (append_assoc ds es (p ∷ [])) ∙ ap (λ d. add_pieces (run_with d None) ps) (append_assoc ds (es ++ p ∷ []) (q ∷ []))
         ∙ ih ((es ++ p ∷ []) ++ q ∷ []) None

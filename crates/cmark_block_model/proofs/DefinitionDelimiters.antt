@@ -7,17 +7,17 @@ use Rattle.cmark_grammar.specs.Leaves.{Continuation, GoesOn, Closes, Waits, Stop
 use Rattle.cmark_grammar.specs.HtmlBlocks.{holds_end}
 use Rattle.cmark_grammar.specs.Containers.{Container, is_alert, enter, keeps, strip, is_bare_start, bare_after}
 use Rattle.cmark_grammar.specs.Openings.{Leaf, ThematicBreak, AtxHeading, IndentedCode, FencedCode, HtmlBlock, LinkDefinition, MetadataBlock, Table, Opening, Blank, Nests, Takes, Plain, opens_at, texts, lazily}
-use Rattle.cmark_grammar.specs.Places.{Place, Apart, BehindLazy}
+use Rattle.cmark_grammar.specs.Places.{Place, Apart, AfterLazy}
 use Rattle.cmark_grammar.specs.Blocks.{Blocks, Nil as NoBlocks, BlankLine, Paragraph, SetextHeading, LeafBlock, ContainerBlock, join, place_in}
-use Rattle.cmark_grammar.specs.BlocksModel.{within, place_behind}
-use Rattle.cmark_grammar.specs.BlocksByLine.{leaf_in, continuation_if, OpenLines, Between, BehindTag, InParagraph, InLeaf, InVerbatim, InContainer, blank_lines, close_lines, lines_take_lazy, html_begun, leaf_begun, lines_inside_begun, lines_begin_as, lines_underline_or, lines_go_on_or, lines_kept_or, verbatim_line, lines_begin_in, lines_begin, lines_feed}
+use Rattle.cmark_block_model.specs.BlocksModel.{within, place_after}
+use Rattle.cmark_block_model.specs.BlocksByLine.{leaf_in, continuation_if, OpenLines, Between, AfterTag, InParagraph, InLeaf, InVerbatim, InContainer, blank_lines, close_lines, lines_take_lazy, html_begun, leaf_begun, lines_inside_begun, lines_begin_as, lines_underline_or, lines_go_on_or, lines_kept_or, verbatim_line, lines_begin_in, lines_begin, lines_feed}
 use Rattle.cmark_block_model.proofs.ListDelimiters.{IsUnmarked, Unmarked, unmarked-join, unmarked-blanks}
 use Rattle.cmark_block_model.proofs.Tells.{Tells, tells-at}
 
 -- the open blocks have no such item
 abbrev pub OpenUnmarked : OpenLines → Type 0
 OpenUnmarked (Between closed) = Unmarked closed
-OpenUnmarked BehindTag = Unit {0}
+OpenUnmarked AfterTag = Unit {0}
 OpenUnmarked (InParagraph closed first more) = Unmarked closed
 OpenUnmarked (InLeaf closed leaf first had left) = Unmarked closed
 OpenUnmarked (InVerbatim closed verbatim first had waiting) = Unmarked closed
@@ -56,11 +56,11 @@ module _ (options : Options) where
 
   begin-unmarked : (closed : Blocks) (r : Row) (ahead : List Row) → Unmarked closed → OpenUnmarked (lines_begin options closed r ahead)
   unfolding lines_begin
-  begin-unmarked closed r ahead u = begun-unmarked (suc (length r.columns)) (place_behind Apart closed) closed r ahead u
+  begin-unmarked closed r ahead u = begun-unmarked (suc (length r.columns)) (place_after Apart closed) closed r ahead u
 
   pub feed-unmarked : (o : OpenLines) (r : Row) (ahead : List Row) → OpenUnmarked o → OpenUnmarked (lines_feed options o r ahead)
   feed-unmarked (Between closed) r ahead u = begin-unmarked closed r ahead u
-  feed-unmarked BehindTag r ahead u = begun-unmarked (suc (length r.columns)) BehindLazy NoBlocks r ahead tt
+  feed-unmarked AfterTag r ahead u = begun-unmarked (suc (length r.columns)) AfterLazy NoBlocks r ahead tt
   feed-unmarked (InParagraph closed first more) r ahead u = go (underlines r) (texts options r ahead)
     where
       go : (x : Option ℕ) (z : Bool) → OpenUnmarked (lines_underline_or x (λ level. Between (join closed (SetextHeading level first more r NoBlocks))) (lines_go_on_or z (InParagraph closed first (more ++ r ∷ [])) (lines_begin options (join closed (Paragraph first more NoBlocks)) r ahead)))

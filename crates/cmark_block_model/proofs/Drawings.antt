@@ -7,16 +7,17 @@ use Rattle.cmark_grammar.specs.Event.{End, Ranged}
 use Rattle.cmark_grammar.specs.TagEnd.{end_of}
 use Rattle.cmark_grammar.specs.BlockDocument.{BlockKind, Paragraph, TightParagraph, Heading, ThematicBreak, IndentedCode, FencedCode, HtmlBlock, LinkDefinition, MetadataBlock, BlockQuote, BlockList, ListItem, TaskMarker, FootnoteDefinition, DefinitionList, DefinitionListTitle, DefinitionListDefinition, Text, OwnedText, Html, BlockNode, BlockDocument, Nil, Node, Table, TableHead, TableRow, TableCell}
 use Rattle.cmark_grammar.specs.BlockReading.{Reads, Around, Inside, Alone, First, Silent, read_as, over, node_events, starts_of, starts_as, starts_before, first_event, first_in, with_first, block_reading, is_title, title_as, begins_title}
-use Rattle.cmark_grammar.specs.Derivation.{Derives, document}
-use Rattle.cmark_grammar.specs.DrawnDocument.{is_definition, node_unless, settled, without_definitions}
-use Rattle.cmark_grammar.specs.Tightness.{tight_within}
-use Rattle.cmark_grammar.specs.Ranges.{AllAt, InOrder, count_nodes, count_tables}
-use Rattle.cmark_grammar.specs.BlocksModel.{blocks}
-use Rattle.cmark_grammar.proofs.BlocksSound.{blocks-body}
-use Rattle.cmark_grammar.proofs.BoundaryLaws.{derived-boundaries}
-use Rattle.cmark_grammar.proofs.CountLaws.{derived-count}
-use Rattle.cmark_grammar.proofs.RangeLaws.{derived-order}
-use Rattle.cmark_grammar.proofs.TokenRanges.{InOrder-lower}
+use Rattle.cmark_grammar.specs.Derivation.{Derives}
+use Rattle.cmark_block_model.specs.DocumentModel.{document}
+use Rattle.cmark_block_model.specs.DrawnDocument.{is_definition, node_unless, settled, without_definitions}
+use Rattle.cmark_block_model.specs.Tightness.{tight_within}
+use Rattle.cmark_block_model.specs.Ranges.{AllAt, InOrder, count_nodes, count_tables}
+use Rattle.cmark_block_model.specs.BlocksModel.{blocks}
+use Rattle.cmark_block_model.proofs.BlocksSound.{blocks-body}
+use Rattle.cmark_block_model.proofs.BoundaryLaws.{derived-boundaries}
+use Rattle.cmark_block_model.proofs.CountLaws.{derived-count}
+use Rattle.cmark_block_model.proofs.RangeLaws.{derived-order}
+use Rattle.cmark_block_model.proofs.TokenRanges.{InOrder-lower}
 use Rattle.cmark_block_model.specs.BlockPass.{pass_over}
 use Rattle.cmark_block_model.proofs.Theorem.{pass-draws}
 

@@ -17,8 +17,8 @@ use Rattle.cmark_block_model.specs.OpenBlocks.{OpenList, no_siblings}
 use Rattle.cmark_block_model.specs.BlockPass.{list_closed, ended, ended_but, released_from}
 use Rattle.cmark_block_model.proofs.PlainTokens.{join-nil, join-assoc}
 use Rattle.cmark_block_model.proofs.Replay.{Noted, Level, item_if, level_opened, level_drawn, marked, left_by, leaf_drawing, leaf_noted, replay, untitled, paragraph_begun}
-use Rattle.cmark_block_model.proofs.Standing.{Stand, First, Behind, InList, list_of, delimiter_of, level_of, titled, with_colon}
-use Rattle.cmark_block_model.proofs.Flags.{or-false, same-delimiter, fresh, longer, item_list, in_item, behind_item, blank_behind, parted_behind, or-assoc, colon-same, in_definition, behind_definition}
+use Rattle.cmark_block_model.proofs.Standing.{Stand, First, Following, InList, list_of, delimiter_of, level_of, titled, with_colon}
+use Rattle.cmark_block_model.proofs.Flags.{or-false, same-delimiter, fresh, longer, item_list, in_item, after_item, blank_after, parted_after, or-assoc, colon-same, in_definition, after_definition}
 use Rattle.cmark_block_model.proofs.Split.{Split, end_or, lone, item_split, leaf_raw, split, title_split}
 use Rattle.std.specs.Prelude.{if◌then◌else◌}
 use Rattle.cmark_grammar.specs.Derivation.{list_kind}
@@ -26,7 +26,7 @@ use Rattle.cmark_grammar.specs.Derivation.{list_kind}
 -- the drawing of a level: if a list is open, its node is open
 abbrev pub drawing_at : Stand → OpenNode → BlockDocument → List OpenNode → Drawing
 drawing_at First v here up = record { here = here; up = up }
-drawing_at Behind v here up = record { here = here; up = up }
+drawing_at Following v here up = record { here = here; up = up }
 drawing_at (InList o) v here up = record { here = here; up = v ∷ up }
 
 -- the list closed
@@ -36,7 +36,7 @@ finished l = ended l.inner l.drawing
 -- the drawing when the level is closed, if the list is that loose from here on, and these items and this document are to come
 abbrev pub completed : Stand → OpenNode → BlockDocument → List OpenNode → (loose : Bool) → Split → Drawing
 completed First v here up loose s = record { here = join here s.after; up = up }
-completed Behind v here up loose s = record { here = join here s.after; up = up }
+completed Following v here up loose s = record { here = join here s.after; up = up }
 completed (InList o) v here up loose s = record {
   here = join v.left (Node (node (list_kind o.delimiter o.number (not (o.loose || loose))) v.node.start (end_or o.end s.end)) (join here s.items) s.after);
   up = up;
@@ -44,29 +44,29 @@ completed (InList o) v here up loose s = record {
 
 abbrev pub loose_at : Stand → (blank : Bool) → Blocks → Bool
 loose_at First blank b = false
-loose_at Behind blank b = false
+loose_at Following blank b = false
 loose_at (InList o) blank b = loose_from o.delimiter blank b
 
 -- closed at once
 list-done : (s : Stand) (v : OpenNode) (here : BlockDocument) (up : List OpenNode) → list_closed (list_of s) (drawing_at s v here up) ≡ completed s v here up false (lone Nil)
 list-done First v here up = ap (λ h. record { here = h; up = up }) (sym (join-nil here))
-list-done Behind v here up = ap (λ h. record { here = h; up = up }) (sym (join-nil here))
+list-done Following v here up = ap (λ h. record { here = h; up = up }) (sym (join-nil here))
 list-done (InList o) v here up =
     ap (λ z. record { here = join v.left (Node (node (list_kind o.delimiter o.number (not z)) v.node.start o.end) here Nil); up = up }) (sym (or-false o.loose))
     ∙ ap (λ h. record { here = join v.left (Node (node (list_kind o.delimiter o.number (not (o.loose || false))) v.node.start o.end) h Nil); up = up }) (sym (join-nil here))
 
 -- the same with further nodes after it
-drawn-behind : (s : Stand) (v : OpenNode) (here : BlockDocument) (up : List OpenNode) (d : BlockDocument) → drawn d (completed s v here up false (lone Nil)) ≡ completed s v here up false (lone d)
-drawn-behind First v here up d = ap (λ h. record { here = join h d; up = up }) (join-nil here)
-drawn-behind Behind v here up d = ap (λ h. record { here = join h d; up = up }) (join-nil here)
-drawn-behind (InList o) v here up d =
+drawn-following : (s : Stand) (v : OpenNode) (here : BlockDocument) (up : List OpenNode) (d : BlockDocument) → drawn d (completed s v here up false (lone Nil)) ≡ completed s v here up false (lone d)
+drawn-following First v here up d = ap (λ h. record { here = join h d; up = up }) (join-nil here)
+drawn-following Following v here up d = ap (λ h. record { here = join h d; up = up }) (join-nil here)
+drawn-following (InList o) v here up d =
     ap (λ h. record { here = h; up = up }) (join-assoc v.left (Node (node (list_kind o.delimiter o.number (not (o.loose || false))) v.node.start o.end) (join here Nil) Nil) d)
 
 drawn-twice : (a b : BlockDocument) (d : Drawing) → drawn b (drawn a d) ≡ drawn (join a b) d
 drawn-twice a b d = ap (λ h. record { here = h; up = d.up }) (join-assoc d.here a b)
 
 drawn-done : (s : Stand) (v : OpenNode) (here : BlockDocument) (up : List OpenNode) (d : BlockDocument) → drawn d (list_closed (list_of s) (drawing_at s v here up)) ≡ completed s v here up false (lone d)
-drawn-done s v here up d = ap (drawn d) (list-done s v here up) ∙ drawn-behind s v here up d
+drawn-done s v here up d = ap (drawn d) (list-done s v here up) ∙ drawn-following s v here up d
 
 -- the last sibling, and those before it
 last-join : (d : BlockDocument) (n : BlockNode) (i : BlockDocument) → last_of (join d (Node n i Nil)) ≡ Node n i Nil
@@ -114,22 +114,22 @@ module _ (text : List ℕ) (options : Options) (lookup : Lookup) where
       → finished (replay text options lookup b (level_of s (drawing_at s v here up) blank p rs)) ≡ completed s v here up (loose_at s blank b) (split text options lookup (delimiter_of s) b)
 
   -- after a block that is not an item
-  behind : (b : Blocks) → Draws b → (d : Drawing) (blank p : Bool) (rs : Noted) → finished (replay text options lookup b (level_of Behind d blank p rs)) ≡ drawn (split text options lookup None b).after d
-  behind b h d blank p rs = h Behind (record { left = Nil; node = node document.Paragraph 0 0 }) d.here d.up blank p rs
+  following : (b : Blocks) → Draws b → (d : Drawing) (blank p : Bool) (rs : Noted) → finished (replay text options lookup b (level_of Following d blank p rs)) ≡ drawn (split text options lookup None b).after d
+  following b h d blank p rs = h Following (record { left = Nil; node = node document.Paragraph 0 0 }) d.here d.up blank p rs
 
   inside-draws : (b : Blocks) → Draws b → (d : Drawing) (rs : Noted) → finished (replay text options lookup b (level_of First d false false rs)) ≡ drawn (split text options lookup None b).after d
   inside-draws b h d rs = h First (record { left = Nil; node = node document.Paragraph 0 0 }) d.here d.up false false rs
 
   loose-none : (s : Stand) (blank : Bool) (b : Blocks) → ((delimiter : ℕ) → loose_from delimiter blank b ≡ false) → loose_at s blank b ≡ false
   loose-none First blank b h = refl
-  loose-none Behind blank b h = refl
+  loose-none Following blank b h = refl
   loose-none (InList o) blank b h = h o.delimiter
 
   -- a block that is no item
   alone : (after : Blocks) → Draws after → (s : Stand) (v : OpenNode) (here : BlockDocument) (up : List OpenNode) (n : BlockDocument) (d : Drawing) (p : Bool) (rs : Noted) → d ≡ drawn n (list_closed (list_of s) (drawing_at s v here up))
-      → (z : Bool) → z ≡ false → (blank : Bool) → finished (replay text options lookup after (level_of Behind d blank p rs)) ≡ completed s v here up z (lone (join n (split text options lookup None after).after))
+      → (z : Bool) → z ≡ false → (blank : Bool) → finished (replay text options lookup after (level_of Following d blank p rs)) ≡ completed s v here up z (lone (join n (split text options lookup None after).after))
   alone after ih s v here up n d p rs e z f blank =
-      behind after ih d blank p rs ∙ ap (drawn (split text options lookup None after).after) e
+      following after ih d blank p rs ∙ ap (drawn (split text options lookup None after).after) e
       ∙ drawn-twice n (split text options lookup None after).after (list_closed (list_of s) (drawing_at s v here up))
       ∙ drawn-done s v here up (join n (split text options lookup None after).after)
       ∙ ap (λ y. completed s v here up y (lone (join n (split text options lookup None after).after))) (sym f)
@@ -156,19 +156,19 @@ module _ (text : List ℕ) (options : Options) (lookup : Lookup) where
 
   -- after an item of this list
   item-draws : (inside after : Blocks) → Draws inside → Draws after → (start line_end : ℕ) (marker : BlockDocument) (o : OpenList) (v : OpenNode) (here : BlockDocument) (up : List OpenNode) (p : Bool) (rs : Noted)
-      → finished (replay text options lookup after (behind_item text options lookup document.ListItem start line_end marker inside o (record { here = here; up = v ∷ up }) p rs))
+      → finished (replay text options lookup after (after_item text options lookup document.ListItem start line_end marker inside o (record { here = here; up = v ∷ up }) p rs))
       ≡ completed (InList (item_list o (is_parted_item inside) line_end)) v (join here (Node (node document.ListItem start line_end) (join marker (split text options lookup None inside).after) Nil)) up (loose_from o.delimiter (ends_blank true false inside) after) (split text options lookup (Some o.delimiter) after)
   item-draws inside after di da start line_end marker o v here up p rs =
       let i = replay text options lookup inside (in_item text options lookup document.ListItem start marker (record { here = here; up = v ∷ up }) rs) in
       let item : BlockDocument = Node (node document.ListItem start line_end) (join marker (split text options lookup None inside).after) Nil in
       ap (λ d. finished (replay text options lookup after (level_of (InList (item_list o i.inner.parted line_end)) (closed_at line_end d) i.inner.blank p i.noted))) (inside-draws inside di (drawn marker (opened start document.ListItem (record { here = here; up = v ∷ up }))) rs)
-      ∙ ap (λ z. finished (replay text options lookup after (level_of (InList (item_list o z line_end)) (record { here = join here item; up = v ∷ up }) i.inner.blank p i.noted))) ((parted_behind text options lookup inside).0 First (drawn marker (opened start document.ListItem (record { here = here; up = v ∷ up }))) false false rs)
-      ∙ ap (λ z. finished (replay text options lookup after (level_of (InList (item_list o (is_parted_item inside) line_end)) (record { here = join here item; up = v ∷ up }) z p i.noted))) ((blank_behind text options lookup inside).0 First (drawn marker (opened start document.ListItem (record { here = here; up = v ∷ up }))) false false rs)
+      ∙ ap (λ z. finished (replay text options lookup after (level_of (InList (item_list o z line_end)) (record { here = join here item; up = v ∷ up }) i.inner.blank p i.noted))) ((parted_after text options lookup inside).0 First (drawn marker (opened start document.ListItem (record { here = here; up = v ∷ up }))) false false rs)
+      ∙ ap (λ z. finished (replay text options lookup after (level_of (InList (item_list o (is_parted_item inside) line_end)) (record { here = join here item; up = v ∷ up }) z p i.noted))) ((blank_after text options lookup inside).0 First (drawn marker (opened start document.ListItem (record { here = here; up = v ∷ up }))) false false rs)
       ∙ da (InList (item_list o (is_parted_item inside) line_end)) v (join here item) up (ends_blank true false inside) p i.noted
 
   -- an item that begins a list
   new-draws : (delimiter : ℕ) (number : Option ℕ) (inside after : Blocks) → Draws inside → Draws after → (start line_end : ℕ) (marker : BlockDocument) (s : Stand) (v : OpenNode) (here : BlockDocument) (up : List OpenNode) (p : Bool) (rs : Noted) (z : Bool) → z ≡ false
-      → finished (replay text options lookup after (behind_item text options lookup document.ListItem start line_end marker inside (fresh delimiter number start) (opened start (list_kind delimiter number false) (list_closed (list_of s) (drawing_at s v here up))) p rs))
+      → finished (replay text options lookup after (after_item text options lookup document.ListItem start line_end marker inside (fresh delimiter number start) (opened start (list_kind delimiter number false) (list_closed (list_of s) (drawing_at s v here up))) p rs))
       ≡ completed s v here up z (item_split false (list_kind delimiter number (is_tight delimiter inside after)) document.ListItem start line_end (join marker (split text options lookup None inside).after) (split text options lookup (Some delimiter) after))
   new-draws delimiter number inside after di da start line_end marker s v here up p rs z f =
       let d = list_closed (list_of s) (drawing_at s v here up) in
@@ -178,19 +178,19 @@ module _ (text : List ℕ) (options : Options) (lookup : Lookup) where
 
   -- after a definition of this list
   definition-draws : (inside after : Blocks) → Draws inside → Draws after → (start line_end : ℕ) (o : OpenList) (v : OpenNode) (here : BlockDocument) (up : List OpenNode) (p : Bool) (rs : Noted)
-      → finished (replay text options lookup after (behind_definition text options lookup start line_end inside o (record { here = here; up = v ∷ up }) p rs))
+      → finished (replay text options lookup after (after_definition text options lookup start line_end inside o (record { here = here; up = v ∷ up }) p rs))
       ≡ completed (InList (item_list o (is_parted_item inside) line_end)) v (join here (Node (node document.DefinitionListDefinition start line_end) (split text options lookup None inside).after Nil)) up (loose_from o.delimiter (ends_blank true false inside) after) (split text options lookup (Some o.delimiter) after)
   definition-draws inside after di da start line_end o v here up p rs =
       let i = replay text options lookup inside (in_definition text options lookup start (record { here = here; up = v ∷ up }) rs) in
       let item : BlockDocument = Node (node document.DefinitionListDefinition start line_end) (split text options lookup None inside).after Nil in
       ap (λ d. finished (replay text options lookup after (level_of (InList (item_list o i.inner.parted line_end)) (closed_at line_end d) i.inner.blank p i.noted))) (inside-draws inside di (opened start document.DefinitionListDefinition (record { here = here; up = v ∷ up })) rs)
-      ∙ ap (λ z. finished (replay text options lookup after (level_of (InList (item_list o z line_end)) (record { here = join here item; up = v ∷ up }) i.inner.blank p i.noted))) ((parted_behind text options lookup inside).0 First (opened start document.DefinitionListDefinition (record { here = here; up = v ∷ up })) false false rs)
-      ∙ ap (λ z. finished (replay text options lookup after (level_of (InList (item_list o (is_parted_item inside) line_end)) (record { here = join here item; up = v ∷ up }) z p i.noted))) ((blank_behind text options lookup inside).0 First (opened start document.DefinitionListDefinition (record { here = here; up = v ∷ up })) false false rs)
+      ∙ ap (λ z. finished (replay text options lookup after (level_of (InList (item_list o z line_end)) (record { here = join here item; up = v ∷ up }) i.inner.blank p i.noted))) ((parted_after text options lookup inside).0 First (opened start document.DefinitionListDefinition (record { here = here; up = v ∷ up })) false false rs)
+      ∙ ap (λ z. finished (replay text options lookup after (level_of (InList (item_list o (is_parted_item inside) line_end)) (record { here = join here item; up = v ∷ up }) z p i.noted))) ((blank_after text options lookup inside).0 First (opened start document.DefinitionListDefinition (record { here = here; up = v ∷ up })) false false rs)
       ∙ da (InList (item_list o (is_parted_item inside) line_end)) v (join here item) up (ends_blank true false inside) p i.noted
 
   -- a definition without a title begins a list
   new-definition : (inside after : Blocks) → Draws inside → Draws after → (start line_end : ℕ) (s : Stand) (v : OpenNode) (here : BlockDocument) (up : List OpenNode) (p : Bool) (rs : Noted) (z : Bool) → z ≡ false
-      → finished (replay text options lookup after (behind_definition text options lookup start line_end inside (fresh definition_delimiter None start) (opened start (list_kind definition_delimiter None false) (list_closed (list_of s) (drawing_at s v here up))) p rs))
+      → finished (replay text options lookup after (after_definition text options lookup start line_end inside (fresh definition_delimiter None start) (opened start (list_kind definition_delimiter None false) (list_closed (list_of s) (drawing_at s v here up))) p rs))
       ≡ completed s v here up z (item_split false (document.DefinitionList (is_tight definition_delimiter inside after)) document.DefinitionListDefinition start line_end (split text options lookup None inside).after (split text options lookup (Some definition_delimiter) after))
   new-definition inside after di da start line_end s v here up p rs z f =
       let d = list_closed (list_of s) (drawing_at s v here up) in
@@ -199,8 +199,8 @@ module _ (text : List ℕ) (options : Options) (lookup : Lookup) where
       ∙ drawn-done s v here up t.after ∙ ap (λ y. completed s v here up y t) (sym f)
 
   -- the drawing of these blocks after a paragraph, if no definition list is open, and if the paragraph is in one
-  abbrev pub DrawsBehind : Blocks → Type 0
-  DrawsBehind b =
+  abbrev pub DrawsAfter : Blocks → Type 0
+  DrawsAfter b =
       (here : BlockDocument) (up : List OpenNode) (start line_end : ℕ) (tokens : BlockDocument) (blank p q : Bool) (rs : Noted)
       → finished (replay text options lookup b (titled None (record { here = join here (Node (node document.Paragraph start line_end) tokens Nil); up = up }) blank p q rs))
       ≡ record { here = join here (title_split (is_title b) false (document.DefinitionList (not (loose_from definition_delimiter blank b))) start line_end tokens (split text options lookup (Some definition_delimiter) b) (split text options lookup None b).after).after; up = up }
@@ -212,14 +212,14 @@ module _ (text : List ℕ) (options : Options) (lookup : Lookup) where
       ≡ completed (InList (with_colon o)) v here up (is_title b && loose_from definition_delimiter blank b) (title_split (is_title b) true (document.DefinitionList (not (loose_from definition_delimiter blank b))) start line_end tokens (split text options lookup (Some definition_delimiter) b) (split text options lookup None b).after)
 
   -- other blocks than definitions leave the paragraph as it is
-  other-behind : (b : Blocks) → Draws b → is_title b ≡ false → ((d : Drawing) (blank p q : Bool) (rs : Noted) → finished (replay text options lookup b (titled None d blank p q rs)) ≡ finished (replay text options lookup b (level_of Behind d blank p rs))) → DrawsBehind b
-  other-behind b db e same here up start line_end tokens blank p q rs =
+  other-following : (b : Blocks) → Draws b → is_title b ≡ false → ((d : Drawing) (blank p q : Bool) (rs : Noted) → finished (replay text options lookup b (titled None d blank p q rs)) ≡ finished (replay text options lookup b (level_of Following d blank p rs))) → DrawsAfter b
+  other-following b db e same here up start line_end tokens blank p q rs =
       let n : BlockDocument = Node (node document.Paragraph start line_end) tokens Nil in
-      same (record { here = join here n; up = up }) blank p q rs ∙ behind b db (record { here = join here n; up = up }) blank p rs
+      same (record { here = join here n; up = up }) blank p q rs ∙ following b db (record { here = join here n; up = up }) blank p rs
       ∙ ap (λ h. record { here = h; up = up }) (join-assoc here n (split text options lookup None b).after)
       ∙ ap (λ z. record { here = join here (title_split z false (document.DefinitionList (not (loose_from definition_delimiter blank b))) start line_end tokens (split text options lookup (Some definition_delimiter) b) (split text options lookup None b).after).after; up = up }) (sym e)
 
-  other-inside : (b : Blocks) → Draws b → is_title b ≡ false → ((o : OpenList) (d : Drawing) (blank p q : Bool) (rs : Noted) → finished (replay text options lookup b (titled (Some o) d blank p q rs)) ≡ finished (replay text options lookup b (level_of Behind (released (list_kind o.delimiter o.number (not o.loose)) o.end d) blank p rs))) → DrawsInside b
+  other-inside : (b : Blocks) → Draws b → is_title b ≡ false → ((o : OpenList) (d : Drawing) (blank p q : Bool) (rs : Noted) → finished (replay text options lookup b (titled (Some o) d blank p q rs)) ≡ finished (replay text options lookup b (level_of Following (released (list_kind o.delimiter o.number (not o.loose)) o.end d) blank p rs))) → DrawsInside b
   other-inside b db e same o v here up start line_end tokens blank p q rs =
       let n = node document.Paragraph start line_end in
       same (with_colon o) (record { here = join here (Node n tokens Nil); up = v ∷ up }) blank p q rs
@@ -227,12 +227,12 @@ module _ (text : List ℕ) (options : Options) (lookup : Lookup) where
       ∙ ap (λ z. completed (InList (with_colon o)) v here up (z && loose_from definition_delimiter blank b) (title_split z true (document.DefinitionList (not (loose_from definition_delimiter blank b))) start line_end tokens (split text options lookup (Some definition_delimiter) b) (split text options lookup None b).after)) (sym e)
 
   -- a definition makes it a title
-  definition-behind : (inside after : Blocks) → Draws inside → Draws after → (width : ℕ) (first : Row) (more : List Row) → DrawsBehind (ContainerBlock (ListDefinition width) first more inside after)
-  definition-behind inside after di da width first more here up start line_end tokens blank p q rs =
+  definition-following : (inside after : Blocks) → Draws inside → Draws after → (width : ℕ) (first : Row) (more : List Row) → DrawsAfter (ContainerBlock (ListDefinition width) first more inside after)
+  definition-following inside after di da width first more here up start line_end tokens blank p q rs =
       let l = loose_from definition_delimiter (ends_blank true false inside) after in
       let t = split text options lookup (Some definition_delimiter) after in
       let o : OpenList = record { delimiter = definition_delimiter; number = None; loose = blank; end = begin_of first } in
-      ap (λ d. finished (replay text options lookup after (behind_definition text options lookup (begin_of first) (last_line_end first more) inside o d p rs))) (enclosed-drawn (document.DefinitionList false) document.DefinitionListTitle (node document.Paragraph start line_end) tokens here up)
+      ap (λ d. finished (replay text options lookup after (after_definition text options lookup (begin_of first) (last_line_end first more) inside o d p rs))) (enclosed-drawn (document.DefinitionList false) document.DefinitionListTitle (node document.Paragraph start line_end) tokens here up)
       ∙ definition-draws inside after di da (begin_of first) (last_line_end first more) o (record { left = here; node = node (document.DefinitionList false) start start }) (Node (node document.DefinitionListTitle start line_end) tokens Nil) up p rs
       ∙ ap (λ z. record { here = join here (Node (node (document.DefinitionList (not z)) start (end_or (last_line_end first more) t.end)) (Node (node document.DefinitionListTitle start line_end) tokens (Node (node document.DefinitionListDefinition (begin_of first) (last_line_end first more)) (split text options lookup None inside).after t.items)) t.after); up = up }) (or-assoc blank (is_parted_item inside) l)
 
@@ -242,7 +242,7 @@ module _ (text : List ℕ) (options : Options) (lookup : Lookup) where
       let t = split text options lookup (Some definition_delimiter) after in
       let title : BlockDocument = Node (node document.DefinitionListTitle start line_end) tokens Nil in
       let item : BlockDocument = Node (node document.DefinitionListDefinition (begin_of first) (last_line_end first more)) (split text options lookup None inside).after Nil in
-      ap (λ d. finished (replay text options lookup after (behind_definition text options lookup (begin_of first) (last_line_end first more) inside (longer (with_colon o) blank) d q rs))) (retitled-drawn document.DefinitionListTitle (node document.Paragraph start line_end) tokens here (v ∷ up))
+      ap (λ d. finished (replay text options lookup after (after_definition text options lookup (begin_of first) (last_line_end first more) inside (longer (with_colon o) blank) d q rs))) (retitled-drawn document.DefinitionListTitle (node document.Paragraph start line_end) tokens here (v ∷ up))
       ∙ definition-draws inside after di da (begin_of first) (last_line_end first more) (longer (with_colon o) blank) v (join here title) up q rs
       ∙ ap (λ z. record { here = join v.left (Node (node (document.DefinitionList (not z)) v.node.start (end_or (last_line_end first more) t.end)) (join (join (join here title) item) t.items) t.after); up = up }) (loose o.loose blank (is_parted_item inside) l true refl)
       ∙ ap (λ i. record { here = join v.left (Node (node (document.DefinitionList (not (o.loose || (blank || (is_parted_item inside || l))))) v.node.start (end_or (last_line_end first more) t.end)) i t.after); up = up }) (ap (λ h. join h t.items) (join-assoc here title item) ∙ join-assoc here (join title item) t.items)
@@ -268,11 +268,11 @@ module _ (text : List ℕ) (options : Options) (lookup : Lookup) where
 
       go : (s : Stand) → finished (replay text options lookup (ContainerBlock (ListDefinition width) first more inside after) (level_of s (drawing_at s v here up) blank p rs)) ≡ completed s v here up (loose_at s blank (ContainerBlock (ListDefinition width) first more inside after)) (split text options lookup (delimiter_of s) (ContainerBlock (ListDefinition width) first more inside after))
       go First = new-definition inside after di da (begin_of first) (last_line_end first more) First v here up (p || blank) rs false refl
-      go Behind = new-definition inside after di da (begin_of first) (last_line_end first more) Behind v here up (p || blank) rs false refl
+      go Following = new-definition inside after di da (begin_of first) (last_line_end first more) Following v here up (p || blank) rs false refl
       go (InList o) = same (o.delimiter == definition_delimiter) o refl
 
   -- a paragraph, which a definition after it may make a title
-  paragraph-at : (after : Blocks) → DrawsBehind after → DrawsInside after → (first : Row) (more : List Row) → Draws (Paragraph first more after)
+  paragraph-at : (after : Blocks) → DrawsAfter after → DrawsInside after → (first : Row) (more : List Row) → Draws (Paragraph first more after)
   paragraph-at after db di first more s v here up blank p rs = go s
     where
       start : ℕ
@@ -306,7 +306,7 @@ module _ (text : List ℕ) (options : Options) (lookup : Lookup) where
 
       go : (s : Stand) → finished (replay text options lookup (Paragraph first more after) (level_of s (drawing_at s v here up) blank p rs)) ≡ completed s v here up (loose_at s blank (Paragraph first more after)) (split text options lookup (delimiter_of s) (Paragraph first more after))
       go First = db here up start line_end tokens false (p || blank) p rs
-      go Behind = db here up start line_end tokens false (p || blank) p rs
+      go Following = db here up start line_end tokens false (p || blank) p rs
       go (InList o) = list (o.delimiter == definition_delimiter) o refl
 
   item-at : (inside after : Blocks) → Draws inside → Draws after → (delimiter : ℕ) (number : Option ℕ) (width : ℕ) (task : Option Bool) (first : Row) (more : List Row) → Draws (ContainerBlock (Item delimiter number width task) first more inside after)
@@ -329,35 +329,35 @@ module _ (text : List ℕ) (options : Options) (lookup : Lookup) where
 
       go : (s : Stand) → Draws inside → Draws after → finished (replay text options lookup (ContainerBlock (Item delimiter number width task) first more inside after) (level_of s (drawing_at s v here up) blank p rs)) ≡ completed s v here up (loose_at s blank (ContainerBlock (Item delimiter number width task) first more inside after)) (split text options lookup (delimiter_of s) (ContainerBlock (Item delimiter number width task) first more inside after))
       go First di da = new-draws delimiter number inside after di da (begin_of first) (last_line_end first more) (marked task width first Nil) First v here up (p || blank) rs false refl
-      go Behind di da = new-draws delimiter number inside after di da (begin_of first) (last_line_end first more) (marked task width first Nil) Behind v here up (p || blank) rs false refl
+      go Following di da = new-draws delimiter number inside after di da (begin_of first) (last_line_end first more) (marked task width first Nil) Following v here up (p || blank) rs false refl
       go (InList o) di da = same di da (o.delimiter == delimiter) o refl
 
   heading-released : (s : Stand) (v : OpenNode) (here : BlockDocument) (up : List OpenNode) (blank p : Bool) (rs : Noted) (n : BlockNode) (i : BlockDocument)
-      → untitled (level_drawn (Node n i Nil) (paragraph_begun (level_of s (drawing_at s v here up) blank p rs))) ≡ level_of Behind (drawn (Node n i Nil) (list_closed (list_of s) (drawing_at s v here up))) false (p || blank) rs
+      → untitled (level_drawn (Node n i Nil) (paragraph_begun (level_of s (drawing_at s v here up) blank p rs))) ≡ level_of Following (drawn (Node n i Nil) (list_closed (list_of s) (drawing_at s v here up))) false (p || blank) rs
   heading-released First v here up blank p rs n i = refl
-  heading-released Behind v here up blank p rs n i = refl
+  heading-released Following v here up blank p rs n i = refl
   heading-released (InList o) v here up blank p rs n i = go (o.delimiter == definition_delimiter)
     where
-      go : (z : Bool) → level_of Behind (released_from (if z then Some o else None) (drawn (Node n i Nil) (ended_but (if z then Some o else None) (level_of (InList o) (record { here = here; up = v ∷ up }) blank p rs).inner (record { here = here; up = v ∷ up })))) false (p || blank) rs
-          ≡ level_of Behind (drawn (Node n i Nil) (list_closed (Some o) (record { here = here; up = v ∷ up }))) false (p || blank) rs
-      go true = ap (λ d. level_of Behind d false (p || blank) rs) (released-drawn (list_kind o.delimiter o.number (not o.loose)) o.end n i here (v ∷ up))
+      go : (z : Bool) → level_of Following (released_from (if z then Some o else None) (drawn (Node n i Nil) (ended_but (if z then Some o else None) (level_of (InList o) (record { here = here; up = v ∷ up }) blank p rs).inner (record { here = here; up = v ∷ up })))) false (p || blank) rs
+          ≡ level_of Following (drawn (Node n i Nil) (list_closed (Some o) (record { here = here; up = v ∷ up }))) false (p || blank) rs
+      go true = ap (λ d. level_of Following d false (p || blank) rs) (released-drawn (list_kind o.delimiter o.number (not o.loose)) o.end n i here (v ∷ up))
       go false = refl
 
   -- the drawing of these blocks
   abbrev pub DrawsAll : Blocks → Type 0
-  DrawsAll b = Draws b × DrawsBehind b × DrawsInside b
+  DrawsAll b = Draws b × DrawsAfter b × DrawsInside b
 
-  others : (b : Blocks) → Draws b → is_title b ≡ false → ((d : Drawing) (blank p q : Bool) (rs : Noted) → finished (replay text options lookup b (titled None d blank p q rs)) ≡ finished (replay text options lookup b (level_of Behind d blank p rs)))
-      → ((o : OpenList) (d : Drawing) (blank p q : Bool) (rs : Noted) → finished (replay text options lookup b (titled (Some o) d blank p q rs)) ≡ finished (replay text options lookup b (level_of Behind (released (list_kind o.delimiter o.number (not o.loose)) o.end d) blank p rs))) → DrawsAll b
-  others b d e same0 same1 = (d, other-behind b d e same0, other-inside b d e same1)
+  others : (b : Blocks) → Draws b → is_title b ≡ false → ((d : Drawing) (blank p q : Bool) (rs : Noted) → finished (replay text options lookup b (titled None d blank p q rs)) ≡ finished (replay text options lookup b (level_of Following d blank p rs)))
+      → ((o : OpenList) (d : Drawing) (blank p q : Bool) (rs : Noted) → finished (replay text options lookup b (titled (Some o) d blank p q rs)) ≡ finished (replay text options lookup b (level_of Following (released (list_kind o.delimiter o.number (not o.loose)) o.end d) blank p rs))) → DrawsAll b
+  others b d e same0 same1 = (d, other-following b d e same0, other-inside b d e same1)
 
   pub draws-all : (b : Blocks) → DrawsAll b
   draws-all NoBlocks = others NoBlocks (λ s v here up blank p rs. list-done s v here up ∙ ap (λ z. completed s v here up z (lone Nil)) (sym (loose-none s blank NoBlocks (λ delimiter. refl)))) refl (λ d blank p q rs. refl) (λ o d blank p q rs. refl)
   draws-all (BlankLine line after) = let a = draws-all after in (at a.0, λ here up start line_end tokens blank p q rs. a.1 here up start line_end tokens true p q rs, λ o v here up start line_end tokens blank p q rs. a.2 o v here up start line_end tokens true p q rs)
     where
       at : Draws after → Draws (BlankLine line after)
-      at a First v here up blank p rs = a Behind v here up false p rs
-      at a Behind v here up blank p rs = a Behind v here up true p rs
+      at a First v here up blank p rs = a Following v here up false p rs
+      at a Following v here up blank p rs = a Following v here up true p rs
       at a (InList o) v here up blank p rs = a (InList o) v here up true p rs
   draws-all (Paragraph first more after) =
       let a = draws-all after in
@@ -398,7 +398,7 @@ module _ (text : List ℕ) (options : Options) (lookup : Lookup) where
   draws-all (ContainerBlock (ListDefinition width) first more inside after) =
       let i = draws-all inside in
       let a = draws-all after in
-      (definition-at inside after i.0 a.0 width first more, definition-behind inside after i.0 a.0 width first more, definition-inside inside after i.0 a.0 width first more)
+      (definition-at inside after i.0 a.0 width first more, definition-following inside after i.0 a.0 width first more, definition-inside inside after i.0 a.0 width first more)
 
   pub draws : (b : Blocks) → Draws b
   draws b = (draws-all b).0

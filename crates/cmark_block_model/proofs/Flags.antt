@@ -11,7 +11,7 @@ use Rattle.cmark_grammar.specs.BlockDocument.{BlockDocument, BlockKind}
 use Rattle.cmark_block_model.specs.Drawing.{Drawing, drawn, opened, closed_at, enclosed, retitled}
 use Rattle.cmark_block_model.specs.OpenBlocks.{OpenList, no_siblings}
 use Rattle.cmark_block_model.proofs.Replay.{Noted, Level, item_if, level_opened, level_drawn, marked, left_by, replay}
-use Rattle.cmark_block_model.proofs.Standing.{Stand, First, Behind, InList, front_of, before_of, level_of, titled, with_colon, colon}
+use Rattle.cmark_block_model.proofs.Standing.{Stand, First, Following, InList, front_of, before_of, level_of, titled, with_colon, colon}
 use Rattle.cmark_block_model.specs.BlockPass.{list_closed, ended, released_from}
 use Rattle.std.specs.Prelude.{if◌then◌else◌}
 use Rattle.cmark_grammar.specs.Derivation.{list_kind}
@@ -57,8 +57,8 @@ module _ (text : List ℕ) (options : Options) (lookup : Lookup) where
   abbrev pub in_item : (kind : BlockKind) → (start : ℕ) → (marker : BlockDocument) → Drawing → Noted → Level
   in_item kind start marker d rs = level_of First (drawn marker (opened start kind d)) false false rs
 
-  abbrev pub behind_item : (kind : BlockKind) → (start line_end : ℕ) (marker : BlockDocument) (inside : Blocks) → OpenList → Drawing → (parted : Bool) → Noted → Level
-  behind_item kind start line_end marker inside o d p rs =
+  abbrev pub after_item : (kind : BlockKind) → (start line_end : ℕ) (marker : BlockDocument) (inside : Blocks) → OpenList → Drawing → (parted : Bool) → Noted → Level
+  after_item kind start line_end marker inside o d p rs =
       let i = replay text options lookup inside (in_item kind start marker d rs) in
       level_of (InList (item_list o i.inner.parted line_end)) (closed_at line_end (ended i.inner i.drawing)) i.inner.blank p i.noted
 
@@ -66,8 +66,8 @@ module _ (text : List ℕ) (options : Options) (lookup : Lookup) where
   abbrev pub in_definition : (start : ℕ) → Drawing → Noted → Level
   in_definition start d rs = level_of First (opened start document.DefinitionListDefinition d) false false rs
 
-  abbrev pub behind_definition : (start line_end : ℕ) (inside : Blocks) → OpenList → Drawing → (parted : Bool) → Noted → Level
-  behind_definition start line_end inside o d p rs =
+  abbrev pub after_definition : (start line_end : ℕ) (inside : Blocks) → OpenList → Drawing → (parted : Bool) → Noted → Level
+  after_definition start line_end inside o d p rs =
       let i = replay text options lookup inside (in_definition start d rs) in
       level_of (InList (item_list o i.inner.parted line_end)) (closed_at line_end (ended i.inner i.drawing)) i.inner.blank p i.noted
 
@@ -79,14 +79,14 @@ module _ (text : List ℕ) (options : Options) (lookup : Lookup) where
 
   -- a definition after a title, after another definition, or after neither
   definition-blank : (first : Row) (more : List Row) (inside after : Blocks) (width : ℕ) → KnowsBlank inside → KnowsBlank after → KnowsBlank (ContainerBlock (ListDefinition width) first more inside after)
-  definition-blank first more inside after width i a = (at, behind)
+  definition-blank first more inside after width i a = (at, following)
     where
-      one : (o1 : OpenList) (d1 : Drawing) (p1 : Bool) (rs1 : Noted) → (replay text options lookup after (behind_definition (begin_of first) (last_line_end first more) inside o1 d1 p1 rs1)).inner.blank ≡ ends_blank false (ends_blank true false inside) after
+      one : (o1 : OpenList) (d1 : Drawing) (p1 : Bool) (rs1 : Noted) → (replay text options lookup after (after_definition (begin_of first) (last_line_end first more) inside o1 d1 p1 rs1)).inner.blank ≡ ends_blank false (ends_blank true false inside) after
       one o1 d1 p1 rs1 = a.0 (InList _) _ _ p1 _ ∙ ap (λ z. ends_blank false z after) (i.0 First _ false false rs1)
 
-      behind : (o : Option OpenList) (d : Drawing) (blank p q : Bool) (rs : Noted) → (replay text options lookup (ContainerBlock (ListDefinition width) first more inside after) (titled o d blank p q rs)).inner.blank ≡ ends_blank false (ends_blank true false inside) after
-      behind None d blank p q rs = one (record { delimiter = definition_delimiter; number = None; loose = blank; end = begin_of first }) (enclosed (document.DefinitionList false) document.DefinitionListTitle d) p rs
-      behind (Some o) d blank p q rs = one (longer o blank) (retitled document.DefinitionListTitle d) q rs
+      following : (o : Option OpenList) (d : Drawing) (blank p q : Bool) (rs : Noted) → (replay text options lookup (ContainerBlock (ListDefinition width) first more inside after) (titled o d blank p q rs)).inner.blank ≡ ends_blank false (ends_blank true false inside) after
+      following None d blank p q rs = one (record { delimiter = definition_delimiter; number = None; loose = blank; end = begin_of first }) (enclosed (document.DefinitionList false) document.DefinitionListTitle d) p rs
+      following (Some o) d blank p q rs = one (longer o blank) (retitled document.DefinitionListTitle d) q rs
 
       same : (z : Bool) (o : OpenList) (d : Drawing) (blank p : Bool) (rs : Noted) → (replay text options lookup after (left_by (ListDefinition width) (item_if z definition_delimiter None (begin_of first) o (level_of (InList o) d blank p rs)).inner (last_line_end first more)
           (replay text options lookup inside (record (level_opened (begin_of first) document.DefinitionListDefinition (item_if z definition_delimiter None (begin_of first) o (level_of (InList o) d blank p rs))) { inner = no_siblings })))).inner.blank ≡ ends_blank false (ends_blank true false inside) after
@@ -95,17 +95,17 @@ module _ (text : List ℕ) (options : Options) (lookup : Lookup) where
 
       at : (s : Stand) (d : Drawing) (blank p : Bool) (rs : Noted) → (replay text options lookup (ContainerBlock (ListDefinition width) first more inside after) (level_of s d blank p rs)).inner.blank ≡ ends_blank false (ends_blank true false inside) after
       at First d blank p rs = one (fresh definition_delimiter None (begin_of first)) (opened (begin_of first) (list_kind definition_delimiter None false) d) (p || blank) rs
-      at Behind d blank p rs = one (fresh definition_delimiter None (begin_of first)) (opened (begin_of first) (list_kind definition_delimiter None false) d) (p || blank) rs
+      at Following d blank p rs = one (fresh definition_delimiter None (begin_of first)) (opened (begin_of first) (list_kind definition_delimiter None false) d) (p || blank) rs
       at (InList o) d blank p rs = same (o.delimiter == definition_delimiter) o d blank p rs
 
   item-blank : (first : Row) (more : List Row) (inside after : Blocks) (delimiter : ℕ) (number : Option ℕ) (width : ℕ) (task : Option Bool) → KnowsBlank inside → KnowsBlank after → KnowsBlank (ContainerBlock (Item delimiter number width task) first more inside after)
-  item-blank first more inside after delimiter number width task i a = (at, behind)
+  item-blank first more inside after delimiter number width task i a = (at, following)
     where
-      one : (o1 : OpenList) (d1 : Drawing) (p1 : Bool) (rs1 : Noted) → (replay text options lookup after (behind_item document.ListItem (begin_of first) (last_line_end first more) (marked task width first document.Nil) inside o1 d1 p1 rs1)).inner.blank ≡ ends_blank false (ends_blank true false inside) after
+      one : (o1 : OpenList) (d1 : Drawing) (p1 : Bool) (rs1 : Noted) → (replay text options lookup after (after_item document.ListItem (begin_of first) (last_line_end first more) (marked task width first document.Nil) inside o1 d1 p1 rs1)).inner.blank ≡ ends_blank false (ends_blank true false inside) after
       one o1 d1 p1 rs1 = a.0 (InList _) _ _ p1 _ ∙ ap (λ z. ends_blank false z after) (i.0 First _ false false rs1)
 
-      behind : (o : Option OpenList) (d : Drawing) (blank p q : Bool) (rs : Noted) → (replay text options lookup (ContainerBlock (Item delimiter number width task) first more inside after) (titled o d blank p q rs)).inner.blank ≡ ends_blank false (ends_blank true false inside) after
-      behind o d blank p q rs = one (fresh delimiter number (begin_of first)) (opened (begin_of first) (list_kind delimiter number false) (released_from o d)) (p || blank) rs
+      following : (o : Option OpenList) (d : Drawing) (blank p q : Bool) (rs : Noted) → (replay text options lookup (ContainerBlock (Item delimiter number width task) first more inside after) (titled o d blank p q rs)).inner.blank ≡ ends_blank false (ends_blank true false inside) after
+      following o d blank p q rs = one (fresh delimiter number (begin_of first)) (opened (begin_of first) (list_kind delimiter number false) (released_from o d)) (p || blank) rs
 
       same : (z : Bool) (o : OpenList) (d : Drawing) (blank p : Bool) (rs : Noted) → (replay text options lookup after (left_by (Item delimiter number width task) (item_if z delimiter number (begin_of first) o (level_of (InList o) d blank p rs)).inner (last_line_end first more)
           (replay text options lookup inside (record (level_drawn (marked task width first document.Nil) (level_opened (begin_of first) document.ListItem (item_if z delimiter number (begin_of first) o (level_of (InList o) d blank p rs)))) { inner = no_siblings })))).inner.blank ≡ ends_blank false (ends_blank true false inside) after
@@ -114,29 +114,29 @@ module _ (text : List ℕ) (options : Options) (lookup : Lookup) where
 
       at : (s : Stand) (d : Drawing) (blank p : Bool) (rs : Noted) → (replay text options lookup (ContainerBlock (Item delimiter number width task) first more inside after) (level_of s d blank p rs)).inner.blank ≡ ends_blank false (ends_blank true false inside) after
       at First d blank p rs = one (fresh delimiter number (begin_of first)) (opened (begin_of first) (list_kind delimiter number false) d) (p || blank) rs
-      at Behind d blank p rs = one (fresh delimiter number (begin_of first)) (opened (begin_of first) (list_kind delimiter number false) d) (p || blank) rs
+      at Following d blank p rs = one (fresh delimiter number (begin_of first)) (opened (begin_of first) (list_kind delimiter number false) d) (p || blank) rs
       at (InList o) d blank p rs = same (o.delimiter == delimiter) o d blank p rs
 
   -- a blank line comes last
-  pub blank_behind : (b : Blocks) → KnowsBlank b
-  blank_behind Nil = (λ s d blank p rs. refl, λ o d blank p q rs. refl)
-  blank_behind (BlankLine line after) = let a = blank_behind after in (λ s d blank p rs. at a.0 s d blank p rs, λ o d blank p q rs. a.1 o d true p q rs)
+  pub blank_after : (b : Blocks) → KnowsBlank b
+  blank_after Nil = (λ s d blank p rs. refl, λ o d blank p q rs. refl)
+  blank_after (BlankLine line after) = let a = blank_after after in (λ s d blank p rs. at a.0 s d blank p rs, λ o d blank p q rs. a.1 o d true p q rs)
     where
       at : ((s : Stand) → (d : Drawing) (blank p : Bool) (rs : Noted) → (replay text options lookup after (level_of s d blank p rs)).inner.blank ≡ ends_blank (front_of s) blank after)
           → (s : Stand) → (d : Drawing) (blank p : Bool) (rs : Noted) → (replay text options lookup (BlankLine line after) (level_of s d blank p rs)).inner.blank ≡ ends_blank (front_of s) blank (BlankLine line after)
-      at a First d blank p rs = a Behind d false p rs
-      at a Behind d blank p rs = a Behind d true p rs
+      at a First d blank p rs = a Following d false p rs
+      at a Following d blank p rs = a Following d true p rs
       at a (InList o) d blank p rs = a (InList o) d true p rs
-  blank_behind (Paragraph first more after) = let a = blank_behind after in (λ s d blank p rs. a.1 _ _ false _ _ rs, λ o d blank p q rs. a.1 _ _ false _ _ rs)
-  blank_behind (SetextHeading level first more underline after) = let a = blank_behind after in (λ s d blank p rs. a.0 Behind _ false (p || blank) rs, λ o d blank p q rs. a.0 Behind _ false (p || blank) rs)
-  blank_behind (LeafBlock leaf first more after) = let a = blank_behind after in (λ s d blank p rs. a.0 Behind _ false (p || blank) _, λ o d blank p q rs. a.0 Behind _ false (p || blank) _)
-  blank_behind (ContainerBlock (BlockQuote alert) first more inside after) = let a = blank_behind after in (λ s d blank p rs. a.0 Behind _ false (p || blank) _, λ o d blank p q rs. a.0 Behind _ false (p || blank) _)
-  blank_behind (ContainerBlock (Footnote label old size) first more inside after) =
-      let i = blank_behind inside in
-      let a = blank_behind after in
-      (λ s d blank p rs. a.0 Behind _ _ (p || blank) _ ∙ ap (λ z. ends_blank false z after) (i.0 First _ false false _), λ o d blank p q rs. a.0 Behind _ _ (p || blank) _ ∙ ap (λ z. ends_blank false z after) (i.0 First _ false false _))
-  blank_behind (ContainerBlock (Item delimiter number width task) first more inside after) = item-blank first more inside after delimiter number width task (blank_behind inside) (blank_behind after)
-  blank_behind (ContainerBlock (ListDefinition width) first more inside after) = definition-blank first more inside after width (blank_behind inside) (blank_behind after)
+  blank_after (Paragraph first more after) = let a = blank_after after in (λ s d blank p rs. a.1 _ _ false _ _ rs, λ o d blank p q rs. a.1 _ _ false _ _ rs)
+  blank_after (SetextHeading level first more underline after) = let a = blank_after after in (λ s d blank p rs. a.0 Following _ false (p || blank) rs, λ o d blank p q rs. a.0 Following _ false (p || blank) rs)
+  blank_after (LeafBlock leaf first more after) = let a = blank_after after in (λ s d blank p rs. a.0 Following _ false (p || blank) _, λ o d blank p q rs. a.0 Following _ false (p || blank) _)
+  blank_after (ContainerBlock (BlockQuote alert) first more inside after) = let a = blank_after after in (λ s d blank p rs. a.0 Following _ false (p || blank) _, λ o d blank p q rs. a.0 Following _ false (p || blank) _)
+  blank_after (ContainerBlock (Footnote label old size) first more inside after) =
+      let i = blank_after inside in
+      let a = blank_after after in
+      (λ s d blank p rs. a.0 Following _ _ (p || blank) _ ∙ ap (λ z. ends_blank false z after) (i.0 First _ false false _), λ o d blank p q rs. a.0 Following _ _ (p || blank) _ ∙ ap (λ z. ends_blank false z after) (i.0 First _ false false _))
+  blank_after (ContainerBlock (Item delimiter number width task) first more inside after) = item-blank first more inside after delimiter number width task (blank_after inside) (blank_after after)
+  blank_after (ContainerBlock (ListDefinition width) first more inside after) = definition-blank first more inside after width (blank_after inside) (blank_after after)
 
   -- the flag of a paragraph, and of a title, which ignores the blank line before it if it continues a list
   abbrev pub parted_before : Option OpenList → (p q : Bool) → Bool
@@ -152,18 +152,18 @@ module _ (text : List ℕ) (options : Options) (lookup : Lookup) where
       × ((o : Option OpenList) (d : Drawing) (blank p q : Bool) (rs : Noted) → (replay text options lookup b (titled (colon o) d blank p q rs)).inner.parted ≡ title_parted o blank p q b)
 
   definition-parted : (first : Row) (more : List Row) (inside after : Blocks) (width : ℕ) → KnowsParted after → KnowsParted (ContainerBlock (ListDefinition width) first more inside after)
-  definition-parted first more inside after width a = (at, behind)
+  definition-parted first more inside after width a = (at, following)
     where
-      one : (o1 : OpenList) (d1 : Drawing) (p1 : Bool) (rs1 : Noted) → (replay text options lookup after (behind_definition (begin_of first) (last_line_end first more) inside o1 d1 p1 rs1)).inner.parted ≡ (p1 || parted (ItemWith o1.delimiter) (ends_blank true false inside) after)
-      one o1 d1 p1 rs1 = a.0 (InList _) _ _ p1 _ ∙ ap (λ z. p1 || parted (ItemWith o1.delimiter) z after) ((blank_behind inside).0 First _ false false rs1)
+      one : (o1 : OpenList) (d1 : Drawing) (p1 : Bool) (rs1 : Noted) → (replay text options lookup after (after_definition (begin_of first) (last_line_end first more) inside o1 d1 p1 rs1)).inner.parted ≡ (p1 || parted (ItemWith o1.delimiter) (ends_blank true false inside) after)
+      one o1 d1 p1 rs1 = a.0 (InList _) _ _ p1 _ ∙ ap (λ z. p1 || parted (ItemWith o1.delimiter) z after) ((blank_after inside).0 First _ false false rs1)
 
       forget : (p blank c : Bool) → (p || c) ≡ (p || ((blank && false) || c))
       forget p blank c = ap (λ z. p || (z || c)) (sym (and-false blank))
 
-      behind : (o : Option OpenList) (d : Drawing) (blank p q : Bool) (rs : Noted) → (replay text options lookup (ContainerBlock (ListDefinition width) first more inside after) (titled (colon o) d blank p q rs)).inner.parted
+      following : (o : Option OpenList) (d : Drawing) (blank p q : Bool) (rs : Noted) → (replay text options lookup (ContainerBlock (ListDefinition width) first more inside after) (titled (colon o) d blank p q rs)).inner.parted
           ≡ (parted_before o p q || ((blank && false) || parted (ItemWith definition_delimiter) (ends_blank true false inside) after))
-      behind None d blank p q rs = one (record { delimiter = definition_delimiter; number = None; loose = blank; end = begin_of first }) (enclosed (document.DefinitionList false) document.DefinitionListTitle d) p rs ∙ forget p blank _
-      behind (Some o) d blank p q rs = one (longer (with_colon o) blank) (retitled document.DefinitionListTitle d) q rs ∙ forget q blank _
+      following None d blank p q rs = one (record { delimiter = definition_delimiter; number = None; loose = blank; end = begin_of first }) (enclosed (document.DefinitionList false) document.DefinitionListTitle d) p rs ∙ forget p blank _
+      following (Some o) d blank p q rs = one (longer (with_colon o) blank) (retitled document.DefinitionListTitle d) q rs ∙ forget q blank _
 
       same : (z : Bool) (o : OpenList) (d : Drawing) (blank p : Bool) (rs : Noted) → (o.delimiter == definition_delimiter) ≡ z → (replay text options lookup after (left_by (ListDefinition width) (item_if z definition_delimiter None (begin_of first) o (level_of (InList o) d blank p rs)).inner (last_line_end first more)
           (replay text options lookup inside (record (level_opened (begin_of first) document.DefinitionListDefinition (item_if z definition_delimiter None (begin_of first) o (level_of (InList o) d blank p rs))) { inner = no_siblings })))).inner.parted ≡ (p || ((blank && not z) || parted (ItemWith definition_delimiter) (ends_blank true false inside) after))
@@ -172,14 +172,14 @@ module _ (text : List ℕ) (options : Options) (lookup : Lookup) where
 
       at : (s : Stand) (d : Drawing) (blank p : Bool) (rs : Noted) → (replay text options lookup (ContainerBlock (ListDefinition width) first more inside after) (level_of s d blank p rs)).inner.parted ≡ (p || parted (before_of s) blank (ContainerBlock (ListDefinition width) first more inside after))
       at First d blank p rs = one (fresh definition_delimiter None (begin_of first)) (opened (begin_of first) (list_kind definition_delimiter None false) d) (p || blank) rs ∙ or-and p blank _
-      at Behind d blank p rs = one (fresh definition_delimiter None (begin_of first)) (opened (begin_of first) (list_kind definition_delimiter None false) d) (p || blank) rs ∙ or-and p blank _
+      at Following d blank p rs = one (fresh definition_delimiter None (begin_of first)) (opened (begin_of first) (list_kind definition_delimiter None false) d) (p || blank) rs ∙ or-and p blank _
       at (InList o) d blank p rs = same (o.delimiter == definition_delimiter) o d blank p rs refl
 
   item-parted : (first : Row) (more : List Row) (inside after : Blocks) (delimiter : ℕ) (number : Option ℕ) (width : ℕ) (task : Option Bool) → KnowsParted after → KnowsParted (ContainerBlock (Item delimiter number width task) first more inside after)
   item-parted first more inside after delimiter number width task a = (at, λ o d blank p q rs. one (fresh delimiter number (begin_of first)) (opened (begin_of first) (list_kind delimiter number false) (released_from (colon o) d)) (p || blank) rs ∙ or-and p blank _)
     where
-      one : (o1 : OpenList) (d1 : Drawing) (p1 : Bool) (rs1 : Noted) → (replay text options lookup after (behind_item document.ListItem (begin_of first) (last_line_end first more) (marked task width first document.Nil) inside o1 d1 p1 rs1)).inner.parted ≡ (p1 || parted (ItemWith o1.delimiter) (ends_blank true false inside) after)
-      one o1 d1 p1 rs1 = a.0 (InList _) _ _ p1 _ ∙ ap (λ z. p1 || parted (ItemWith o1.delimiter) z after) ((blank_behind inside).0 First _ false false rs1)
+      one : (o1 : OpenList) (d1 : Drawing) (p1 : Bool) (rs1 : Noted) → (replay text options lookup after (after_item document.ListItem (begin_of first) (last_line_end first more) (marked task width first document.Nil) inside o1 d1 p1 rs1)).inner.parted ≡ (p1 || parted (ItemWith o1.delimiter) (ends_blank true false inside) after)
+      one o1 d1 p1 rs1 = a.0 (InList _) _ _ p1 _ ∙ ap (λ z. p1 || parted (ItemWith o1.delimiter) z after) ((blank_after inside).0 First _ false false rs1)
 
       same : (z : Bool) (o : OpenList) (d : Drawing) (blank p : Bool) (rs : Noted) → (o.delimiter == delimiter) ≡ z → (replay text options lookup after (left_by (Item delimiter number width task) (item_if z delimiter number (begin_of first) o (level_of (InList o) d blank p rs)).inner (last_line_end first more)
           (replay text options lookup inside (record (level_drawn (marked task width first document.Nil) (level_opened (begin_of first) document.ListItem (item_if z delimiter number (begin_of first) o (level_of (InList o) d blank p rs)))) { inner = no_siblings })))).inner.parted ≡ (p || ((blank && not z) || parted (ItemWith delimiter) (ends_blank true false inside) after))
@@ -190,7 +190,7 @@ module _ (text : List ℕ) (options : Options) (lookup : Lookup) where
 
       at : (s : Stand) (d : Drawing) (blank p : Bool) (rs : Noted) → (replay text options lookup (ContainerBlock (Item delimiter number width task) first more inside after) (level_of s d blank p rs)).inner.parted ≡ (p || parted (before_of s) blank (ContainerBlock (Item delimiter number width task) first more inside after))
       at First d blank p rs = one (fresh delimiter number (begin_of first)) (opened (begin_of first) (list_kind delimiter number false) d) (p || blank) rs ∙ or-and p blank _
-      at Behind d blank p rs = one (fresh delimiter number (begin_of first)) (opened (begin_of first) (list_kind delimiter number false) d) (p || blank) rs ∙ or-and p blank _
+      at Following d blank p rs = one (fresh delimiter number (begin_of first)) (opened (begin_of first) (list_kind delimiter number false) d) (p || blank) rs ∙ or-and p blank _
       at (InList o) d blank p rs = same (o.delimiter == delimiter) o d blank p rs refl
 
   paragraph-parted : (first : Row) (more : List Row) (after : Blocks) → KnowsParted after → KnowsParted (Paragraph first more after)
@@ -215,28 +215,28 @@ module _ (text : List ℕ) (options : Options) (lookup : Lookup) where
 
       at : (s : Stand) (d : Drawing) (blank p : Bool) (rs : Noted) → (replay text options lookup (Paragraph first more after) (level_of s d blank p rs)).inner.parted ≡ (p || parted (before_of s) blank (Paragraph first more after))
       at First d blank p rs = a.1 None _ false (p || blank) p rs ∙ other (is_title after) blank p
-      at Behind d blank p rs = a.1 None _ false (p || blank) p rs ∙ other (is_title after) blank p
+      at Following d blank p rs = a.1 None _ false (p || blank) p rs ∙ other (is_title after) blank p
       at (InList o) d blank p rs = list (o.delimiter == definition_delimiter) o _ blank p rs refl
 
   -- a blank line separates two blocks
-  pub parted_behind : (b : Blocks) → KnowsParted b
-  parted_behind Nil = (λ s d blank p rs. sym (or-false p), λ o d blank p q rs. sym (or-false p))
-  parted_behind (BlankLine line after) = let a = parted_behind after in (at a.0, λ o d blank p q rs. a.1 o d true p q rs)
+  pub parted_after : (b : Blocks) → KnowsParted b
+  parted_after Nil = (λ s d blank p rs. sym (or-false p), λ o d blank p q rs. sym (or-false p))
+  parted_after (BlankLine line after) = let a = parted_after after in (at a.0, λ o d blank p q rs. a.1 o d true p q rs)
     where
       at : ((s : Stand) (d : Drawing) (blank p : Bool) (rs : Noted) → (replay text options lookup after (level_of s d blank p rs)).inner.parted ≡ (p || parted (before_of s) blank after))
           → (s : Stand) (d : Drawing) (blank p : Bool) (rs : Noted) → (replay text options lookup (BlankLine line after) (level_of s d blank p rs)).inner.parted ≡ (p || parted (before_of s) blank (BlankLine line after))
-      at a First d blank p rs = a Behind d false p rs
-      at a Behind d blank p rs = a Behind d true p rs
+      at a First d blank p rs = a Following d false p rs
+      at a Following d blank p rs = a Following d true p rs
       at a (InList o) d blank p rs = a (InList o) d true p rs
-  parted_behind (Paragraph first more after) = paragraph-parted first more after (parted_behind after)
-  parted_behind (SetextHeading level first more underline after) = let a = parted_behind after in (λ s d blank p rs. a.0 Behind _ false (p || blank) rs ∙ or-assoc p blank _, λ o d blank p q rs. a.0 Behind _ false (p || blank) rs ∙ or-assoc p blank _)
-  parted_behind (LeafBlock leaf first more after) = let a = parted_behind after in (λ s d blank p rs. a.0 Behind _ false (p || blank) _ ∙ or-assoc p blank _, λ o d blank p q rs. a.0 Behind _ false (p || blank) _ ∙ or-assoc p blank _)
-  parted_behind (ContainerBlock (BlockQuote alert) first more inside after) = let a = parted_behind after in (λ s d blank p rs. a.0 Behind _ false (p || blank) _ ∙ or-assoc p blank _, λ o d blank p q rs. a.0 Behind _ false (p || blank) _ ∙ or-assoc p blank _)
-  parted_behind (ContainerBlock (Footnote label old size) first more inside after) =
-      let i = blank_behind inside in
-      let a = parted_behind after in (
-        λ s d blank p rs. a.0 Behind _ _ (p || blank) _ ∙ or-assoc p blank _ ∙ ap (λ z. p || (blank || parted Other z after)) (i.0 First _ false false _),
-        λ o d blank p q rs. a.0 Behind _ _ (p || blank) _ ∙ or-assoc p blank _ ∙ ap (λ z. p || (blank || parted Other z after)) (i.0 First _ false false _),
+  parted_after (Paragraph first more after) = paragraph-parted first more after (parted_after after)
+  parted_after (SetextHeading level first more underline after) = let a = parted_after after in (λ s d blank p rs. a.0 Following _ false (p || blank) rs ∙ or-assoc p blank _, λ o d blank p q rs. a.0 Following _ false (p || blank) rs ∙ or-assoc p blank _)
+  parted_after (LeafBlock leaf first more after) = let a = parted_after after in (λ s d blank p rs. a.0 Following _ false (p || blank) _ ∙ or-assoc p blank _, λ o d blank p q rs. a.0 Following _ false (p || blank) _ ∙ or-assoc p blank _)
+  parted_after (ContainerBlock (BlockQuote alert) first more inside after) = let a = parted_after after in (λ s d blank p rs. a.0 Following _ false (p || blank) _ ∙ or-assoc p blank _, λ o d blank p q rs. a.0 Following _ false (p || blank) _ ∙ or-assoc p blank _)
+  parted_after (ContainerBlock (Footnote label old size) first more inside after) =
+      let i = blank_after inside in
+      let a = parted_after after in (
+        λ s d blank p rs. a.0 Following _ _ (p || blank) _ ∙ or-assoc p blank _ ∙ ap (λ z. p || (blank || parted Other z after)) (i.0 First _ false false _),
+        λ o d blank p q rs. a.0 Following _ _ (p || blank) _ ∙ or-assoc p blank _ ∙ ap (λ z. p || (blank || parted Other z after)) (i.0 First _ false false _),
       )
-  parted_behind (ContainerBlock (Item delimiter number width task) first more inside after) = item-parted first more inside after delimiter number width task (parted_behind after)
-  parted_behind (ContainerBlock (ListDefinition width) first more inside after) = definition-parted first more inside after width (parted_behind after)
+  parted_after (ContainerBlock (Item delimiter number width task) first more inside after) = item-parted first more inside after delimiter number width task (parted_after after)
+  parted_after (ContainerBlock (ListDefinition width) first more inside after) = definition-parted first more inside after width (parted_after after)

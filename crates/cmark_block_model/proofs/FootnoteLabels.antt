@@ -7,7 +7,7 @@ use Rattle.cmark_grammar.specs.Rows.{Row, last_line_end, begin_of, start_of}
 use Rattle.cmark_grammar.specs.Containers.{BlockQuote, Item, Footnote, ListDefinition}
 use Rattle.cmark_grammar.specs.Openings.{Leaf, ThematicBreak, AtxHeading, IndentedCode, FencedCode, HtmlBlock, LinkDefinition, MetadataBlock, Table}
 use Rattle.cmark_grammar.specs.Blocks.{Blocks, Nil as NoBlocks, BlankLine, Paragraph, SetextHeading, LeafBlock, ContainerBlock}
-use Rattle.cmark_grammar.specs.Lists.{ListBefore, tight_behind, goes_on, definition_delimiter, is_title, title_tight_behind}
+use Rattle.cmark_grammar.specs.Lists.{ListBefore, tight_after, goes_on, definition_delimiter, is_title, title_tight_after}
 use Rattle.cmark_grammar.specs.Tokens.{fenced_lines, lines_before, paragraph_tokens}
 use Rattle.cmark_grammar.specs.Derivation.{paragraph_kind, leaf_then, item_then, document_of, list_kind}
 use Rattle.cmark_grammar.specs.BlockDocument as document
@@ -20,7 +20,7 @@ use Rattle.cmark_block_model.proofs.Split.{Split, split}
 use Rattle.cmark_block_model.proofs.Settles.{Joins, settles}
 use Rattle.cmark_block_model.proofs.Replay.{Noted, Level, marked, standing, entered, left_by, item_if, item_level, leaf_noted, leaf_level, paragraph_level, heading_level, blank_level, replay, title_level, definition_level}
 use Rattle.std.specs.Prelude.{if◌then◌else◌}
-use Rattle.cmark_grammar.proofs.TightLaws.{title_goes_on}
+use Rattle.cmark_block_model.proofs.TightLaws.{title_goes_on}
 
 paragraph-labels : (direct : Bool) (start end : ℕ) (t d : BlockDocument) → IsPlain t → footnote_labels (Node (node (paragraph_kind direct) start end) t d) ≡ footnote_labels d
 paragraph-labels true start end t d h = ap (λ r. r ++ footnote_labels d) h.labels
@@ -80,7 +80,7 @@ module _ (text : List ℕ) (options : Options) (lookup : Lookup) where
   labels (Paragraph first more after) direct before l = go (is_title after) refl (λ b. labels after direct b (paragraph_level text options lookup first more l))
     where
       tight : Bool
-      tight = title_tight_behind before after
+      tight = title_tight_after before after
 
       go : (z : Bool) → is_title after ≡ z → ((b : Option ListBefore) → (replay text options lookup (Paragraph first more after) l).noted.footnotes ≡ (l.noted.footnotes ++ footnote_labels (document_of text options lookup direct b after)))
           → (replay text options lookup (Paragraph first more after) l).noted.footnotes ≡ (l.noted.footnotes ++ footnote_labels (if z then item_then true (document.DefinitionList tight) (node document.DefinitionListTitle (start_of first) (last_line_end first more)) (paragraph_tokens text first more) (document_of text options lookup direct (Some (record { delimiter = definition_delimiter; tight = tight })) after)
@@ -104,14 +104,14 @@ module _ (text : List ℕ) (options : Options) (lookup : Lookup) where
       ∙ append_assoc l.noted.footnotes (footnote_labels (document_of text options lookup false None inside)) (footnote_labels (document_of text options lookup direct None after))
   labels (ContainerBlock (Footnote label old size) first more inside after) direct before l =
       let inner = footnote_labels (document_of text options lookup false None inside) in
-      let behind = footnote_labels (document_of text options lookup direct None after) in
+      let following = footnote_labels (document_of text options lookup direct None after) in
       labels after direct None (left_by (Footnote label old size) (standing (Footnote label old size) first l).inner (last_line_end first more) (replay text options lookup inside (entered (Footnote label old size) first l)))
-      ∙ ap (λ r. r ++ behind) (labels inside false None (entered (Footnote label old size) first l))
-      ∙ append_assoc (l.noted.footnotes ++ normal_form label ∷ []) inner behind
-      ∙ append_assoc l.noted.footnotes (normal_form label ∷ []) (inner ++ behind)
+      ∙ ap (λ r. r ++ following) (labels inside false None (entered (Footnote label old size) first l))
+      ∙ append_assoc (l.noted.footnotes ++ normal_form label ∷ []) inner following
+      ∙ append_assoc l.noted.footnotes (normal_form label ∷ []) (inner ++ following)
   labels (ContainerBlock (Item delimiter number width task) first more inside after) direct before l =
       let k = Item delimiter number width task in
-      let t = tight_behind before delimiter inside after in
+      let t = tight_after before delimiter inside after in
       let d = document_of text options lookup direct (Some (record { delimiter = delimiter; tight = t })) after in
       let j = document_of text options lookup t None inside in
       let i = marked task width first j in
@@ -121,7 +121,7 @@ module _ (text : List ℕ) (options : Options) (lookup : Lookup) where
       ∙ ap (λ r. l.noted.footnotes ++ r) (sym (item-labels (goes_on delimiter after) direct t (list_kind delimiter number t) document.ListItem (begin_of first) (last_line_end first more) i (split text options lookup (Some delimiter) after) d (list-silent delimiter number t) refl (settles text options lookup after direct (Some (record { delimiter = delimiter; tight = t })))))
   labels (ContainerBlock (ListDefinition width) first more inside after) direct before l =
       let k = ListDefinition width in
-      let t = tight_behind before definition_delimiter inside after in
+      let t = tight_after before definition_delimiter inside after in
       let d = document_of text options lookup direct (Some (record { delimiter = definition_delimiter; tight = t })) after in
       let j = document_of text options lookup t None inside in
       labels after direct (Some (record { delimiter = definition_delimiter; tight = t })) (left_by k (standing k first l).inner (last_line_end first more) (replay text options lookup inside (entered k first l)))

@@ -3,19 +3,19 @@ use Rattle.std.proofs.Common.{◌≡◌, ℕ, zero, suc, ◌≤◌, ◌&&◌, Bo
 use Rattle.std.specs.Prelude.{if◌then◌else◌}
 use Rattle.cmark_grammar.specs.Answers.{Lookup}
 use Rattle.cmark_grammar.specs.Options.{Options}
-use Rattle.cmark_grammar.specs.Places.{BehindLazy}
+use Rattle.cmark_grammar.specs.Places.{AfterLazy}
 use Rattle.cmark_grammar.specs.Rows.{Row, lazy_row, show_as}
 use Rattle.cmark_grammar.specs.Leaves.{Continuation, GoesOn, Closes, Waits, Stops, underlines, code_continuation, closes_fence}
 use Rattle.cmark_grammar.specs.HtmlBlocks.{html_continuation}
 use Rattle.cmark_grammar.specs.Containers.{Container, keeps, strip, is_bare_start, bare_after}
 use Rattle.cmark_grammar.specs.Openings.{texts, lazily}
 use Rattle.cmark_grammar.specs.Blocks.{Blocks, Nil as NoBlocks, Paragraph, SetextHeading, LeafBlock, ContainerBlock, join as join_blocks}
-use Rattle.cmark_grammar.specs.BlocksModel.{within}
-use Rattle.cmark_grammar.specs.BlocksByLine.{Verbatim, Indented, Fenced, HtmlLines, continuation_in, continuation_if, OpenLines, Between, BehindTag, InParagraph, InLeaf, InVerbatim, InContainer, close_lines, lines_take_lazy, lines_underline_or, lines_go_on_or, lines_kept_or, verbatim_line, lines_begin, lines_feed, Metadata}
+use Rattle.cmark_block_model.specs.BlocksModel.{within}
+use Rattle.cmark_block_model.specs.BlocksByLine.{Verbatim, Indented, Fenced, HtmlLines, continuation_in, continuation_if, OpenLines, Between, AfterTag, InParagraph, InLeaf, InVerbatim, InContainer, close_lines, lines_take_lazy, lines_underline_or, lines_go_on_or, lines_kept_or, verbatim_line, lines_begin, lines_feed, Metadata}
 use Rattle.cmark_grammar.specs.Metadata.{ends_metadata}
-use Rattle.cmark_grammar.proofs.BlockLaws.{strip_lazy, strip_whole}
-use Rattle.cmark_grammar.proofs.BlocksSound.{bare_push, is_both}
-use Rattle.cmark_grammar.proofs.RowPlaces.{strip-line_end}
+use Rattle.cmark_block_model.proofs.BlockLaws.{strip_lazy, strip_whole}
+use Rattle.cmark_block_model.proofs.BlocksSound.{bare_push, is_both}
+use Rattle.cmark_block_model.proofs.RowPlaces.{strip-line_end}
 use Rattle.cmark_block_model.proofs.Mirror.{line_end_push, AreBefore, FitsVerbatim, Fits}
 use Rattle.cmark_block_model.proofs.Beginning.{starts-fit, starts-fit-at}
 use Rattle.cmark_block_model.proofs.LazyLines.{lazy-begins-at, lazy-begins, lazy-paragraph, lazy-container}
@@ -39,7 +39,7 @@ module _ (text : List ℕ) (options : Options) (lookup : Lookup) where
 
   lazy-fits : (o : OpenLines) (b : Bool) (r : Row) (ahead x : List Row) (j : Container) (n : ℕ) → Fits b o [] n → lines_take_lazy o ≡ true → lazily options j r x ≡ true → Fits false (lines_feed options o (lazy_row r) ahead) ahead r.line_end
   lazy-fits (Between closed) b r ahead x j n f t z = absurd (true≢false (sym t))
-  lazy-fits BehindTag b r ahead x j n f t z = subst (λ o. Fits false o ahead r.line_end) (sym (lazy-begins-at options BehindLazy NoBlocks r ahead)) (refl, refl)
+  lazy-fits AfterTag b r ahead x j n f t z = subst (λ o. Fits false o ahead r.line_end) (sym (lazy-begins-at options AfterLazy NoBlocks r ahead)) (refl, refl)
   lazy-fits (InParagraph closed first more) b r ahead x j n f t z =
       subst (λ o. Fits false o ahead r.line_end) (sym (lazy-paragraph options closed first more r ahead x j z)) (refl, line_end_push first more (lazy_row r))
   lazy-fits (InLeaf closed leaf first had zero) b r ahead x j n f t z =
@@ -79,7 +79,7 @@ module _ (text : List ℕ) (options : Options) (lookup : Lookup) where
 
   pub feed-fits : (o : OpenLines) (b : Bool) (r : Row) (ahead : List Row) (n : ℕ) → r.lazy ≡ false → Fits b o (r ∷ ahead) n → Fits false (lines_feed options o r ahead) ahead r.line_end
   feed-fits (Between closed) b r ahead n e f = starts-fit text options lookup closed r ahead e
-  feed-fits BehindTag b r ahead n e f = starts-fit-at text options lookup BehindLazy NoBlocks r ahead e
+  feed-fits AfterTag b r ahead n e f = starts-fit-at text options lookup AfterLazy NoBlocks r ahead e
   feed-fits (InParagraph closed first more) b r ahead n e f = go (underlines r) (texts options r ahead)
     where
       go : (u : Option ℕ) (z : Bool) → Fits false (lines_underline_or u (λ level. Between (join_blocks closed (SetextHeading level first more r NoBlocks))) (lines_go_on_or z (InParagraph closed first (more ++ r ∷ [])) (lines_begin options (join_blocks closed (Paragraph first more NoBlocks)) r ahead))) ahead r.line_end

@@ -5,12 +5,12 @@ use Rattle.cmark_grammar.specs.Options.{Options}
 use Rattle.cmark_grammar.specs.Rows.{Row, start_of, lazy_row}
 use Rattle.cmark_grammar.specs.Containers.{Container, enter, strip, is_bare_start, bare_after}
 use Rattle.cmark_grammar.specs.Openings.{Leaf, ThematicBreak, AtxHeading, IndentedCode, FencedCode, HtmlBlock, LinkDefinition, texts, lazily, MetadataBlock, Table}
-use Rattle.cmark_grammar.specs.Blocks.{Blocks, Nil as NoBlocks, Paragraph, SetextHeading, LeafBlock, ContainerBlock, join as join_blocks, behind_leaf, place_in}
-use Rattle.cmark_grammar.specs.Places.{Place, Apart, BehindLazy, allows_lazy}
-use Rattle.cmark_grammar.specs.BlocksModel.{within, place_behind}
-use Rattle.cmark_grammar.specs.BlocksByLine.{OpenLines, Between, BehindTag, InParagraph, InLeaf, InVerbatim, InContainer, close_lines, lines_take_lazy, lines_underline_or, lines_go_on_or, lines_kept_or, lines_begin_as, lines_begin_in, lines_begin_at, lines_begin, lines_feed}
-use Rattle.cmark_grammar.proofs.BlockLaws.{at-lazy, underlines-lazy, keeps-lazy, strip_lazy, lazily-texts, texts-lazily}
-use Rattle.cmark_grammar.proofs.BlocksSound.{bare_push}
+use Rattle.cmark_grammar.specs.Blocks.{Blocks, Nil as NoBlocks, Paragraph, SetextHeading, LeafBlock, ContainerBlock, join as join_blocks, after_leaf, place_in}
+use Rattle.cmark_grammar.specs.Places.{Place, Apart, AfterLazy, allows_lazy}
+use Rattle.cmark_block_model.specs.BlocksModel.{within, place_after}
+use Rattle.cmark_block_model.specs.BlocksByLine.{OpenLines, Between, AfterTag, InParagraph, InLeaf, InVerbatim, InContainer, close_lines, lines_take_lazy, lines_underline_or, lines_go_on_or, lines_kept_or, lines_begin_as, lines_begin_in, lines_begin_at, lines_begin, lines_feed}
+use Rattle.cmark_block_model.proofs.BlockLaws.{at-lazy, underlines-lazy, keeps-lazy, strip_lazy, lazily-texts, texts-lazily}
+use Rattle.cmark_block_model.proofs.BlocksSound.{bare_push}
 use Rattle.cmark_block_model.specs.OpenBlocks.{OpenContainer, InParagraph as InParagraphLeaf}
 use Rattle.cmark_block_model.specs.BlockPass.{lazy_fed}
 use Rattle.cmark_block_model.proofs.Replay.{Level, entered, leaf_level, replay, replay-join}
@@ -27,7 +27,7 @@ module _ (options : Options) where
 
   pub lazy-begins : (b : Blocks) (r : Row) (ahead : List Row) → lines_begin options b (lazy_row r) ahead ≡ InParagraph b (lazy_row r) []
   unfolding lines_begin
-  lazy-begins b r ahead = lazy-begins-at (place_behind Apart b) b r ahead
+  lazy-begins b r ahead = lazy-begins-at (place_after Apart b) b r ahead
 
   pub lazy-paragraph : (closed : Blocks) (first : Row) (more : List Row) (r : Row) (ahead x : List Row) (j : Container) → lazily options j r x ≡ true → lines_feed options (InParagraph closed first more) (lazy_row r) ahead ≡ InParagraph closed first (more ++ lazy_row r ∷ [])
   lazy-paragraph closed first more r ahead x j e =
@@ -63,15 +63,15 @@ module _ (text : List ℕ) (options : Options) (lookup : Lookup) where
       → lazy_fed text options lookup (leaf_at text options lookup o) r (pass_with (inner_at text options lookup o [] l) (outer ++ containers_at text options lookup o l) false (leaf_at text options lookup o) n)
       ≡ pass_at text options lookup (lines_feed options o (lazy_row r) ahead) ahead l outer false n
   lazy-feeds (Between closed) b r ahead x j l outer n e f t z = absurd (true≢false (sym t))
-  lazy-feeds BehindTag b r ahead x j l outer n e f t z =
+  lazy-feeds AfterTag b r ahead x j l outer n e f t z =
       ap (λ q. pass_with (paragraph_open text options lookup r [] l) (outer ++ []) false (InParagraphLeaf [] (start_of q) q) n) (sym (whole-same r e))
-      ∙ ap (λ o. pass_at text options lookup o ahead l outer false n) (sym (lazy-begins-at options BehindLazy NoBlocks r ahead))
+      ∙ ap (λ o. pass_at text options lookup o ahead l outer false n) (sym (lazy-begins-at options AfterLazy NoBlocks r ahead))
   lazy-feeds (InParagraph closed first more) b r ahead x j l outer n e f t z =
       paragraph-goes text options lookup first more r (lazy_row r) (replay text options lookup closed l) (outer ++ []) (paragraph_leaf text options lookup first more) n (whole-same r e)
       ∙ ap (λ o. pass_at text options lookup o ahead l outer false n) (sym (lazy-paragraph options closed first more r ahead x j z))
   lazy-feeds (InLeaf closed leaf first had zero) b r ahead x j l outer n e f t z = go leaf t
     where
-      go : (leaf : Leaf) → allows_lazy (behind_leaf leaf) ≡ true → lazy_fed text options lookup (leaf_at text options lookup (InLeaf closed leaf first had zero)) r (pass_with (inner_at text options lookup (InLeaf closed leaf first had zero) [] l) (outer ++ []) false (leaf_at text options lookup (InLeaf closed leaf first had zero)) n)
+      go : (leaf : Leaf) → allows_lazy (after_leaf leaf) ≡ true → lazy_fed text options lookup (leaf_at text options lookup (InLeaf closed leaf first had zero)) r (pass_with (inner_at text options lookup (InLeaf closed leaf first had zero) [] l) (outer ++ []) false (leaf_at text options lookup (InLeaf closed leaf first had zero)) n)
           ≡ pass_at text options lookup (lines_begin options (join_blocks closed (LeafBlock leaf first had NoBlocks)) (lazy_row r) ahead) ahead l outer false n
       go ThematicBreak y = absurd (true≢false (sym y))
       go (AtxHeading level) y = absurd (true≢false (sym y))

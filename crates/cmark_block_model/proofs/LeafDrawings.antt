@@ -8,22 +8,23 @@ use Rattle.cmark_grammar.specs.Rows.{Row, without, first_place, begin_of, start_
 use Rattle.cmark_grammar.specs.Containers.{BlockQuote, Item, Footnote, ListDefinition}
 use Rattle.cmark_grammar.specs.Openings.{Leaf, ThematicBreak as ThematicBreakLeaf, AtxHeading as AtxHeadingLeaf, IndentedCode as IndentedCodeLeaf, FencedCode as FencedCodeLeaf, HtmlBlock as HtmlBlockLeaf, LinkDefinition as LinkDefinitionLeaf, MetadataBlock as MetadataBlockLeaf, Table as TableLeaf}
 use Rattle.cmark_grammar.specs.Blocks.{Blocks, Nil as NoBlocks, BlankLine, Paragraph as ParagraphBlock, SetextHeading, LeafBlock, ContainerBlock}
-use Rattle.cmark_grammar.specs.Lists.{ListBefore, tight_behind, goes_on, definition_delimiter, is_title, title_tight_behind}
-use Rattle.cmark_grammar.specs.Tokens.{Piece, end_place, piece_if, texts_then, words_end, stretch_then, stretches, html_then, html_tokens, verbatim_line, behind_hashes, heading_columns, code_pieces, fenced_lines, lines_before, paragraph_tokens}
+use Rattle.cmark_grammar.specs.Lists.{ListBefore, tight_after, goes_on, definition_delimiter, is_title, title_tight_after}
+use Rattle.cmark_grammar.specs.Tokens.{Piece, end_place, piece_if, texts_then, words_end, stretch_then, stretches, html_then, html_tokens, verbatim_line, after_hashes, heading_columns, code_pieces, fenced_lines, lines_before, paragraph_tokens}
 use Rattle.cmark_grammar.specs.Columns.{is_blank_byte, drop_end}
 use Rattle.cmark_grammar.specs.SetextAttributes.{content_of, ends_in_braces, attributes_place, texts_before, texts_if, setext_tokens}
 use Rattle.cmark_grammar.specs.TableRows.{cells_start, cells_of}
 use Rattle.cmark_grammar.specs.TableTokens.{cells_then, row_cells, row_tokens}
 use Rattle.cmark_grammar.specs.BlockDocument.{Text, OwnedText, ListItem, BlockKind, BlockNode, BlockDocument, Nil, Node, node, BlockList, DefinitionList, DefinitionListTitle, DefinitionListDefinition}
 use Rattle.cmark_grammar.specs.BlockReading.{Reads, Around, Inside, Alone, First, Silent, read_as, over, first_event, starts_before}
-use Rattle.cmark_grammar.specs.Derivation.{Derives, leaf_then, item_then, task_then, document_of, document, list_kind, paragraph_kind}
-use Rattle.cmark_grammar.specs.DrawnDocument.{is_definition, node_unless, settled, without_definitions}
+use Rattle.cmark_grammar.specs.Derivation.{Derives, leaf_then, item_then, task_then, document_of, list_kind, paragraph_kind}
+use Rattle.cmark_block_model.specs.DocumentModel.{document}
+use Rattle.cmark_block_model.specs.DrawnDocument.{is_definition, node_unless, settled, without_definitions}
 use Rattle.cmark_grammar.specs.LeafText.{Stretch}
-use Rattle.cmark_grammar.specs.Ranges.{count_nodes, count_tables}
+use Rattle.cmark_block_model.specs.Ranges.{count_nodes, count_tables}
 use Rattle.cmark_grammar.specs.SpanDocuments.{Segment, Given, Content, is_leaf, is_cell, leaf_of, stretches_of, inside_of, node_segments, first_of_segments, with_first_segment, segments}
-use Rattle.cmark_grammar.specs.TaskItems.{behind_box}
+use Rattle.cmark_grammar.specs.TaskItems.{after_box}
 use Rattle.cmark_grammar.specs.Metadata.{ends_metadata}
-use Rattle.cmark_grammar.proofs.CountLaws.{derived-count, derived-tables}
+use Rattle.cmark_block_model.proofs.CountLaws.{derived-count, derived-tables}
 use Rattle.cmark_block_model.specs.BlockPass.{pass_over}
 use Rattle.cmark_block_model.proofs.Drawings.{derived, silent, whole-begins}
 use Rattle.cmark_block_model.proofs.Theorem.{pass-draws}
@@ -131,7 +132,7 @@ rows-whole text columns (r ∷ rs) = (λ e. no-leaf false refl _ e, row-whole te
 leaf-whole : (text : List ℕ) (options : Options) (lookup : Lookup) (leaf : Leaf) (first : Row) (more : List Row) (after : BlockDocument) → HasWholeLeaves after → HasWholeLeaves (leaf_then text options lookup leaf first more after)
 leaf-whole text options lookup ThematicBreakLeaf first more after h = (λ e. tt, tt, h)
 leaf-whole text options lookup (AtxHeadingLeaf level) first more after h =
-    let start = first_place first.content_end (behind_hashes level first) in
+    let start = first_place first.content_end (after_hashes level first) in
     let end = end_place start (heading_columns options.heading_attributes level first) in
     (λ e. stretch-free text start end Nil tt, stretch-whole text start end Nil tt, h)
 leaf-whole text options lookup IndentedCodeLeaf first more after h = (λ e. texts-free (code_pieces text 4 (first ∷ more)) Nil tt, texts-whole (code_pieces text 4 (first ∷ more)) Nil tt, h)
@@ -158,20 +159,20 @@ list-no-leaf delimiter number tight = go (delimiter == definition_delimiter)
     go false = refl
 
 -- a paragraph, as a title or as itself
-title-whole : (is_title tight : Bool) (other : BlockKind) (start end : ℕ) (inside after behind : BlockDocument) → AreNoDefinitions inside → HasWholeLeaves inside → HasWholeLeaves after → HasWholeLeaves behind
-    → HasWholeLeaves (if is_title then item_then true (DefinitionList tight) (node DefinitionListTitle start end) inside after else Node (node other start end) inside behind)
-title-whole true tight other start end inside after behind f i a b = item-whole true (DefinitionList tight) (node DefinitionListTitle start end) inside after refl (λ e. f) i a
-title-whole false tight other start end inside after behind f i a b = (λ e. f, i, b)
+title-whole : (is_title tight : Bool) (other : BlockKind) (start end : ℕ) (inside after following : BlockDocument) → AreNoDefinitions inside → HasWholeLeaves inside → HasWholeLeaves after → HasWholeLeaves following
+    → HasWholeLeaves (if is_title then item_then true (DefinitionList tight) (node DefinitionListTitle start end) inside after else Node (node other start end) inside following)
+title-whole true tight other start end inside after following f i a b = item-whole true (DefinitionList tight) (node DefinitionListTitle start end) inside after refl (λ e. f) i a
+title-whole false tight other start end inside after following f i a b = (λ e. f, i, b)
 
 task-whole : (task : Option Bool) (start end : ℕ) (inside : BlockDocument) → HasWholeLeaves inside → HasWholeLeaves (task_then task start end inside)
 task-whole None start end inside h = h
 task-whole (Some is_checked) start end inside h = (λ e. no-leaf false refl _ e, tt, h)
 
-document-whole : (text : List ℕ) (options : Options) (lookup : Lookup) (direct : Bool) (before : Option ListBefore) (b : Blocks) → HasWholeLeaves (document_of text options lookup direct before b)
+pub document-whole : (text : List ℕ) (options : Options) (lookup : Lookup) (direct : Bool) (before : Option ListBefore) (b : Blocks) → HasWholeLeaves (document_of text options lookup direct before b)
 document-whole text options lookup direct before NoBlocks = tt
 document-whole text options lookup direct before (BlankLine line after) = document-whole text options lookup direct before after
 document-whole text options lookup direct before (ParagraphBlock first more after) =
-    let tight = title_tight_behind before after in
+    let tight = title_tight_after before after in
     title-whole (is_title after) tight (paragraph_kind direct) (start_of first) (last_line_end first more) (paragraph_tokens text first more)
     (document_of text options lookup direct (Some (record { delimiter = definition_delimiter; tight = tight })) after) (document_of text options lookup direct None after)
     (stretches-free text (start_of first) first more) (stretches-whole text (start_of first) first more)
@@ -182,11 +183,11 @@ document-whole text options lookup direct before (LeafBlock leaf first more afte
 document-whole text options lookup direct before (ContainerBlock (BlockQuote alert) first more inside after) = (λ e. no-leaf false refl _ e, document-whole text options lookup false None inside, document-whole text options lookup direct None after)
 document-whole text options lookup direct before (ContainerBlock (Footnote label old size) first more inside after) = (λ e. no-leaf false refl _ e, document-whole text options lookup false None inside, document-whole text options lookup direct None after)
 document-whole text options lookup direct before (ContainerBlock (Item delimiter number width task) first more inside after) =
-    let tight = tight_behind before delimiter inside after in
-    item-whole (goes_on delimiter after) (list_kind delimiter number tight) (node ListItem (begin_of first) (last_line_end first more)) (task_then task (begin_of (without width first)) (begin_of (without (behind_box task width) first)) (document_of text options lookup tight None inside)) (document_of text options lookup direct (Some (record { delimiter = delimiter; tight = tight })) after) (list-no-leaf delimiter number tight) (λ e. no-leaf false refl _ e)
+    let tight = tight_after before delimiter inside after in
+    item-whole (goes_on delimiter after) (list_kind delimiter number tight) (node ListItem (begin_of first) (last_line_end first more)) (task_then task (begin_of (without width first)) (begin_of (without (after_box task width) first)) (document_of text options lookup tight None inside)) (document_of text options lookup direct (Some (record { delimiter = delimiter; tight = tight })) after) (list-no-leaf delimiter number tight) (λ e. no-leaf false refl _ e)
     (task-whole task _ _ (document_of text options lookup tight None inside) (document-whole text options lookup tight None inside)) (document-whole text options lookup direct (Some (record { delimiter = delimiter; tight = tight })) after)
 document-whole text options lookup direct before (ContainerBlock (ListDefinition width) first more inside after) =
-    let tight = tight_behind before definition_delimiter inside after in
+    let tight = tight_after before definition_delimiter inside after in
     item-whole (goes_on definition_delimiter after) (DefinitionList tight) (node DefinitionListDefinition (begin_of first) (last_line_end first more)) (document_of text options lookup tight None inside) (document_of text options lookup direct (Some (record { delimiter = definition_delimiter; tight = tight })) after) refl (λ e. no-leaf false refl _ e)
     (document-whole text options lookup tight None inside) (document-whole text options lookup direct (Some (record { delimiter = definition_delimiter; tight = tight })) after)
 
@@ -242,7 +243,7 @@ inside-few : (kind : BlockKind) (b : Bool) (content : BlockDocument) (others : L
 inside-few kind true content others = omega arith
 inside-few kind false content others = omega arith
 
-segments-count : (d : BlockDocument) → length (segments d) ≤ 3 * count_nodes d
+pub segments-count : (d : BlockDocument) → length (segments d) ≤ 3 * count_nodes d
 segments-count Nil = omega arith
 segments-count (Node n inside after) =
     let own = inside_of n.kind inside (segments inside) in

@@ -1,26 +1,62 @@
+mod AlertDocumentSamples
+mod AttributeDocumentSamples
+pub mod BalanceLaws
 pub mod Beginning
+pub mod BlockDocumentOne
+pub mod BlockEvents
+pub mod BlockLaws
+pub mod BlockReadings
+pub mod BlockSamples
+pub mod BlocksByLine
+pub mod BlocksOne
+pub mod BlocksSound
+pub mod BoundaryLaws
 pub mod Closing
 pub mod CodeRuns
+pub mod CountLaws
 pub mod Defines
 pub mod DefinitionDelimiters
+mod DefinitionListSamples
 pub mod Drawings
 pub mod Draws
 pub mod Feeding
 pub mod Flags
 pub mod FootnoteLabels
+pub mod FootnoteMarkers
+pub mod FootnoteSamples
+pub mod Fronts
 pub mod Keeping
 pub mod LazyLines
 pub mod LeafDrawings
 pub mod ListDelimiters
+pub mod MetadataBlockSamples
+mod MetadataLaws
 pub mod Mirror
+pub mod NotDerived
 pub mod PassSamples
 pub mod Places
 pub mod PlainTokens
+pub mod RangeLaws
+pub mod ReferenceLaws
 pub mod Replay
+pub mod RowEdges
+pub mod RowPlaces
+pub mod SetextLaws
 pub mod Settles
 pub mod Simulation
+pub mod SliceLaws
 pub mod Split
 pub mod Standing
+pub mod TableCounts
+mod TableDocumentSamples
+pub mod TableLaws
+pub mod TableRanges
+pub mod TailLaws
+pub mod TaskFronts
+pub mod TaskLaws
 pub mod Tells
 pub mod Theorem
+pub mod TightLaws
+pub mod TokenEdges
+pub mod TokenRanges
 pub mod VerbatimLines

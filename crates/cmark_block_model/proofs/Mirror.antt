@@ -7,8 +7,8 @@ use Rattle.cmark_grammar.specs.Rows.{Row, start_of, begin_of, last_line_end, fir
 use Rattle.cmark_grammar.specs.Leaves.{closes_fence}
 use Rattle.cmark_grammar.specs.Containers.{Container, is_bare_start, bare_after}
 use Rattle.cmark_grammar.specs.Openings.{Leaf, ThematicBreak, AtxHeading, IndentedCode, FencedCode, HtmlBlock, LinkDefinition, MetadataBlock, Table}
-use Rattle.cmark_grammar.specs.BlocksModel.{within}
-use Rattle.cmark_grammar.specs.BlocksByLine.{Verbatim, Indented, Fenced, HtmlLines, OpenLines, Between, BehindTag, InParagraph, InLeaf, InVerbatim, InContainer, Metadata}
+use Rattle.cmark_block_model.specs.BlocksModel.{within}
+use Rattle.cmark_block_model.specs.BlocksByLine.{Verbatim, Indented, Fenced, HtmlLines, OpenLines, Between, AfterTag, InParagraph, InLeaf, InVerbatim, InContainer, Metadata}
 use Rattle.cmark_grammar.specs.Tokens.{resolved, words_end, stretch_then, stretches, html_tokens, html_then, verbatim_line, code_columns}
 use Rattle.cmark_grammar.specs.SetextAttributes.{line_end_column, content_of, without_braces, setext_attributes}
 use Rattle.cmark_grammar.specs.BlockDocument as document
@@ -16,7 +16,7 @@ use Rattle.cmark_grammar.specs.BlockDocument.{BlockDocument, Nil, join}
 use Rattle.cmark_grammar.specs.Metadata.{ends_metadata}
 use Rattle.cmark_block_model.specs.BlockPass.{kept_lines}
 use Rattle.cmark_block_model.specs.CodeLines.{no_run, texts_of}
-use Rattle.cmark_block_model.specs.OpenBlocks.{OpenContainer, OpenLeaf, Closed, BehindTag as BehindTagLeaf, InParagraph as InParagraphLeaf, InDefinition, InIndented, InFenced, InHtml, Pass, InMetadata, InTable}
+use Rattle.cmark_block_model.specs.OpenBlocks.{OpenContainer, OpenLeaf, Closed, AfterTag as AfterTagLeaf, InParagraph as InParagraphLeaf, InDefinition, InIndented, InFenced, InHtml, Pass, InMetadata, InTable}
 use Rattle.cmark_block_model.proofs.PlainTokens.{stretch-join, html-join}
 use Rattle.cmark_block_model.proofs.CodeRuns.{code_run}
 use Rattle.cmark_block_model.proofs.Replay.{Level, begun, paragraph_begun, level_opened, level_drawn, standing, entered, leaf_level, replay}
@@ -117,7 +117,7 @@ is_looked_up (Table alignments) = true
 -- the bare flag; it is that of the container around if nothing is open
 abbrev pub bare_at : Bool → OpenLines → Bool
 bare_at bare (Between closed) = bare
-bare_at bare BehindTag = false
+bare_at bare AfterTag = false
 bare_at bare (InParagraph closed first more) = false
 bare_at bare (InLeaf closed leaf first had left) = false
 bare_at bare (InVerbatim closed verbatim first had waiting) = false
@@ -137,7 +137,7 @@ FitsVerbatim (Metadata kind) first had waiting n = (waiting ≡ []) × (last_lin
 
 abbrev pub Fits : Bool → OpenLines → List Row → ℕ → Type 0
 Fits bare (Between closed) ahead n = Unit {0}
-Fits bare BehindTag ahead n = bare ≡ false
+Fits bare AfterTag ahead n = bare ≡ false
 Fits bare (InParagraph closed first more) ahead n = (bare ≡ false) × (last_line_end first more ≡ n)
 Fits bare (InLeaf closed leaf first had left) ahead n = (bare ≡ false) × (left ≤ length ahead) × (is_looked_up leaf ≡ false → left ≡ 0)
 Fits bare (InVerbatim closed verbatim first had waiting) ahead n = (bare ≡ false) × FitsVerbatim verbatim first had waiting n
@@ -220,7 +220,7 @@ module _ (text : List ℕ) (options : Options) (lookup : Lookup) where
   -- the innermost level
   abbrev pub inner_at : OpenLines → List Row → Level → Level
   inner_at (Between closed) ahead l = replay text options lookup closed l
-  inner_at BehindTag ahead l = l
+  inner_at AfterTag ahead l = l
   inner_at (InParagraph closed first more) ahead l = paragraph_open first more (replay text options lookup closed l)
   inner_at (InLeaf closed leaf first had left) ahead l = leaf_level text options lookup leaf first (had ++ take left ahead) (replay text options lookup closed l)
   inner_at (InVerbatim closed verbatim first had waiting) ahead l = verbatim_level verbatim first had (replay text options lookup closed l)
@@ -229,7 +229,7 @@ module _ (text : List ℕ) (options : Options) (lookup : Lookup) where
 
   abbrev pub leaf_at : OpenLines → OpenLeaf
   leaf_at (Between closed) = Closed
-  leaf_at BehindTag = BehindTagLeaf
+  leaf_at AfterTag = AfterTagLeaf
   leaf_at (InParagraph closed first more) = paragraph_leaf first more
   leaf_at (InLeaf closed leaf first had left) = leaf_left leaf left
   leaf_at (InVerbatim closed verbatim first had waiting) = verbatim_leaf verbatim first had waiting
@@ -240,7 +240,7 @@ module _ (text : List ℕ) (options : Options) (lookup : Lookup) where
 
   abbrev pub containers_at : OpenLines → Level → List OpenContainer
   containers_at (Between closed) l = []
-  containers_at BehindTag l = []
+  containers_at AfterTag l = []
   containers_at (InParagraph closed first more) l = []
   containers_at (InLeaf closed leaf first had left) l = []
   containers_at (InVerbatim closed verbatim first had waiting) l = []

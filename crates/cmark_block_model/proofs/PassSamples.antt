@@ -5,11 +5,11 @@ use Rattle.cmark_grammar.specs.Leaves.{underlines}
 use Rattle.cmark_grammar.specs.Containers.{enter, keeps}
 use Rattle.cmark_grammar.specs.Options.{no_options}
 use Rattle.cmark_grammar.specs.Openings.{opens, texts, lazily}
-use Rattle.cmark_grammar.specs.BlocksModel.{begin, blocks}
+use Rattle.cmark_block_model.specs.BlocksModel.{begin, blocks}
 use Rattle.cmark_grammar.specs.Entities.{basic_entity}
-use Rattle.cmark_grammar.specs.Derivation.{document}
+use Rattle.cmark_block_model.specs.DocumentModel.{document}
 use Rattle.cmark_grammar.specs.References.{references}
-use Rattle.cmark_grammar.specs.DrawnDocument.{settled, without_definitions}
+use Rattle.cmark_block_model.specs.DrawnDocument.{settled, without_definitions}
 use Rattle.cmark_block_model.specs.BlockPass.{pass_over}
 
 abbrev IsSame : List ℕ → Type 0

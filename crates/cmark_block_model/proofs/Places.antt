@@ -6,12 +6,12 @@ use Rattle.cmark_grammar.specs.Options.{Options}
 use Rattle.cmark_grammar.specs.Rows.{last_line_end, begin_of}
 use Rattle.cmark_grammar.specs.Containers.{BlockQuote, Item, Footnote, ListDefinition}
 use Rattle.cmark_grammar.specs.Openings.{Leaf, ThematicBreak, AtxHeading, IndentedCode, FencedCode, HtmlBlock, LinkDefinition, MetadataBlock, Table}
-use Rattle.cmark_grammar.specs.Blocks.{Blocks, Nil, BlankLine, Paragraph, SetextHeading, LeafBlock, ContainerBlock, behind_leaf}
-use Rattle.cmark_grammar.specs.BlocksModel.{place_behind}
+use Rattle.cmark_grammar.specs.Blocks.{Blocks, Nil, BlankLine, Paragraph, SetextHeading, LeafBlock, ContainerBlock, after_leaf}
+use Rattle.cmark_block_model.specs.BlocksModel.{place_after}
 use Rattle.cmark_grammar.specs.Lists.{definition_delimiter}
-use Rattle.cmark_grammar.specs.Places.{Place, Apart, BehindLazy, BehindTask, BehindTitle, is_behind_title, over_blank}
+use Rattle.cmark_grammar.specs.Places.{Place, Apart, AfterLazy, AfterTask, AfterTitle, is_after_title, over_blank}
 use Rattle.cmark_block_model.specs.OpenBlocks.{OpenList, Title, Siblings}
-use Rattle.cmark_block_model.specs.BlockPass.{definitions_in, list_behind, place_with, place_of}
+use Rattle.cmark_block_model.specs.BlockPass.{definitions_in, list_after, place_with, place_of}
 use Rattle.cmark_block_model.proofs.Flags.{same-delimiter}
 use Rattle.cmark_block_model.proofs.ListDelimiters.{Unmarked}
 use Rattle.cmark_block_model.proofs.Replay.{Level, item_if, item_level, title_level, definition_level, paragraph_level, heading_level, leaf_level, left_by, standing, entered, blank_level, replay}
@@ -34,13 +34,13 @@ colon-in (Some o) = go (o.delimiter == definition_delimiter) refl
     go true e = e
     go false e = tt
 
-over-title : (place : Place) → is_behind_title (over_blank place) ≡ is_behind_title place
+over-title : (place : Place) → is_after_title (over_blank place) ≡ is_after_title place
 over-title Apart = refl
-over-title BehindLazy = refl
-over-title BehindTask = refl
-over-title BehindTitle = refl
+over-title AfterLazy = refl
+over-title AfterTask = refl
+over-title AfterTitle = refl
 
-leaf-title : (leaf : Leaf) → is_behind_title (behind_leaf leaf) ≡ false
+leaf-title : (leaf : Leaf) → is_after_title (after_leaf leaf) ≡ false
 leaf-title ThematicBreak = refl
 leaf-title (AtxHeading level) = refl
 leaf-title IndentedCode = refl
@@ -51,26 +51,26 @@ leaf-title (MetadataBlock kind) = refl
 leaf-title (Table alignments) = refl
 
 -- the siblings after an item or a definition: they are tidy, and tell whether it was a definition
-abbrev pub Left : Siblings → (behind : Bool) → Type 0
-Left s behind = (parted : Bool) (end : ℕ) → IsTidy s.title (list_behind s.list parted end) × (is_behind_title (place_with s.title (definitions_in (list_behind s.list parted end))) ≡ behind)
+abbrev pub Left : Siblings → (following : Bool) → Type 0
+Left s following = (parted : Bool) (end : ℕ) → IsTidy s.title (list_after s.list parted end) × (is_after_title (place_with s.title (definitions_in (list_after s.list parted end))) ≡ following)
 
-marked-place : (o : OpenList) (z : Bool) → (o.delimiter == definition_delimiter) ≡ z → is_behind_title (place_with None (definitions_in (Some o))) ≡ z
-marked-place o true e = ap (λ y. is_behind_title (place_with None (if y then Some o else None))) e
-marked-place o false e = ap (λ y. is_behind_title (place_with None (if y then Some o else None))) e
+marked-place : (o : OpenList) (z : Bool) → (o.delimiter == definition_delimiter) ≡ z → is_after_title (place_with None (definitions_in (Some o))) ≡ z
+marked-place o true e = ap (λ y. is_after_title (place_with None (if y then Some o else None))) e
+marked-place o false e = ap (λ y. is_after_title (place_with None (if y then Some o else None))) e
 
-item-left : (delimiter : ℕ) (number : Option ℕ) (start : ℕ) (l : Level) (list : Option OpenList) (behind : Bool) → IsTidy l.inner.title list → (delimiter == definition_delimiter) ≡ behind → Left (item_level delimiter number start l list).inner behind
-item-left delimiter number start l None behind tidy e = λ parted end. (tt, marked-place _ behind e)
-item-left delimiter number start l (Some o) behind tidy e = go (o.delimiter == delimiter) refl l.inner.title tidy refl
+item-left : (delimiter : ℕ) (number : Option ℕ) (start : ℕ) (l : Level) (list : Option OpenList) (following : Bool) → IsTidy l.inner.title list → (delimiter == definition_delimiter) ≡ following → Left (item_level delimiter number start l list).inner following
+item-left delimiter number start l None following tidy e = λ parted end. (tt, marked-place _ following e)
+item-left delimiter number start l (Some o) following tidy e = go (o.delimiter == delimiter) refl l.inner.title tidy refl
   where
     other : Bool → ℕ → OpenList
     other parted end = record o { loose = (o.loose || l.inner.blank) || parted; end = end }
 
-    go : (z : Bool) → (o.delimiter == delimiter) ≡ z → (title : Option Title) → IsTidy title (Some o) → l.inner.title ≡ title → Left (item_if z delimiter number start o l).inner behind
-    go false f title t is = λ parted end. (tt, marked-place _ behind e)
+    go : (z : Bool) → (o.delimiter == delimiter) ≡ z → (title : Option Title) → IsTidy title (Some o) → l.inner.title ≡ title → Left (item_if z delimiter number start o l).inner following
+    go false f title t is = λ parted end. (tt, marked-place _ following e)
     go true f (Some x) t is = absurd (let z : ⊥ = t in z)
     go true f None t is = λ parted end. (
       subst (λ x. IsTidy x (Some (other parted end))) (sym is) tt,
-      ap (λ x. is_behind_title (place_with x (definitions_in (Some (other parted end))))) is ∙ marked-place (other parted end) behind (ap (λ m. m == definition_delimiter) (same-delimiter o.delimiter delimiter f) ∙ e),
+      ap (λ x. is_after_title (place_with x (definitions_in (Some (other parted end))))) is ∙ marked-place (other parted end) following (ap (λ m. m == definition_delimiter) (same-delimiter o.delimiter delimiter f) ∙ e),
     )
 
 title-left : (o : Option OpenList) (parted : Bool) (start : ℕ) (l : Level) → IsColon o → Left (title_level o parted start l).inner true
@@ -86,13 +86,13 @@ definition-left (Some t) start l is tidy = title-left t.list t.parted start l (g
     go (Some o) c = absurd (let z : ⊥ = c in z)
 
 module _ (text : List ℕ) (options : Options) (lookup : Lookup) where
-  pub place-replay : (b : Blocks) (place : Place) (l : Level) → Unmarked b → IsTidy l.inner.title l.inner.list → is_behind_title (place_of l.inner) ≡ is_behind_title place
-      → is_behind_title (place_of (replay text options lookup b l).inner) ≡ is_behind_title (place_behind place b)
+  pub place-replay : (b : Blocks) (place : Place) (l : Level) → Unmarked b → IsTidy l.inner.title l.inner.list → is_after_title (place_of l.inner) ≡ is_after_title place
+      → is_after_title (place_of (replay text options lookup b l).inner) ≡ is_after_title (place_after place b)
   place-replay Nil place l u t e = e
   place-replay (BlankLine line after) place l u t e = place-replay after (over_blank place) (blank_level l) u t (e ∙ sym (over-title place))
-  place-replay (Paragraph first more after) place l u t e = place-replay after BehindTitle (paragraph_level text options lookup first more l) u (colon-in l.inner.list) refl
+  place-replay (Paragraph first more after) place l u t e = place-replay after AfterTitle (paragraph_level text options lookup first more l) u (colon-in l.inner.list) refl
   place-replay (SetextHeading level first more underline after) place l u t e = place-replay after Apart (heading_level text options lookup level first more underline l) u tt refl
-  place-replay (LeafBlock leaf first more after) place l u t e = place-replay after (behind_leaf leaf) (leaf_level text options lookup leaf first more l) u tt (sym (leaf-title leaf))
+  place-replay (LeafBlock leaf first more after) place l u t e = place-replay after (after_leaf leaf) (leaf_level text options lookup leaf first more l) u tt (sym (leaf-title leaf))
   place-replay (ContainerBlock (BlockQuote alert) first more inside after) place l u t e =
       place-replay after Apart (left_by (BlockQuote alert) (standing (BlockQuote alert) first l).inner (last_line_end first more) (replay text options lookup inside (entered (BlockQuote alert) first l))) u.1 tt refl
   place-replay (ContainerBlock (Footnote label old size) first more inside after) place l u t e =
@@ -106,4 +106,4 @@ module _ (text : List ℕ) (options : Options) (lookup : Lookup) where
       let k = ListDefinition width in
       let i = replay text options lookup inside (entered k first l) in
       let x = definition-left l.inner.title (begin_of first) l refl t i.inner.parted (last_line_end first more) in
-      place-replay after BehindTitle (left_by k (standing k first l).inner (last_line_end first more) i) u.1 x.0 x.1
+      place-replay after AfterTitle (left_by k (standing k first l).inner (last_line_end first more) i) u.1 x.0 x.1

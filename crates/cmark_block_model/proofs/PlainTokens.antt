@@ -2,13 +2,13 @@
 use Rattle.std.proofs.Common.{◌≡◌, ℕ, zero, suc, ◌+◌, Bool, true, false, List, [], ◌∷◌, ◌++◌, length, drop, take_while, refl, ap, ◌∙◌}
 use Rattle.std.specs.Prelude.{◌==◌, nat_lt, if◌then◌else◌}
 use Rattle.cmark_grammar.specs.Rows.{Row, first_place, begin_of, start_of, words_of}
-use Rattle.cmark_grammar.specs.Tokens.{Piece, end_place, piece_if, texts_then, words_end, stretch_then, stretches, paragraph_tokens, html_then, html_tokens, text_kind_of, html_kind_of, verbatim_line, behind_hashes, heading_columns, heading_tokens, code_pieces, code_tokens}
+use Rattle.cmark_grammar.specs.Tokens.{Piece, end_place, piece_if, texts_then, words_end, stretch_then, stretches, paragraph_tokens, html_then, html_tokens, text_kind_of, html_kind_of, verbatim_line, after_hashes, heading_columns, heading_tokens, code_pieces, code_tokens}
 use Rattle.cmark_grammar.specs.Columns.{is_blank_byte, drop_end}
 use Rattle.cmark_grammar.specs.SetextAttributes.{content_of, ends_in_braces, attributes_place, texts_before, texts_if, setext_tokens}
 use Rattle.cmark_grammar.specs.TableRows.{cells_start, cells_of}
 use Rattle.cmark_grammar.specs.TableTokens.{cell_tokens, cells_then, row_cells, row_tokens, table_tokens}
 use Rattle.cmark_grammar.specs.BlockDocument.{Text, OwnedText, Html, TableHead, TableRow, TableCell, BlockDocument, Nil, Node, node, join}
-use Rattle.cmark_grammar.specs.DrawnDocument.{settled, without_definitions}
+use Rattle.cmark_block_model.specs.DrawnDocument.{settled, without_definitions}
 use Rattle.cmark_grammar.specs.References.{references}
 use Rattle.cmark_grammar.specs.SpanDocuments.{footnote_labels}
 
@@ -84,7 +84,7 @@ html_tokens_plain text (r ∷ rs) = html_then_plain (verbatim_line text r.column
 
 pub heading_plain : (text : List ℕ) (attributes : Bool) (level : ℕ) (r : Row) → IsPlain (heading_tokens text attributes level r)
 heading_plain text attributes level r =
-    stretch_plain text (first_place r.content_end (behind_hashes level r)) (end_place (first_place r.content_end (behind_hashes level r)) (heading_columns attributes level r)) Nil nil_plain
+    stretch_plain text (first_place r.content_end (after_hashes level r)) (end_place (first_place r.content_end (after_hashes level r)) (heading_columns attributes level r)) Nil nil_plain
 
 pub code_plain : (text : List ℕ) (most : ℕ) (rs : List Row) → IsPlain (code_tokens text most rs)
 code_plain text most rs = texts_plain (code_pieces text most rs) Nil nil_plain

@@ -9,14 +9,14 @@ use Rattle.cmark_grammar.specs.Containers.{Container, BlockQuote, Item, Footnote
 use Rattle.cmark_grammar.specs.Openings.{Leaf, ThematicBreak, AtxHeading, IndentedCode, FencedCode, HtmlBlock, LinkDefinition, MetadataBlock, Table}
 use Rattle.cmark_grammar.specs.Blocks.{Blocks, Nil, BlankLine, Paragraph, SetextHeading, LeafBlock, ContainerBlock, join}
 use Rattle.cmark_grammar.specs.Tokens.{paragraph_tokens}
-use Rattle.cmark_grammar.specs.TaskItems.{behind_box}
+use Rattle.cmark_grammar.specs.TaskItems.{after_box}
 use Rattle.cmark_grammar.specs.Derivation.{last_content_end, reference_of, leaf_then, task_then, list_kind}
 use Rattle.cmark_grammar.specs.Lists.{definition_delimiter}
 use Rattle.cmark_grammar.specs.BlockDocument as document
 use Rattle.cmark_grammar.specs.BlockDocument.{BlockDocument, BlockKind, Reference, Node, node}
 use Rattle.cmark_block_model.specs.Drawing.{Drawing, drawn, opened, closed_at, retitled, enclosed}
 use Rattle.cmark_block_model.specs.OpenBlocks.{OpenList, Title, Siblings, no_siblings}
-use Rattle.cmark_block_model.specs.BlockPass.{ended, ended_but, title_released, definitions_in, siblings_with_block, siblings_with_paragraph, behind_container}
+use Rattle.cmark_block_model.specs.BlockPass.{ended, ended_but, title_released, definitions_in, siblings_with_block, siblings_with_paragraph, after_container}
 use Rattle.std.proofs.Common.{◌≡◌, refl}
 
 -- the link reference definitions, and the labels of the footnote definitions
@@ -82,7 +82,7 @@ level_drawn d l = record l { drawing = drawn d l.drawing }
 
 -- the nodes inside an item, after its task marker, if it has one
 abbrev pub marked : Option Bool → (width : ℕ) → Row → BlockDocument → BlockDocument
-marked task width r inside = task_then task (begin_of (without width r)) (begin_of (without (behind_box task width) r)) inside
+marked task width r inside = task_then task (begin_of (without width r)) (begin_of (without (after_box task width) r)) inside
 
 -- a footnote's label is noted
 abbrev pub footnote_level : (label : List ℕ) → Level → Level
@@ -102,7 +102,7 @@ entered k r l = record (standing k r l) { inner = no_siblings }
 abbrev pub left_by : Container → (around : Siblings) → (end : ℕ) → Level → Level
 left_by k around end l = record l {
   drawing = closed_at end (ended l.inner l.drawing);
-  inner = behind_container k end l.inner around;
+  inner = after_container k end l.inner around;
 }
 
 abbrev pub blank_level : Level → Level

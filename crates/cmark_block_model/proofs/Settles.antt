@@ -9,21 +9,21 @@ use Rattle.cmark_grammar.specs.Labels.{normal_form}
 use Rattle.cmark_grammar.specs.Containers.{BlockQuote, Item, Footnote, ListDefinition}
 use Rattle.cmark_grammar.specs.Openings.{Leaf, ThematicBreak, AtxHeading, IndentedCode, FencedCode, HtmlBlock, LinkDefinition, MetadataBlock, Table}
 use Rattle.cmark_grammar.specs.Blocks.{Blocks, Nil as NoBlocks, BlankLine, Paragraph, SetextHeading, LeafBlock, ContainerBlock}
-use Rattle.cmark_grammar.specs.Lists.{ListBefore, is_tight, tight_behind, goes_on, definition_delimiter, is_title, loose_from, title_tight_behind}
+use Rattle.cmark_grammar.specs.Lists.{ListBefore, is_tight, tight_after, goes_on, definition_delimiter, is_title, loose_from, title_tight_after}
 use Rattle.cmark_grammar.specs.Tokens.{paragraph_tokens, heading_attributes, fenced_lines, lines_before}
 use Rattle.cmark_grammar.specs.Derivation.{paragraph_kind, leaf_then, item_then, document_of, list_kind}
 use Rattle.cmark_grammar.specs.BlockDocument as document
 use Rattle.cmark_grammar.specs.BlockDocument.{join, BlockNode, BlockDocument, Nil, Node, node, BlockKind}
-use Rattle.cmark_grammar.specs.DrawnDocument.{settled, without_definitions, is_definition, node_unless, kind_within}
+use Rattle.cmark_block_model.specs.DrawnDocument.{settled, without_definitions, is_definition, node_unless, kind_within}
 use Rattle.cmark_grammar.specs.Metadata.{ends_metadata}
 use Rattle.cmark_block_model.proofs.PlainTokens.{IsPlain, paragraph_plain, setext_plain, heading_plain, code_plain, html_tokens_plain, table_plain}
 use Rattle.cmark_block_model.proofs.Split.{Split, end_or, lone, item_split, leaf_raw, split, is_delimiter_of, title_split}
 use Rattle.cmark_block_model.proofs.Draws.{other-delimiter}
 use Rattle.cmark_block_model.proofs.Replay.{marked}
-use Rattle.cmark_grammar.specs.Tightness.{tight_within}
+use Rattle.cmark_block_model.specs.Tightness.{tight_within}
 use Rattle.cmark_grammar.specs.References.{reference_of_kind}
 use Rattle.cmark_grammar.specs.SpanDocuments.{footnote_label}
-use Rattle.cmark_grammar.proofs.TightLaws.{title_goes_on}
+use Rattle.cmark_block_model.proofs.TightLaws.{title_goes_on}
 use Rattle.cmark_block_model.proofs.Flags.{and-true, and-false}
 
 -- the rest of the list before: the document begins with it
@@ -171,7 +171,7 @@ module _ (text : List ℕ) (options : Options) (lookup : Lookup) where
       → settled direct (split text options lookup None after).after ≡ without_definitions (document_of text options lookup direct None after)
       → Settles direct before (λ m. (definition_delimiter == m) && z)
       (λ m. title_split z (is_delimiter_of m definition_delimiter) (document.DefinitionList (not (loose_from definition_delimiter false after))) (start_of first) (last_line_end first more) (paragraph_tokens text first more) (split text options lookup (Some definition_delimiter) after) (split text options lookup None after).after)
-      (if z then item_then true (document.DefinitionList (title_tight_behind before after)) (node document.DefinitionListTitle (start_of first) (last_line_end first more)) (paragraph_tokens text first more) (document_of text options lookup direct (Some (record { delimiter = definition_delimiter; tight = title_tight_behind before after })) after)
+      (if z then item_then true (document.DefinitionList (title_tight_after before after)) (node document.DefinitionListTitle (start_of first) (last_line_end first more)) (paragraph_tokens text first more) (document_of text options lookup direct (Some (record { delimiter = definition_delimiter; tight = title_tight_after before after })) after)
       else Node (node (paragraph_kind direct) (start_of first) (last_line_end first more)) (paragraph_tokens text first more) (document_of text options lookup direct None after))
   title-settles false direct before first more after e j n =
       joins-same direct before (λ m. false) (λ m. (definition_delimiter == m) && false) _ _ (λ m. sym (and-false (definition_delimiter == m)))
@@ -195,11 +195,11 @@ module _ (text : List ℕ) (options : Options) (lookup : Lookup) where
           definitions-is refl (λ t x. refl) (λ t. h.still false ∙ sym h.whole)
           (λ t. subst (λ z. Joins z direct t (split text options lookup (Some definition_delimiter) after) (document_of text options lookup direct (Some (record { delimiter = definition_delimiter; tight = t })) after)) (title_goes_on text options lookup after e) (j t))
 
-      tight-same : (before : Option ListBefore) → tight_or before definition_delimiter own ≡ title_tight_behind before after
+      tight-same : (before : Option ListBefore) → tight_or before definition_delimiter own ≡ title_tight_after before after
       tight-same None = refl
       tight-same (Some b) = refl
 
-      go : (b : Option ListBefore) → Settles direct before (λ m. definition_delimiter == m) (λ m. item_split (is_delimiter_of m definition_delimiter) (document.DefinitionList own) document.DefinitionListTitle (start_of first) (last_line_end first more) (paragraph_tokens text first more) (split text options lookup (Some definition_delimiter) after)) (D (title_tight_behind before after))
+      go : (b : Option ListBefore) → Settles direct before (λ m. definition_delimiter == m) (λ m. item_split (is_delimiter_of m definition_delimiter) (document.DefinitionList own) document.DefinitionListTitle (start_of first) (last_line_end first more) (paragraph_tokens text first more) (split text options lookup (Some definition_delimiter) after)) (D (title_tight_after before after))
       go b = subst (λ t. Settles direct before (λ m. definition_delimiter == m) (λ m. item_split (is_delimiter_of m definition_delimiter) (document.DefinitionList own) document.DefinitionListTitle (start_of first) (last_line_end first more) (paragraph_tokens text first more) (split text options lookup (Some definition_delimiter) after)) (D t)) (tight-same before) both
 
   item-settles : (direct : Bool) (before : Option ListBefore) (delimiter : ℕ) (number : Option ℕ) (width : ℕ) (task : Option Bool) (first : Row) (more : List Row) (inside after : Blocks)
@@ -220,7 +220,7 @@ module _ (text : List ℕ) (options : Options) (lookup : Lookup) where
           (split text options lookup (Some delimiter) after) (λ t. document_of text options lookup direct (Some (record { delimiter = delimiter; tight = t })) after)
           (λ t. list-is delimiter number t) refl (λ t x. refl) (λ t. marked-settles t task width first (split text options lookup None inside).after (document_of text options lookup t None inside) (i t)) j
 
-      tight-same : (before : Option ListBefore) → tight_or before delimiter (is_tight delimiter inside after) ≡ tight_behind before delimiter inside after
+      tight-same : (before : Option ListBefore) → tight_or before delimiter (is_tight delimiter inside after) ≡ tight_after before delimiter inside after
       tight-same None = refl
       tight-same (Some b) = refl
 
@@ -242,7 +242,7 @@ module _ (text : List ℕ) (options : Options) (lookup : Lookup) where
           (split text options lookup (Some definition_delimiter) after) (λ t. document_of text options lookup direct (Some (record { delimiter = definition_delimiter; tight = t })) after)
           definitions-is refl (λ t x. refl) i j
 
-      tight-same : (before : Option ListBefore) → tight_or before definition_delimiter (is_tight definition_delimiter inside after) ≡ tight_behind before definition_delimiter inside after
+      tight-same : (before : Option ListBefore) → tight_or before definition_delimiter (is_tight definition_delimiter inside after) ≡ tight_after before definition_delimiter inside after
       tight-same None = refl
       tight-same (Some b) = refl
 

@@ -6,19 +6,19 @@ use Rattle.cmark_grammar.specs.Options.{Options}
 use Rattle.cmark_grammar.specs.Rows.{Row}
 use Rattle.cmark_grammar.specs.Containers.{keeps, strip, strip_as, is_bare_start, bare_after}
 use Rattle.cmark_grammar.specs.Openings.{Leaf, ThematicBreak, AtxHeading, IndentedCode, FencedCode, HtmlBlock, LinkDefinition, lazily, MetadataBlock, Table}
-use Rattle.cmark_grammar.specs.Blocks.{Nil as NoBlocks, ContainerBlock, join as join_blocks, behind_leaf}
+use Rattle.cmark_grammar.specs.Blocks.{Nil as NoBlocks, ContainerBlock, join as join_blocks, after_leaf}
 use Rattle.cmark_grammar.specs.Places.{allows_lazy}
-use Rattle.cmark_grammar.specs.BlocksModel.{within}
-use Rattle.cmark_grammar.specs.BlocksByLine.{Verbatim, Indented, Fenced, HtmlLines, continuation_if, OpenLines, Between, BehindTag, InParagraph, InLeaf, InVerbatim, InContainer, close_lines, lines_take_lazy, lines_kept_or, verbatim_line, lines_begin, lines_feed, Metadata}
-use Rattle.cmark_grammar.proofs.BlockLaws.{strip_lazy, strip_whole}
-use Rattle.cmark_grammar.proofs.BlocksSound.{is_both}
+use Rattle.cmark_block_model.specs.BlocksModel.{within}
+use Rattle.cmark_block_model.specs.BlocksByLine.{Verbatim, Indented, Fenced, HtmlLines, continuation_if, OpenLines, Between, AfterTag, InParagraph, InLeaf, InVerbatim, InContainer, close_lines, lines_take_lazy, lines_kept_or, verbatim_line, lines_begin, lines_feed, Metadata}
+use Rattle.cmark_block_model.proofs.BlockLaws.{strip_lazy, strip_whole}
+use Rattle.cmark_block_model.proofs.BlocksSound.{is_both}
 use Rattle.cmark_block_model.specs.OpenBlocks.{OpenContainer, Closed, takes_lazy, Pass}
 use Rattle.cmark_block_model.specs.BlockPass.{ahead_in, begin, leaf_closed, leaf_fed, lazy_fed, containers_closed, LineKeepers, is_last, kept_if, kept_by, line_with}
 use Rattle.cmark_block_model.proofs.Replay.{Level, entered, replay}
 use Rattle.cmark_block_model.proofs.Mirror.{pass_with, leaf_left, verbatim_leaf, Fits, inner_at, leaf_at, container_at, containers_at, pass_at, bare_at}
 use Rattle.cmark_block_model.proofs.Flags.{and-true, and-false}
 use Rattle.cmark_block_model.proofs.Closing.{leaf-closes, containers-close}
-use Rattle.cmark_block_model.proofs.Beginning.{ahead-inside, IsFresh, starts, starts-behind-tag}
+use Rattle.cmark_block_model.proofs.Beginning.{ahead-inside, IsFresh, starts, starts-following-tag}
 use Rattle.cmark_block_model.proofs.Feeding.{paragraph-feeds, leaf-feeds}
 use Rattle.cmark_block_model.proofs.VerbatimLines.{verbatim-feeds}
 use Rattle.cmark_block_model.proofs.LazyLines.{container-goes, lazy-feeds}
@@ -29,11 +29,11 @@ use Rattle.cmark_block_model.proofs.DefinitionDelimiters.{OpenUnmarked}
 module _ (text : List ℕ) (options : Options) (lookup : Lookup) where
   takes-lazy : (o : OpenLines) → takes_lazy (leaf_at text options lookup o) ≡ lines_take_lazy o
   takes-lazy (Between closed) = refl
-  takes-lazy BehindTag = refl
+  takes-lazy AfterTag = refl
   takes-lazy (InParagraph closed first more) = refl
   takes-lazy (InLeaf closed leaf first had left) = go leaf
     where
-      go : (leaf : Leaf) → takes_lazy (leaf_left leaf left) ≡ allows_lazy (behind_leaf leaf)
+      go : (leaf : Leaf) → takes_lazy (leaf_left leaf left) ≡ allows_lazy (after_leaf leaf)
       go ThematicBreak = refl
       go (AtxHeading level) = refl
       go IndentedCode = refl
@@ -54,7 +54,7 @@ module _ (text : List ℕ) (options : Options) (lookup : Lookup) where
   -- only the innermost container is bare
   bare-flag : (o : OpenLines) (b : Bool) (ahead : List Row) (n : ℕ) (l : Level) → Fits b o ahead n → (bare_at b o && is_last text options lookup (containers_at text options lookup o l)) ≡ b
   bare-flag (Between closed) b ahead n l f = and-true b
-  bare-flag BehindTag b ahead n l f = sym f
+  bare-flag AfterTag b ahead n l f = sym f
   bare-flag (InParagraph closed first more) b ahead n l f = sym f.0
   bare-flag (InLeaf closed leaf first had left) b ahead n l f = sym f.0
   bare-flag (InVerbatim closed verbatim first had waiting) b ahead n l f = sym f.0
@@ -68,8 +68,8 @@ module _ (text : List ℕ) (options : Options) (lookup : Lookup) where
       ≡ pass_at text options lookup (lines_feed options o r ahead) ahead l outer false n
   simulates (Between closed) b r next ahead l outer n h u e a f =
       ap (λ o. begin text options lookup r next (pass_with (replay text options lookup closed l) o false Closed n)) (append-nil outer) ∙ starts text options lookup closed r next ahead l outer n h u e a
-  simulates BehindTag b r next ahead l outer n h u e a f =
-      ap (λ o. begin text options lookup r next (pass_with l o false Closed n)) (append-nil outer) ∙ starts-behind-tag text options lookup r next ahead l outer n h e a
+  simulates AfterTag b r next ahead l outer n h u e a f =
+      ap (λ o. begin text options lookup r next (pass_with l o false Closed n)) (append-nil outer) ∙ starts-following-tag text options lookup r next ahead l outer n h e a
   simulates (InParagraph closed first more) b r next ahead l outer n h u e a f =
       let i = InParagraph closed first more in
       ap (λ o. leaf_fed text options lookup (leaf_at text options lookup i) r next (pass_with (inner_at text options lookup i (r ∷ ahead) l) o false (leaf_at text options lookup i) n)) (append-nil outer)

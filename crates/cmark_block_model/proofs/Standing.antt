@@ -7,32 +7,32 @@ use Rattle.cmark_block_model.proofs.Replay.{Noted, Level}
 
 pub data Stand : Type 0 where
   First : Stand
-  Behind : Stand
+  Following : Stand
   InList : (list : OpenList) → Stand
 
 abbrev pub has_of : Stand → Bool
 has_of First = false
-has_of Behind = true
+has_of Following = true
 has_of (InList o) = true
 
 abbrev pub front_of : Stand → Bool
 front_of First = true
-front_of Behind = false
+front_of Following = false
 front_of (InList o) = false
 
 abbrev pub list_of : Stand → Option OpenList
 list_of First = None
-list_of Behind = None
+list_of Following = None
 list_of (InList o) = Some o
 
 abbrev pub before_of : Stand → Before
 before_of First = Marker
-before_of Behind = Other
+before_of Following = Other
 before_of (InList o) = ItemWith o.delimiter
 
 abbrev pub delimiter_of : Stand → Option ℕ
 delimiter_of First = None
-delimiter_of Behind = None
+delimiter_of Following = None
 delimiter_of (InList o) = Some o.delimiter
 
 abbrev pub level_of : Stand → Drawing → (blank parted : Bool) → Noted → Level

@@ -14,7 +14,7 @@ use Rattle.cmark_grammar.specs.TableRows.{table_head}
 use Rattle.cmark_grammar.specs.Metadata.{metadata_kind, metadata_continuation, holds_metadata}
 use Rattle.cmark_grammar.specs.MetadataBlockKind.{MetadataBlockKind}
 use Rattle.cmark_grammar.specs.Places.{Place}
-use Rattle.cmark_grammar.proofs.BlockLaws.{at-either}
+use Rattle.cmark_block_model.proofs.BlockLaws.{at-either}
 use Rattle.cmark_block_model.proofs.ListDelimiters.{IsUnmarked, SomeUnmarked, container-unmarked}
 
 -- a line that begins nothing is blank, an item has no colon for its marker, and a break or heading takes no further line

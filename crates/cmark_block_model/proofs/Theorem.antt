@@ -4,17 +4,18 @@ use Rattle.cmark_grammar.specs.Answers.{Lookup}
 use Rattle.cmark_grammar.specs.Options.{Options}
 use Rattle.cmark_grammar.specs.Rows.{Row, rows_from, shown, show_as}
 use Rattle.cmark_grammar.specs.Blocks.{Blocks, Nil as NoBlocks}
-use Rattle.cmark_grammar.specs.BlocksModel.{blocks}
-use Rattle.cmark_grammar.specs.BlocksByLine.{OpenLines, Between, close_lines, lines_feed, lines_feed_all, blocks_by_line}
-use Rattle.cmark_grammar.specs.Derivation.{document_of, document}
-use Rattle.cmark_grammar.specs.DrawnDocument.{settled, without_definitions}
+use Rattle.cmark_block_model.specs.BlocksModel.{blocks}
+use Rattle.cmark_block_model.specs.BlocksByLine.{OpenLines, Between, close_lines, lines_feed, lines_feed_all, blocks_by_line}
+use Rattle.cmark_grammar.specs.Derivation.{document_of}
+use Rattle.cmark_block_model.specs.DocumentModel.{document}
+use Rattle.cmark_block_model.specs.DrawnDocument.{settled, without_definitions}
 use Rattle.cmark_grammar.specs.References.{references}
 use Rattle.cmark_grammar.specs.SpanDocuments.{footnote_labels}
 use Rattle.cmark_grammar.specs.BlockDocument as document
 use Rattle.cmark_grammar.specs.BlockDocument.{node, Reference}
 use Rattle.cmark_grammar.specs.Lines.{lines}
-use Rattle.cmark_grammar.proofs.BlocksSound.{AreWhole}
-use Rattle.cmark_grammar.proofs.BlocksByLine.{by_line-same}
+use Rattle.cmark_block_model.proofs.BlocksSound.{AreWhole}
+use Rattle.cmark_block_model.proofs.BlocksByLine.{by_line-same}
 use Rattle.cmark_block_model.specs.Drawing.{nothing_drawn}
 use Rattle.cmark_block_model.specs.OpenBlocks.{Closed, no_siblings, Pass}
 use Rattle.cmark_block_model.specs.BlockPass.{ended, containers_closed, line_fed, lines_fed, all_closed, pass_over}
@@ -37,9 +38,9 @@ abbrev pub bottom_after : Noted → Level
 bottom_after noted = record { drawing = nothing_drawn; inner = no_siblings; noted = noted }
 
 -- the end of the last of these lines
-abbrev pub end_behind : ℕ → List Row → ℕ
-end_behind n [] = n
-end_behind n (r ∷ rs) = end_behind r.line_end rs
+abbrev pub following_end : ℕ → List Row → ℕ
+following_end n [] = n
+following_end n (r ∷ rs) = following_end r.line_end rs
 
 module _ (text : List ℕ) (options : Options) (lookup : Lookup) (noted : Noted) where
   abbrev bottom : Level
@@ -62,12 +63,12 @@ module _ (text : List ℕ) (options : Options) (lookup : Lookup) (noted : Noted)
   next-fits r rs o n h f = feed-fits text options lookup o false r (shown rs) n h.0 (subst (λ x. Fits false o x n) (shown-first r rs h.0) f)
 
   all-fed : (rs : List Row) (o : OpenLines) (n : ℕ) → AreWhole options rs → OpenUnmarked o → Fits false o (shown rs) n
-      → lines_fed text options lookup rs (pass_at text options lookup o (shown rs) bottom [] false n) ≡ pass_at text options lookup (lines_feed_all options o rs) [] bottom [] false (end_behind n rs)
+      → lines_fed text options lookup rs (pass_at text options lookup o (shown rs) bottom [] false n) ≡ pass_at text options lookup (lines_feed_all options o rs) [] bottom [] false (following_end n rs)
   all-fed [] o n h u f = refl
   all-fed (r ∷ rs) o n h u f =
       ap (lines_fed text options lookup rs) (one-fed r rs o n h u f) ∙ all-fed rs (lines_feed options o r (shown rs)) r.line_end h.1 (feed-unmarked options o r (shown rs) u) (next-fits r rs o n h f)
 
-  all-fit : (rs : List Row) (o : OpenLines) (n : ℕ) → AreWhole options rs → Fits false o (shown rs) n → Fits false (lines_feed_all options o rs) [] (end_behind n rs)
+  all-fit : (rs : List Row) (o : OpenLines) (n : ℕ) → AreWhole options rs → Fits false o (shown rs) n → Fits false (lines_feed_all options o rs) [] (following_end n rs)
   all-fit [] o n h f = f
   all-fit (r ∷ rs) o n h f = all-fit rs (lines_feed options o r (shown rs)) r.line_end h.1 (next-fits r rs o n h f)
 
@@ -86,7 +87,7 @@ module _ (text : List ℕ) (options : Options) (lookup : Lookup) (noted : Noted)
       × (all_closed text options lookup (lines_fed text options lookup rs (starting_at from noted.references noted.footnotes)) ≡ done (replay text options lookup (close_lines (lines_feed_all options (Between NoBlocks) rs)) bottom) bare n)
   lines-done from rs h =
       let o = lines_feed_all options (Between NoBlocks) rs in
-      let n = end_behind from rs in (
+      let n = following_end from rs in (
         bare_at false o,
         n,
         ap (all_closed text options lookup) (all-fed rs (Between NoBlocks) from h tt tt) ∙ all-closes o n (all-fit rs (Between NoBlocks) from h tt),

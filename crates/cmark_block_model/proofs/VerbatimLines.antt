@@ -8,7 +8,7 @@ use Rattle.cmark_grammar.specs.Leaves.{Continuation, GoesOn, Closes, Waits, Stop
 use Rattle.cmark_grammar.specs.HtmlBlocks.{html_continuation}
 use Rattle.cmark_grammar.specs.Openings.{FencedCode, HtmlBlock, MetadataBlock}
 use Rattle.cmark_grammar.specs.Blocks.{Blocks, Nil as NoBlocks, LeafBlock, join as join_blocks}
-use Rattle.cmark_grammar.specs.BlocksByLine.{Verbatim, Indented, Fenced, HtmlLines, continuation_in, InVerbatim, close_lines, verbatim_line, lines_begin, Metadata, leaf_in, blank_lines}
+use Rattle.cmark_block_model.specs.BlocksByLine.{Verbatim, Indented, Fenced, HtmlLines, continuation_in, InVerbatim, close_lines, verbatim_line, lines_begin, Metadata, leaf_in, blank_lines}
 use Rattle.cmark_grammar.specs.Tokens.{resolved, code_tokens, code_columns, fenced_lines, html_tokens, stop_at, lines_before}
 use Rattle.cmark_grammar.specs.BlockDocument as document
 use Rattle.cmark_grammar.specs.BlockDocument.{join}

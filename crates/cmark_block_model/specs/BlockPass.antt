@@ -19,11 +19,11 @@ use Rattle.cmark_grammar.specs.BlockQuoteKind.{BlockQuoteKind}
 use Rattle.cmark_grammar.specs.Labels.{normal_form}
 use Rattle.cmark_grammar.specs.Metadata.{ends_metadata}
 use Rattle.cmark_grammar.specs.Blocks.{place_in}
-use Rattle.cmark_grammar.specs.Places.{Place, Apart, BehindTitle}
-use Rattle.cmark_grammar.specs.TaskItems.{behind_box}
+use Rattle.cmark_grammar.specs.Places.{Place, Apart, AfterTitle}
+use Rattle.cmark_grammar.specs.TaskItems.{after_box}
 use Rattle.cmark_block_model.specs.Drawing.{Drawing, drawn, opened, closed_as, closed_at, retitled, enclosed, released, unbraced}
 use Rattle.cmark_block_model.specs.CodeLines.{code_line, rest_of, texts_of}
-use Rattle.cmark_block_model.specs.OpenBlocks.{OpenList, Title, Siblings, no_siblings, OpenContainer, OpenLeaf, Closed, BehindTag, InParagraph, InDefinition, InIndented, InFenced, InHtml, takes_lazy, Pass, at_start, InMetadata, InTable}
+use Rattle.cmark_block_model.specs.OpenBlocks.{OpenList, Title, Siblings, no_siblings, OpenContainer, OpenLeaf, Closed, AfterTag, InParagraph, InDefinition, InIndented, InFenced, InHtml, takes_lazy, Pass, at_start, InMetadata, InTable}
 
 -- the list closed, if it is open
 abbrev pub list_closed : Option OpenList → Drawing → Drawing
@@ -59,12 +59,12 @@ siblings_with_paragraph s = record (siblings_with_block s) { title = Some (recor
 abbrev pub siblings_with_item : OpenList → Siblings → Siblings
 siblings_with_item l s = record s { blank = false; list = Some (record l { loose = l.loose || s.blank }) }
 
-abbrev pub list_behind : Option OpenList → (parted : Bool) → (end : ℕ) → Option OpenList
-list_behind None parted end = None
-list_behind (Some l) parted end = Some (record l { loose = l.loose || parted; end = end })
+abbrev pub list_after : Option OpenList → (parted : Bool) → (end : ℕ) → Option OpenList
+list_after None parted end = None
+list_after (Some l) parted end = Some (record l { loose = l.loose || parted; end = end })
 
-abbrev pub siblings_behind_item : (end : ℕ) → (inside around : Siblings) → Siblings
-siblings_behind_item end inside around = record around { blank = inside.blank; list = list_behind around.list inside.parted end }
+abbrev pub siblings_after_item : (end : ℕ) → (inside around : Siblings) → Siblings
+siblings_after_item end inside around = record around { blank = inside.blank; list = list_after around.list inside.parted end }
 
 -- a block begins that is not an item
 abbrev pub block_begun : Pass → Pass
@@ -77,8 +77,8 @@ ended_but None s d = ended s d
 
 -- the place of a line after these siblings, as far as a definition may begin there
 abbrev pub place_with : Option Title → Option OpenList → Place
-place_with (Some t) list = BehindTitle
-place_with None (Some l) = BehindTitle
+place_with (Some t) list = AfterTitle
+place_with None (Some l) = AfterTitle
 place_with None None = Apart
 
 abbrev pub place_of : Siblings → Place
@@ -112,9 +112,9 @@ title_made (Some l) parted start p = record p {
 }
 
 -- a definition begins after its title or after another definition
-abbrev pub definition_behind : Option Title → (start : ℕ) → Pass → Pass
-definition_behind None start p = item_begun definition_delimiter None start p p.inner.list
-definition_behind (Some t) start p = title_made t.list t.parted start p
+abbrev pub definition_after : Option Title → (start : ℕ) → Pass → Pass
+definition_after None start p = item_begun definition_delimiter None start p p.inner.list
+definition_after (Some t) start p = title_made t.list t.parted start p
 
 abbrev pub inside_of : Container → Pass → Pass
 inside_of k p = record p { inner = no_siblings; outer = p.outer ++ record { container = k; around = p.inner } ∷ [] }
@@ -137,7 +137,7 @@ abbrev pub item_begun_in : (delimiter : ℕ) → Option ℕ → (width : ℕ) �
 item_begun_in delimiter number width task start p = inside_of (Item delimiter number width task) (node_opened start document.ListItem (item_begun delimiter number start p p.inner.list))
 
 abbrev pub definition_begun_in : (width start : ℕ) → Pass → Pass
-definition_begun_in width start p = inside_of (ListDefinition width) (node_opened start document.DefinitionListDefinition (definition_behind p.inner.title start p))
+definition_begun_in width start p = inside_of (ListDefinition width) (node_opened start document.DefinitionListDefinition (definition_after p.inner.title start p))
 
 abbrev pub with_drawn : BlockDocument → Pass → Pass
 with_drawn document p = record p { drawing = drawn document p.drawing }
@@ -147,21 +147,21 @@ abbrev pub container_begun : Container → Row → Pass → Pass
 container_begun (BlockQuote alert) r p = block_quote_begun alert (start_of r) p
 container_begun (Footnote label old size) r p = footnote_begun label old size (start_of r) p
 container_begun (Item delimiter number width task) r p =
-    with_drawn (task_then task (begin_of (without width r)) (begin_of (without (behind_box task width) r)) Nil) (item_begun_in delimiter number width task (begin_of r) p)
+    with_drawn (task_then task (begin_of (without width r)) (begin_of (without (after_box task width) r)) Nil) (item_begun_in delimiter number width task (begin_of r) p)
 container_begun (ListDefinition width) r p = definition_begun_in width (begin_of r) p
 
 -- the siblings around a closed container, with the container as the last of them
-abbrev pub behind_container : Container → (end : ℕ) → (inside around : Siblings) → Siblings
-behind_container (BlockQuote alert) end inside around = around
-behind_container (Footnote label old size) end inside around = record around { blank = inside.blank }
-behind_container (Item delimiter number width task) end inside around = siblings_behind_item end inside around
-behind_container (ListDefinition width) end inside around = siblings_behind_item end inside around
+abbrev pub after_container : Container → (end : ℕ) → (inside around : Siblings) → Siblings
+after_container (BlockQuote alert) end inside around = around
+after_container (Footnote label old size) end inside around = record around { blank = inside.blank }
+after_container (Item delimiter number width task) end inside around = siblings_after_item end inside around
+after_container (ListDefinition width) end inside around = siblings_after_item end inside around
 
 -- the innermost container closed
 abbrev pub container_closed : OpenContainer → List OpenContainer → Pass → Pass
 container_closed c outer p = record p {
   drawing = closed_at p.line_end (ended p.inner p.drawing);
-  inner = behind_container c.container p.line_end p.inner c.around;
+  inner = after_container c.container p.line_end p.inner c.around;
   outer = outer;
 }
 
@@ -173,7 +173,7 @@ is_item (ListDefinition width) = true
 
 -- after an alert's tag its line begins no other block
 abbrev pub inside_begun : (is_alert : Bool) → (outside begun : Pass) → Pass
-inside_begun true outside begun = record outside { leaf = BehindTag }
+inside_begun true outside begun = record outside { leaf = AfterTag }
 inside_begun false outside begun = begun
 
 abbrev pub is_some : List Row → Bool
@@ -201,7 +201,7 @@ module _ (text : List ℕ) (options : Options) (lookup : Lookup) where
   -- the open leaf closed, if any
   abbrev pub close_leaf : OpenLeaf → Pass → Pass
   close_leaf Closed p = p
-  close_leaf BehindTag p = record p { leaf = Closed }
+  close_leaf AfterTag p = record p { leaf = Closed }
   close_leaf (InParagraph before from last) p = node_closed p.line_end (with_drawn (last_stretch from last) p)
   close_leaf (InDefinition left) p = record p { leaf = Closed }
   close_leaf (InTable left) p = record p { leaf = Closed }
@@ -317,7 +317,7 @@ module _ (text : List ℕ) (options : Options) (lookup : Lookup) where
   -- a line that lacks no prefix, after the open leaf
   abbrev pub leaf_fed : OpenLeaf → Row → (next : List Row) → Pass → Pass
   leaf_fed Closed r next p = begin r next p
-  leaf_fed BehindTag r next p = begin r next (leaf_closed p)
+  leaf_fed AfterTag r next p = begin r next (leaf_closed p)
   leaf_fed (InParagraph before from last) r next p =
       underlined_or (underlines r) (λ level. heading_made level before from last r p)
       (if texts options r (ahead_in p.outer next) then paragraph_line before from last r p else begin r next (leaf_closed p))
@@ -336,7 +336,7 @@ module _ (text : List ℕ) (options : Options) (lookup : Lookup) where
   abbrev pub lazy_fed : OpenLeaf → Row → Pass → Pass
   lazy_fed (InParagraph before from last) r p = paragraph_line before from last r p
   lazy_fed (InDefinition left) r p = paragraph_begun r p
-  lazy_fed BehindTag r p = paragraph_begun r p
+  lazy_fed AfterTag r p = paragraph_begun r p
   lazy_fed Closed r p = p
   lazy_fed (InIndented waits end blank) r p = p
   lazy_fed (InFenced fence waits) r p = p

@@ -16,16 +16,16 @@ abbrev pub longer : Piece → Piece → Piece
 longer p q = record { owned = false; bytes = p.bytes ++ q.bytes; start = p.start; end = q.end }
 
 -- another piece: a stretch waits, an owned piece is finished
-abbrev pub put_behind : (owned : Bool) → List Piece → Piece → Run
-put_behind true done q = record { done = done ++ q ∷ []; waits = None }
-put_behind false done q = record { done = done; waits = Some q }
+abbrev pub put_after : (owned : Bool) → List Piece → Piece → Run
+put_after true done q = record { done = done ++ q ∷ []; waits = None }
+put_after false done q = record { done = done; waits = Some q }
 
 abbrev pub touch : (touching : Bool) → List Piece → Piece → Piece → Run
 touch true done p q = record { done = done; waits = Some (longer p q) }
-touch false done p q = put_behind q.owned (done ++ p ∷ []) q
+touch false done p q = put_after q.owned (done ++ p ∷ []) q
 
 abbrev pub add_to : List Piece → Option Piece → Piece → Run
-add_to done None q = put_behind q.owned done q
+add_to done None q = put_after q.owned done q
 add_to done (Some p) q = touch (touches p q) done p q
 
 abbrev pub add_piece : Run → Piece → Run

@@ -1,5 +1,14 @@
+pub mod Balance
 pub mod BlockPass
+pub mod BlocksByLine
+pub mod BlocksModel
 pub mod CodeLines
+pub mod DocumentModel
 pub mod Drawing
+pub mod DrawnDocument
+pub mod MetadataPlaces
 pub mod OpenBlocks
+pub mod Ranges
+pub mod TableShape
 pub mod Tails
+pub mod Tightness

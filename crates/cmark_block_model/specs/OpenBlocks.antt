@@ -53,7 +53,7 @@ pub record OpenContainer : Type 0 where
 --   the blank lines after that.
 pub data OpenLeaf : Type 0 where
   Closed : OpenLeaf
-  BehindTag : OpenLeaf
+  AfterTag : OpenLeaf
   InParagraph : (before : List Row) → (from : ℕ) → (last : Row) → OpenLeaf
   InDefinition : (left : ℕ) → OpenLeaf
   InTable : (left : ℕ) → OpenLeaf
@@ -65,7 +65,7 @@ pub data OpenLeaf : Type 0 where
 -- a lazy line may follow the leaf
 abbrev pub takes_lazy : OpenLeaf → Bool
 takes_lazy Closed = false
-takes_lazy BehindTag = true
+takes_lazy AfterTag = true
 takes_lazy (InParagraph before from last) = true
 takes_lazy (InDefinition left) = true
 takes_lazy (InTable left) = false

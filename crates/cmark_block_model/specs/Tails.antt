@@ -3,7 +3,7 @@ use Rattle.std.specs.Prelude.{ℕ, false, List, [], drop, None}
 use Rattle.cmark_grammar.specs.Answers.{Lookup}
 use Rattle.cmark_grammar.specs.BlockDocument.{BlockDocument, Reference}
 use Rattle.cmark_grammar.specs.Blocks.{Blocks, Nil}
-use Rattle.cmark_grammar.specs.BlocksByLine.{Between, close_lines, lines_feed_all}
+use Rattle.cmark_block_model.specs.BlocksByLine.{Between, close_lines, lines_feed_all}
 use Rattle.cmark_grammar.specs.Derivation.{document_of}
 use Rattle.cmark_grammar.specs.Lines.{lines}
 use Rattle.cmark_grammar.specs.Options.{Options}

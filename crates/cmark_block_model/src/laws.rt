@@ -4,10 +4,11 @@ ghost use Rattle.std.specs.Prelude.{◌≡◌, ℕ, false, ◌+◌, ◌*◌, ◌
 ghost use Rattle.cmark_grammar.specs.Answers.{Lookup};
 ghost use Rattle.cmark_grammar.specs.BlockDocument.{BlockDocument, Reference};
 ghost use Rattle.cmark_grammar.specs.BlockReading.{block_reading};
-ghost use Rattle.cmark_grammar.specs.Derivation.{Derives, document};
-ghost use Rattle.cmark_grammar.specs.DrawnDocument.{settled, without_definitions};
+ghost use Rattle.cmark_grammar.specs.Derivation.{Derives};
+ghost use Rattle.cmark_block_model.specs.DocumentModel.{document};
+ghost use Rattle.cmark_block_model.specs.DrawnDocument.{settled, without_definitions};
 ghost use Rattle.cmark_grammar.specs.Options.{Options};
-ghost use Rattle.cmark_grammar.specs.Ranges.{AllAt, InOrder, count_tables};
+ghost use Rattle.cmark_block_model.specs.Ranges.{AllAt, InOrder, count_tables};
 ghost use Rattle.cmark_grammar.specs.References.{references};
 ghost use Rattle.cmark_grammar.specs.SpanDocuments.{footnote_labels, segments};
 ghost use Rattle.cmark_block_model.specs.BlockPass.{pass_over};
@@ -41,7 +42,7 @@ pub fn pass_draws_the_rest()
     ensures document { (text : List ℕ) (options : Options) (lookup : Lookup) → document_after text options lookup 0 ≡ document text options lookup }
 {}
 
-/// A document and the same document without its link reference definitions have the same events (CommonMark 4.7).
+/// Leaving out the link reference definitions of a document does not change its events (CommonMark 4.7).
 pub fn definitions_are_not_read()
     ensures { (document : BlockDocument) → block_reading (without_definitions document) ≡ block_reading document }
 {}

@@ -1,5 +1,8 @@
-//! The block pass as steps on a document that is being drawn: the open blocks, and how the next line changes them. The code of the pass is
-//! proved to make these steps. That they draw the document of the grammar is proved here.
+//! The block grammar as functions, and the block pass as steps on a document that is being drawn.
+//!
+//! - [`block_laws`]: the block grammar. Each text derives exactly one document, which is the model's.
+//! - [`laws`]: the block pass. Its steps over the lines of a text draw this document. The code of the pass is proved to make these steps.
 #![tactic(auto)]
 
+pub mod block_laws;
 pub mod laws;

@@ -5,15 +5,15 @@ use Rattle.cmark_grammar.specs.Lines.{lines}
 use Rattle.cmark_grammar.specs.Answers.{Lookup}
 use Rattle.cmark_grammar.specs.Options.{Options}
 use Rattle.cmark_grammar.specs.Rows.{Row, rows_from, shown, show_as}
-use Rattle.cmark_lines.specs.Rests.{row_of}
-use Rattle.cmark_lines.specs.declared.line_rest.LineRest.{LineRest}
+use Rattle.cmark_line_rules.specs.Rests.{row_of}
+use Rattle.cmark_line_rules.specs.declared.line_rest.LineRest.{LineRest}
 use Rattle.cmark_blocks.specs.Ahead.{lines_at}
 use Rattle.cmark_grammar.specs.Containers.{keeps, strip_as, strips}
 use Rattle.cmark_grammar.specs.Leaves.{underlines}
 use Rattle.cmark_grammar.specs.Openings.{interrupts, text_lines, put_if, is_none}
 use Rattle.cmark_blocks.specs.TablesAhead.{block_interrupts}
-use Rattle.cmark_lines.proofs.LazyRows.{whole-texts}
-use Rattle.cmark_grammar.proofs.RowPlaces.{kept-behind}
+use Rattle.cmark_line_rules.proofs.LazyRows.{whole-texts}
+use Rattle.cmark_block_model.proofs.RowPlaces.{kept-following}
 use Rattle.cmark_block_model.specs.BlockPass.{LineKeepers, kept_by, kept_if, ahead_in}
 use Rattle.cmark_block_model.specs.OpenBlocks.{OpenContainer}
 
@@ -38,7 +38,7 @@ module _ (text : List ℕ) (options : Options) (lookup : Lookup) where
 
       go : (o : Option Row) → keeps c.container false r ≡ o → Later → Sees (c ∷ cs) r more (kept_if text options lookup o (λ s. kept_by text options lookup (outer ++ c ∷ []) cs false s) (record { kept = outer; missed = c ∷ cs; left = r }))
       go (Some s) e later =
-          let n = kept-behind c.container false r s e in
+          let n = kept-following c.container false r s e in
           let whole_s : s.lazy ≡ false = ap (λ t. t.lazy) (sym n.1.1) ∙ whole in
           let ih = later s (shown (strips c.container false more)) whole_s in
           let inside : ahead_in text options lookup (c ∷ cs) (r ∷ more) ≡ ahead_in text options lookup cs (s ∷ shown (strips c.container false more)) =
@@ -75,10 +75,10 @@ module _ (text : List ℕ) (options : Options) (lookup : Lookup) where
   pub record Inside (cs : List OpenContainer) (at : ℕ) (r : Row) (more : List Row) (rest : Row) : Type 0 where
     pub others : List Row
     pub lines : ahead_in text options lookup cs (r ∷ more) ≡ ahead_in text options lookup (drop at cs) (rest ∷ others)
-    pub behind : ahead_in text options lookup cs more ≡ ahead_in text options lookup (drop at cs) others
+    pub following : ahead_in text options lookup cs more ≡ ahead_in text options lookup (drop at cs) others
 
   pub inside-start : (cs : List OpenContainer) (r : Row) (more : List Row) → Inside cs 0 r more r
-  inside-start cs r more = record { others = more; lines = refl; behind = refl }
+  inside-start cs r more = record { others = more; lines = refl; following = refl }
 
   pub inside-keeps : (cs : List OpenContainer) (at : ℕ) (c : OpenContainer) (others : List OpenContainer) (r : Row) (more : List Row) (rest s : Row) → drop at cs ≡ c ∷ others → drop (suc at) cs ≡ others →
       Some s ≡ keeps c.container false rest → s.lazy ≡ false → Inside cs at r more rest → Inside cs (suc at) r more s
@@ -89,7 +89,7 @@ module _ (text : List ℕ) (options : Options) (lookup : Lookup) where
         ∙ ap (λ o. ahead_in text options lookup others (shown (strip_as o rest ∷ strips c.container false i.others))) (sym keep)
         ∙ ap (λ l. ahead_in text options lookup others (show_as l s (shown (strips c.container false i.others)))) whole
         ∙ ap (λ l. ahead_in text options lookup l (s ∷ shown (strips c.container false i.others))) (sym next);
-    behind = i.behind ∙ ap (λ l. ahead_in text options lookup l i.others) is ∙ ap (λ l. ahead_in text options lookup l (shown (strips c.container false i.others))) (sym next);
+    following = i.following ∙ ap (λ l. ahead_in text options lookup l i.others) is ∙ ap (λ l. ahead_in text options lookup l (shown (strips c.container false i.others))) (sym next);
   }
 
   pub inside-misses : (cs : List OpenContainer) (at : ℕ) (c : OpenContainer) (others : List OpenContainer) (r : Row) (more : List Row) (rest : Row) → drop at cs ≡ c ∷ others →
@@ -101,7 +101,7 @@ module _ (text : List ℕ) (options : Options) (lookup : Lookup) where
   pub inside-all : (cs : List OpenContainer) (at : ℕ) (r : Row) (more : List Row) (rest : Row) → drop at cs ≡ [] → Inside cs at r more rest → ahead_in text options lookup cs (r ∷ more) ≡ rest ∷ ahead_in text options lookup cs more
   inside-all cs at r more rest none i =
       i.lines ∙ ap (λ l. ahead_in text options lookup l (rest ∷ i.others)) none
-      ∙ ap (λ l. rest ∷ l) (sym (i.behind ∙ ap (λ l. ahead_in text options lookup l i.others) none))
+      ∙ ap (λ l. rest ∷ l) (sym (i.following ∙ ap (λ l. ahead_in text options lookup l i.others) none))
 
   -- the next whole line of the text, before those after it
   pub next-line : (T : List ℕ) (start place : ℕ) (line : LineRest) (cs : List OpenContainer) (seen : Option LineRest) → T ≡ text → start ≡ place →

@@ -7,13 +7,13 @@ use Rattle.cmark_grammar.specs.Options.{Options}
 use Rattle.cmark_grammar.specs.Rows.{Row, without, indent_of, words_of}
 use Rattle.cmark_grammar.specs.TaskItems.{task_in}
 use Rattle.cmark_grammar.specs.TaskMarkers.{task_of}
-use Rattle.cmark_grammar.proofs.RowEdges.{Front, IsAsciiByte, GoodRow, bytes-front, without-good}
-use Rattle.cmark_grammar.proofs.TaskFronts.{task-front}
-use Rattle.cmark_lines.proofs.RestSteps.{in-moved}
-use Rattle.cmark_lines.specs.Rests.{row_of, IsIn}
-use Rattle.cmark_lines.specs.declared.line_rest.LineRest.{LineRest}
-use Rattle.cmark_leaves.specs.TextColumns.{StandInText, IsRead}
-use Rattle.cmark_leaves.proofs.TextColumnSteps.{without-in_text}
+use Rattle.cmark_block_model.proofs.RowEdges.{Front, IsAsciiByte, GoodRow, bytes-front, without-good}
+use Rattle.cmark_block_model.proofs.TaskFronts.{task-front}
+use Rattle.cmark_line_rules.proofs.RestSteps.{in-moved}
+use Rattle.cmark_line_rules.specs.Rests.{row_of, IsIn}
+use Rattle.cmark_line_rules.specs.declared.line_rest.LineRest.{LineRest}
+use Rattle.cmark_leaf_nodes.specs.TextColumns.{StandInText, IsRead}
+use Rattle.cmark_leaf_nodes.proofs.TextColumnSteps.{without-in_text}
 
 no-indent : (a : Bool) (n : ℕ) → (a && (n == 0)) ≡ true → n ≡ 0
 no-indent true n e = grind (arith, e)
@@ -28,8 +28,8 @@ box-good text options r checked e g = go (options.tasklists && (indent_of r == 0
         without-good (IsCharBoundary text) 3 r g (bytes-front (IsCharBoundary text) 3 r.columns g.good (subst (λ bs. Front IsAsciiByte 3 bs) words (task-front (words_of r) checked q)))
     go false f q = absurd (let p : None ≡ Some checked = q in cc)
 
-pub box-read : (text : List ℕ) (options : Options) (inside behind : LineRest) (checked : Bool) → task_in options (row_of inside) ≡ Some checked → row_of behind ≡ without 3 (row_of inside) → IsIn text inside → StandInText text (row_of inside).columns → IsRead text behind
-box-read text options inside behind checked e is h in_text = record {
-  placed = in-moved text inside behind (without 3 (row_of inside)) is refl (box-good text options (row_of inside) checked e h.good) h;
+pub box-read : (text : List ℕ) (options : Options) (inside following : LineRest) (checked : Bool) → task_in options (row_of inside) ≡ Some checked → row_of following ≡ without 3 (row_of inside) → IsIn text inside → StandInText text (row_of inside).columns → IsRead text following
+box-read text options inside following checked e is h in_text = record {
+  placed = in-moved text inside following (without 3 (row_of inside)) is refl (box-good text options (row_of inside) checked e h.good) h;
   in_text = subst (λ (s : Row). StandInText text s.columns) (sym is) (without-in_text text 3 (row_of inside) in_text);
 }

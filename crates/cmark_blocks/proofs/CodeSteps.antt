@@ -7,13 +7,13 @@ use Rattle.cmark_grammar.specs.Leaves as grammar
 use Rattle.cmark_grammar.specs.Leaves.{Fence, closes_fence, fence_continuation}
 use Rattle.cmark_grammar.specs.Rows.{Row, without, begin_of, first_place, indent_of}
 use Rattle.cmark_grammar.specs.Tokens.{Piece, code_columns}
-use Rattle.cmark_lines.specs.Rests.{row_of}
-use Rattle.cmark_lines.specs.declared.line_rest.LineRest.{LineRest}
-use Rattle.cmark_lines.specs.Continuations.{shown_continuation}
-use Rattle.cmark_lines.specs.declared.continuation.Continuation.{Continuation}
-use Rattle.cmark_lines.specs.declared.continuation.Continuation.TheVariants.{GoesOn, Closes, Waits, Stops}
-use Rattle.cmark_leaves.specs.Stretches.{shown_waits}
-use Rattle.cmark_leaves.specs.declared.stretch.Stretch.{Stretch}
+use Rattle.cmark_line_rules.specs.Rests.{row_of}
+use Rattle.cmark_line_rules.specs.declared.line_rest.LineRest.{LineRest}
+use Rattle.cmark_line_rules.specs.Continuations.{shown_continuation}
+use Rattle.cmark_line_rules.specs.declared.continuation.Continuation.{Continuation}
+use Rattle.cmark_line_rules.specs.declared.continuation.Continuation.TheVariants.{GoesOn, Closes, Waits, Stops}
+use Rattle.cmark_leaf_nodes.specs.Stretches.{shown_waits}
+use Rattle.cmark_leaf_nodes.specs.declared.stretch.Stretch.{Stretch}
 use Rattle.cmark_block_model.specs.BlockPass.{leaf_fed, node_closed, with_drawn, code_drawn}
 use Rattle.cmark_block_model.specs.CodeLines.{rest_of, texts_of}
 use Rattle.cmark_block_model.specs.OpenBlocks as model

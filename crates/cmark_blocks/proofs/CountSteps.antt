@@ -2,15 +2,15 @@
 use Rattle.std.proofs.Common.{◌≡◌, ℕ, suc, ◌+◌, ◌*◌, ◌≤◌, Bool, true, false, List, Option, length, refl, sym, ap, ◌∙◌, arith}
 use Rattle.cmark_tree.specs.Forest as forest
 use Rattle.cmark_tree.specs.Forest.{Forest, size}
-use Rattle.cmark_text_parts.specs.declared.text.CowStr.{CowStr}
+use Rattle.cmark_values.specs.declared.text.CowStr.{CowStr}
 use Rattle.cmark_grammar.specs.Answers.{Lookup}
 use Rattle.cmark_grammar.specs.BlockDocument.{BlockNode, BlockDocument, Nil, Node}
-use Rattle.cmark_grammar.specs.Derivation.{document}
-use Rattle.cmark_grammar.specs.DrawnDocument.{is_definition, node_unless, settled, without_definitions}
+use Rattle.cmark_block_model.specs.DocumentModel.{document}
+use Rattle.cmark_block_model.specs.DrawnDocument.{is_definition, node_unless, settled, without_definitions}
 use Rattle.cmark_grammar.specs.Options.{Options}
-use Rattle.cmark_grammar.specs.Ranges.{count_nodes, count_tables}
-use Rattle.cmark_grammar.specs.Tightness.{tight_within}
-use Rattle.cmark_grammar.proofs.CountLaws.{derived-count}
+use Rattle.cmark_block_model.specs.Ranges.{count_nodes, count_tables}
+use Rattle.cmark_block_model.specs.Tightness.{tight_within}
+use Rattle.cmark_block_model.proofs.CountLaws.{derived-count}
 use Rattle.cmark_items.specs.declared.item.Item.{Item}
 use Rattle.cmark_items.specs.ItemNodes.{Shape, ParagraphOf, TitleOf, shape, shown_inside, shown_forest, nodes_of}
 use Rattle.cmark_block_model.specs.BlockPass.{pass_over}

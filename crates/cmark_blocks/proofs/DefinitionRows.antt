@@ -9,7 +9,7 @@ use Rattle.cmark_grammar.specs.DefinitionLists.{begins_definition, definition_at
 use Rattle.cmark_grammar.specs.Letters.{first_is, is_letter}
 use Rattle.cmark_grammar.specs.Openings.{Nests, opens, opens_at, definition_or, text_begun}
 use Rattle.cmark_grammar.specs.Options.{Options}
-use Rattle.cmark_grammar.specs.Places.{Place, Apart, is_behind_task, is_behind_title}
+use Rattle.cmark_grammar.specs.Places.{Place, Apart, is_after_task, is_after_title}
 use Rattle.cmark_grammar.specs.Columns.{Column, bytes_of, without_indent}
 use Rattle.cmark_grammar.specs.Rows.{Row, indent_of, words_of, without}
 use Rattle.cmark_block_model.specs.BlockPass.{ahead_in, begin_as, begin_in, container_begun, inside_begun, is_item, place_of, place_with, definitions_in}
@@ -36,7 +36,7 @@ letter-definition-not options r e = ap is_marker (none-marked options.definition
 
 -- a line with another byte at its beginning begins no definition
 pub other-defines-not : (options : Options) (place : Place) (r : Row) → begins_with 58 (words_of r) ≡ false → definition_at options place r ≡ None
-other-defines-not options place r other = go (is_behind_title place)
+other-defines-not options place r other = go (is_after_title place)
   where
     go : (z : Bool) → (if z then definition_marker options r else None) ≡ None
     go true = none-marked options.definition_list (nat_le (indent_of r) 3) r other
@@ -47,10 +47,10 @@ pub blank-defines-not : (options : Options) (place : Place) (r : Row) → words_
 blank-defines-not options place r none = other-defines-not options place r (ap (begins_with 58) none)
 
 -- a place after siblings is not after a task marker
-pub place-plain : (s : model.Siblings) → is_behind_task (place_of s) ≡ false
+pub place-plain : (s : model.Siblings) → is_after_task (place_of s) ≡ false
 place-plain s = go s.title (definitions_in s.list)
   where
-    go : (t : Option model.Title) (l : Option model.OpenList) → is_behind_task (place_with t l) ≡ false
+    go : (t : Option model.Title) (l : Option model.OpenList) → is_after_task (place_with t l) ≡ false
     go (Some t) l = refl
     go None (Some l) = refl
     go None None = refl
@@ -103,9 +103,9 @@ some-columns r e = go r.columns refl
 
 -- after its marker fewer columns are left
 pub definition-shorter : (options : Options) (r s : Row) (width : ℕ) → Some width ≡ definition_marker options r → s ≡ without width r → length s.columns < length r.columns
-definition-shorter options r s width is behind =
+definition-shorter options r s width is following =
     let wide = marked-wide (options.definition_list && (not r.lazy && nat_le (indent_of r) 3)) r width is in
     let e : width ≡ width_with 1 r = wide.1 in
     let some = some-columns r wide.0 in
-    let left : length s.columns ≡ length r.columns - width = ap (λ (x : Row). length x.columns) behind ∙ length-drop width r.columns in
+    let left : length s.columns ≡ length r.columns - width = ap (λ (x : Row). length x.columns) following ∙ length-drop width r.columns in
     omega (arith, e, some, left)

@@ -15,10 +15,10 @@ use Rattle.cmark_grammar.specs.References.{first_with}
 use Rattle.cmark_grammar.specs.Rows.{Row, start_of}
 use Rattle.cmark_references.specs.Definitions.{reference_at}
 use Rattle.cmark_references.specs.declared.definitions.RefDefs.{RefDefs}
-use Rattle.cmark_definitions.specs.Settled.{defined_before}
-use Rattle.cmark_lines.specs.Opened.{bracket_of}
-use Rattle.cmark_lines.specs.Rests.{row_of}
-use Rattle.cmark_lines.specs.declared.line_rest.LineRest.{LineRest}
+use Rattle.cmark_link_definitions.specs.Settled.{defined_before}
+use Rattle.cmark_line_rules.specs.Opened.{bracket_of}
+use Rattle.cmark_line_rules.specs.Rests.{row_of}
+use Rattle.cmark_line_rules.specs.declared.line_rest.LineRest.{LineRest}
 use Rattle.cmark_block_model.specs.BlockPass.{begin_as}
 use Rattle.cmark_block_model.specs.OpenBlocks as model
 use Rattle.cmark_blocks.specs.declared.state.Pass.{Pass}
@@ -26,7 +26,7 @@ use Rattle.cmark_blocks.specs.declared.gathered.Gathered.{Gathered}
 use Rattle.cmark_blocks.specs.LinkDefinitions.{definition_begun}
 use Rattle.cmark_blocks.specs.Gathered.{texts_at, Holds, Gathers, GathersMore, IsWhole}
 use Rattle.cmark_blocks.proofs.GatherSteps.{bytes-split}
-use Rattle.cmark_blocks.proofs.LineFeeds.{texts-end, ends-behind}
+use Rattle.cmark_blocks.proofs.LineFeeds.{texts-end, ends-following}
 use Rattle.cmark_blocks.specs.Runs.{Runs}
 
 -- the lines that continue a paragraph are the first of those ahead
@@ -43,7 +43,7 @@ take-texts options (r ∷ ahead) n le = go (texts options r ahead && is_none (un
 module _ (text : List ℕ) (options : Options) (lookup : Lookup) (m : model.Pass) (inside : Container → model.Pass) (r : Row) (ahead : List Row) (bare : Bool) where
   -- a definition at the beginning of the paragraph's text
   pub begins-definition : (found : Defined) (start content_end more : ℕ) → Some found ≡ definition_in (bytes_over r (text_lines options ahead)) → start ≡ start_of r →
-      more ≡ length (text_lines options ahead) - line_ends found.behind → content_end ≡ last_content_end r (take more (text_lines options ahead)) →
+      more ≡ length (text_lines options ahead) - line_ends found.following → content_end ≡ last_content_end r (take more (text_lines options ahead)) →
       definition_begun lookup found.definition start content_end more m ≡ begin_as text options lookup (bracket_of options r ahead) inside r ahead bare m
   begins-definition found start content_end more is first count last =
       ap (λ s. definition_begun lookup found.definition s content_end more m) first
@@ -76,14 +76,14 @@ module _ {E : Type 0} (replacement : E → Lookup) (text : List ℕ) (options : 
   }
 
 -- if no line is left, the whole text was gathered
-none-behind : (o : Option Defined) → option_map (defined_before []) o ≡ o
-none-behind None = refl
-none-behind (Some found) = ap {A = List ℕ} {B = Option Defined} (λ l. Some (record { definition = found.definition; behind = l })) (append-nil found.behind)
+none-following : (o : Option Defined) → option_map (defined_before []) o ≡ o
+none-following None = refl
+none-following (Some found) = ap {A = List ℕ} {B = Option Defined} (λ l. Some (record { definition = found.definition; following = l })) (append-nil found.following)
 
 pub whole-decides : (bs : List ℕ) (r : Row) (rs : List Row) → rs ≡ [] → definition_in (bs ++ further_bytes r rs) ≡ option_map (defined_before (further_bytes r rs)) (definition_in bs)
 whole-decides bs r rs none =
     subst (λ (l : List Row). definition_in (bs ++ further_bytes r l) ≡ option_map (defined_before (further_bytes r l)) (definition_in bs)) (sym none)
-    (ap definition_in (append-nil bs) ∙ sym (none-behind (definition_in bs)))
+    (ap definition_in (append-nil bs) ∙ sym (none-following (definition_in bs)))
 
 pub whole-of : {E : Type 0} (replacement : E → Lookup) (pass : Pass E) (old new : Gathered) (more : Bool) → more ≡ false → GathersMore replacement pass old more new → IsWhole replacement pass new
 whole-of replacement pass old new true e h = absurd (true≢false e)
@@ -116,13 +116,13 @@ module _ (text : List ℕ) (options : Options) (lookup : Lookup) (m : model.Pass
       ∙ sym (bytes-split (row_of first) holds.lines left) ∙ ap (bytes_over (row_of first)) (sym holds.ahead))
 
   -- it takes the same number of lines
-  pub lines-taken : (behind : List ℕ) → gathered.lines - line_ends behind ≡ length (texts_at text options lookup m (row_of first).line_end) - line_ends (behind ++ left_bytes)
-  lines-taken behind =
+  pub lines-taken : (following : List ℕ) → gathered.lines - line_ends following ≡ length (texts_at text options lookup m (row_of first).line_end) - line_ends (following ++ left_bytes)
+  lines-taken following =
       let count = holds.count in
       let all : length (texts_at text options lookup m (row_of first).line_end) ≡ length holds.lines + length left = ap length holds.ahead ∙ length-append holds.lines left in
-      let ends : line_ends (behind ++ left_bytes) ≡ line_ends behind + length left =
-      ends-behind behind left_bytes ∙ ap (λ n. line_ends behind + n) (texts-end text options lookup m.outer (row_of gathered.last).line_end (row_of gathered.last)) in
-      ap (λ n. n - line_ends behind) (sym count) ∙ same (length holds.lines) (line_ends behind) (length left) ∙ ap (λ n. n - (line_ends behind + length left)) (sym all)
+      let ends : line_ends (following ++ left_bytes) ≡ line_ends following + length left =
+      ends-following following left_bytes ∙ ap (λ n. line_ends following + n) (texts-end text options lookup m.outer (row_of gathered.last).line_end (row_of gathered.last)) in
+      ap (λ n. n - line_ends following) (sym count) ∙ same (length holds.lines) (line_ends following) (length left) ∙ ap (λ n. n - (line_ends following + length left)) (sym all)
       ∙ ap (λ n. length (texts_at text options lookup m (row_of first).line_end) - n) (sym ends)
     where
       same : (a b k : ℕ) → a - b ≡ a + k - (b + k)

@@ -12,9 +12,9 @@ use Rattle.cmark_grammar.specs.Rows.{Row, begin_of, rows_from}
 use Rattle.cmark_blocks.specs.TablesAhead.{block_interrupts}
 use Rattle.cmark_grammar.specs.Tokens.{stretch_then}
 use Rattle.cmark_grammar.specs.BlockDocument.{Nil}
-use Rattle.cmark_lines.specs.Rests.{row_of}
-use Rattle.cmark_lines.specs.declared.line_rest.LineRest.{LineRest}
-use Rattle.cmark_lines.proofs.LazyRows.{whole-texts, lazily-is}
+use Rattle.cmark_line_rules.specs.Rests.{row_of}
+use Rattle.cmark_line_rules.specs.declared.line_rest.LineRest.{LineRest}
+use Rattle.cmark_line_rules.proofs.LazyRows.{whole-texts, lazily-is}
 use Rattle.cmark_block_model.specs.BlockPass.{ahead_in, kept_by, leaf_fed, lazy_fed, begin, leaf_closed, close_leaf, heading_made, kept_lines, paragraph_line, paragraph_begun, underlined_or, line_with, line_fed, lines_fed, containers_closed, with_drawn}
 use Rattle.cmark_block_model.specs.OpenBlocks as model
 use Rattle.cmark_block_model.specs.OpenBlocks.{takes_lazy}
@@ -31,8 +31,8 @@ module _ {E : Type 0} (replacement : E → Lookup) (text : List ℕ) (options : 
   pub in_paragraph : (from : ℕ) (last : LineRest) → pass.leaf ≡ leaf.Paragraph from last → m.leaf ≡ model.InParagraph (map row_of pass.blank_lines.items) from (row_of last)
   in_paragraph from last is = subst (λ l. ShowsLeaf text l pass.blank_lines.items m.leaf) is runs.leaf
 
-  pub behind_tag : pass.leaf ≡ leaf.BehindTag → m.leaf ≡ model.BehindTag
-  behind_tag is = (subst (λ l. ShowsLeaf text l pass.blank_lines.items m.leaf) is runs.leaf).0
+  pub after_tag : pass.leaf ≡ leaf.AfterTag → m.leaf ≡ model.AfterTag
+  after_tag is = (subst (λ l. ShowsLeaf text l pass.blank_lines.items m.leaf) is runs.leaf).0
 
   pub in_definition : (left : ℕ) → pass.leaf ≡ leaf.Definition left → m.leaf ≡ model.InDefinition left
   in_definition left is = (subst (λ l. ShowsLeaf text l pass.blank_lines.items m.leaf) is runs.leaf).0
@@ -88,8 +88,8 @@ module _ (text : List ℕ) (options : Options) (lookup : Lookup) (r : Row) (next
   feeds-row left is = ap (λ l. leaf_fed text options lookup l r next m) is
 
   -- after an alert's tag
-  pub feeds-behind : m.leaf ≡ model.BehindTag → leaf_fed text options lookup m.leaf r next m ≡ begin text options lookup r next (leaf_closed text options lookup m)
-  feeds-behind is = ap (λ l. leaf_fed text options lookup l r next m) is
+  pub feeds-following : m.leaf ≡ model.AfterTag → leaf_fed text options lookup m.leaf r next m ≡ begin text options lookup r next (leaf_closed text options lookup m)
+  feeds-following is = ap (λ l. leaf_fed text options lookup l r next m) is
 
   -- lazy lines
   pub lazy-paragraph : (before : List Row) (from : ℕ) (last : Row) → m.leaf ≡ model.InParagraph before from last → lazy_fed text options lookup m.leaf r m ≡ paragraph_line text options lookup before from last r m
@@ -100,8 +100,8 @@ module _ (text : List ℕ) (options : Options) (lookup : Lookup) (r : Row) (next
       ap (λ l. lazy_fed text options lookup l r m) is
       ∙ ap (λ l. paragraph_begun text options lookup r (close_leaf text options lookup l m)) (sym is)
 
-  pub lazy-behind : m.leaf ≡ model.BehindTag → lazy_fed text options lookup m.leaf r m ≡ paragraph_begun text options lookup r (leaf_closed text options lookup m)
-  lazy-behind is =
+  pub lazy-following : m.leaf ≡ model.AfterTag → lazy_fed text options lookup m.leaf r m ≡ paragraph_begun text options lookup r (leaf_closed text options lookup m)
+  lazy-following is =
       ap (λ l. lazy_fed text options lookup l r m) is
       ∙ ap (λ l. paragraph_begun text options lookup r (close_leaf text options lookup l m)) (sym is)
 
@@ -130,7 +130,7 @@ module _ (text : List ℕ) (options : Options) (lookup : Lookup) (m : model.Pass
   -- closing a leaf closes no container
   pub closed-outer : (l : model.OpenLeaf) → (close_leaf text options lookup l m).outer ≡ m.outer
   closed-outer model.Closed = refl
-  closed-outer model.BehindTag = refl
+  closed-outer model.AfterTag = refl
   closed-outer (model.InParagraph before from last) = refl
   closed-outer (model.InDefinition left) = refl
   closed-outer (model.InTable left) = refl

@@ -13,13 +13,13 @@ use Rattle.cmark_grammar.specs.TableRows.{table_head}
 use Rattle.cmark_grammar.specs.Options.{Options}
 use Rattle.cmark_grammar.specs.Places.{Place}
 use Rattle.cmark_grammar.specs.Rows.{Row, is_blank_line, is_whole_line, indent_of, words_of}
-use Rattle.cmark_lines.specs.Opened.{bracket_of}
-use Rattle.cmark_lines.specs.Starts.{begun_container}
-use Rattle.cmark_lines.specs.declared.opening.Opening.{Opening}
-use Rattle.cmark_lines.specs.declared.opening.Opening.TheVariants as opening
-use Rattle.cmark_lines.proofs.FirstBytes.{letter-container, label-container, bracket-leaf}
-use Rattle.cmark_lines.proofs.OpeningRows.{opens-shallow, link-read}
-use Rattle.cmark_lines.proofs.PlainRows.{letter-leaf}
+use Rattle.cmark_line_rules.specs.Opened.{bracket_of}
+use Rattle.cmark_line_rules.specs.Starts.{begun_container}
+use Rattle.cmark_line_rules.specs.declared.opening.Opening.{Opening}
+use Rattle.cmark_line_rules.specs.declared.opening.Opening.TheVariants as opening
+use Rattle.cmark_line_rules.proofs.FirstBytes.{letter-container, label-container, bracket-leaf}
+use Rattle.cmark_line_rules.proofs.OpeningRows.{opens-shallow, link-read}
+use Rattle.cmark_line_rules.proofs.PlainRows.{letter-leaf}
 use Rattle.cmark_blocks.specs.Entered.{OpensAs}
 use Rattle.cmark_blocks.proofs.DefinitionRows.{other-defines-not}
 

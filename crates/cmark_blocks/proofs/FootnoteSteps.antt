@@ -24,7 +24,7 @@ use Rattle.cmark_builder.specs.declared.builder.Builder.{Builder}
 use Rattle.cmark_builder.specs.Drawn.{Draws}
 use Rattle.cmark_builder.specs.Ended.{item_at}
 use Rattle.cmark_builder.proofs.DrawnSteps.{draws-open, draws-text}
-use Rattle.cmark_leaves.proofs.WordSteps.{last-text}
+use Rattle.cmark_leaf_nodes.proofs.WordSteps.{last-text}
 use Rattle.cmark_blocks.specs.Footnotes.{KeepsText, Notes, HasLabels, unused_if}
 use Rattle.cmark_blocks.specs.Runs.{Runs}
 use Rattle.cmark_blocks.specs.declared.state.Pass.{Pass}

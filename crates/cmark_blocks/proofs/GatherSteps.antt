@@ -8,12 +8,12 @@ use Rattle.cmark_grammar.specs.Derivation.{last_content_end}
 use Rattle.cmark_grammar.specs.Options.{Options}
 use Rattle.cmark_grammar.specs.Rows.{Row, words_of, begin_of, start_of}
 use Rattle.cmark_grammar.specs.Tokens.{slice}
-use Rattle.cmark_grammar.proofs.RowPlaces.{drop-Runs}
-use Rattle.cmark_lines.proofs.RestSteps.{rest-runs}
-use Rattle.cmark_lines.specs.Rests.{row_of}
-use Rattle.cmark_lines.specs.declared.line_rest.LineRest.{LineRest}
-use Rattle.cmark_leaves.specs.TextColumns.{StandInText}
-use Rattle.cmark_leaves.proofs.ColumnCuts.{bytes-slice, drop-in_text}
+use Rattle.cmark_block_model.proofs.RowPlaces.{drop-Runs}
+use Rattle.cmark_line_rules.proofs.RestSteps.{rest-runs}
+use Rattle.cmark_line_rules.specs.Rests.{row_of}
+use Rattle.cmark_line_rules.specs.declared.line_rest.LineRest.{LineRest}
+use Rattle.cmark_leaf_nodes.specs.TextColumns.{StandInText}
+use Rattle.cmark_leaf_nodes.proofs.ColumnCuts.{bytes-slice, drop-in_text}
 use Rattle.cmark_block_model.specs.OpenBlocks as model
 use Rattle.cmark_blocks.specs.declared.gathered.Gathered.{Gathered}
 use Rattle.cmark_blocks.specs.Gathered.{last_of, texts_at, Holds}

@@ -1,15 +1,15 @@
 -- The node of a heading, with the words between the braces of its attributes in the table of texts.
 use Rattle.std.proofs.Common.{◌≡◌, ℕ, List, [], ◌∷◌, ◌++◌, length, Some, option_map, refl, ap, ◌∙◌, arith}
-use Rattle.cmark_text_parts.specs.declared.text.CowStr.{CowStr}
-use Rattle.cmark_text_parts.specs.declared.kind.HeadingLevel.{HeadingLevel}
-use Rattle.cmark_text_parts.specs.Shown.{text_bytes, level_number}
+use Rattle.cmark_values.specs.declared.text.CowStr.{CowStr}
+use Rattle.cmark_values.specs.declared.kind.HeadingLevel.{HeadingLevel}
+use Rattle.cmark_values.specs.Shown.{text_bytes, level_number}
 use Rattle.cmark_items.specs.declared.allocations.HeadingIndex.{HeadingIndex}
 use Rattle.cmark_items.specs.declared.item.ItemBody.TheVariants as body
 use Rattle.cmark_items.specs.ItemNodes.{shape, kind_of, text_at}
 use Rattle.cmark_items.specs.Tables.{Tables, with_text}
 use Rattle.cmark_grammar.specs.Attributes.{attributes_of}
 use Rattle.cmark_grammar.specs.BlockDocument.{Heading}
-use Rattle.cmark_leaves.proofs.WordSteps.{last-text}
+use Rattle.cmark_leaf_nodes.proofs.WordSteps.{last-text}
 
 -- no words
 pub no-words : (n : ℕ) (bs : List ℕ) → length bs ≡ 0 → Heading n (attributes_of []) ≡ Heading n (attributes_of bs)

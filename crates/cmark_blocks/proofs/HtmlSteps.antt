@@ -4,9 +4,9 @@ use Rattle.cmark_grammar.specs.Answers.{Lookup}
 use Rattle.cmark_grammar.specs.Options.{Options}
 use Rattle.cmark_grammar.specs.Rows.{Row}
 use Rattle.cmark_grammar.specs.HtmlBlocks.{html_continuation}
-use Rattle.cmark_lines.specs.Continuations.{shown_continuation}
-use Rattle.cmark_lines.specs.declared.continuation.Continuation.{Continuation}
-use Rattle.cmark_lines.specs.declared.continuation.Continuation.TheVariants.{GoesOn, Closes, Waits, Stops}
+use Rattle.cmark_line_rules.specs.Continuations.{shown_continuation}
+use Rattle.cmark_line_rules.specs.declared.continuation.Continuation.{Continuation}
+use Rattle.cmark_line_rules.specs.declared.continuation.Continuation.TheVariants.{GoesOn, Closes, Waits, Stops}
 use Rattle.cmark_block_model.specs.BlockPass.{leaf_fed, leaf_closed, html_goes_on, html_line, node_closed, begin}
 use Rattle.cmark_block_model.specs.OpenBlocks as model
 

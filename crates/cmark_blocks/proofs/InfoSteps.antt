@@ -1,8 +1,8 @@
 -- The info string of a fence, as a slice of the text and in its node.
 use Rattle.std.proofs.Common.{◌≡◌, ℕ, zero, suc, ◌+◌, ◌-◌, ◌≤◌, List, [], ◌∷◌, ◌++◌, drop, take, drop-drop, slice_range, length, Some, option_map, refl, sym, ap, ◌∙◌, arith}
 use Rattle.std.proofs.lemmas.List.{drop-take}
-use Rattle.cmark_text_parts.specs.declared.text.CowStr.{CowStr}
-use Rattle.cmark_text_parts.specs.Shown.{text_bytes}
+use Rattle.cmark_values.specs.declared.text.CowStr.{CowStr}
+use Rattle.cmark_values.specs.Shown.{text_bytes}
 use Rattle.cmark_tree.specs.Forest as forest
 use Rattle.cmark_tree.specs.Forest.{Forest}
 use Rattle.cmark_tree.specs.Building.{Opened, Is}
@@ -21,13 +21,13 @@ use Rattle.cmark_builder.proofs.DrawnSteps.{draws-open, draws-text}
 use Rattle.cmark_grammar.specs.Columns.{indent, without_indent}
 use Rattle.cmark_grammar.specs.Rows.{words_of, start_of}
 use Rattle.cmark_grammar.specs.Tokens.{slice}
-use Rattle.cmark_scan_blocks.specs.declared.leaf.CodeFence.{CodeFence}
-use Rattle.cmark_lines.specs.Opened.{InfoStands}
-use Rattle.cmark_lines.specs.Rests.{row_of}
-use Rattle.cmark_lines.specs.declared.line_rest.LineRest.{LineRest}
-use Rattle.cmark_leaves.proofs.ColumnCuts.{bytes-slice, drop-in_text, words-runs}
-use Rattle.cmark_leaves.proofs.WordSteps.{last-text}
-use Rattle.cmark_leaves.specs.TextColumns.{IsRead}
+use Rattle.cmark_scan_lines.specs.declared.leaf.CodeFence.{CodeFence}
+use Rattle.cmark_line_rules.specs.Opened.{InfoStands}
+use Rattle.cmark_line_rules.specs.Rests.{row_of}
+use Rattle.cmark_line_rules.specs.declared.line_rest.LineRest.{LineRest}
+use Rattle.cmark_leaf_nodes.proofs.ColumnCuts.{bytes-slice, drop-in_text, words-runs}
+use Rattle.cmark_leaf_nodes.proofs.WordSteps.{last-text}
+use Rattle.cmark_leaf_nodes.specs.TextColumns.{IsRead}
 
 take-fewer : (n m : ℕ) (xs : List ℕ) → n ≤ m → take n (take m xs) ≡ take n xs
 take-fewer zero m xs le = refl

@@ -6,10 +6,10 @@ use Rattle.cmark_grammar.specs.Containers.{keeps}
 use Rattle.cmark_grammar.specs.Options.{Options}
 use Rattle.cmark_grammar.specs.Rows.{Row}
 use Rattle.cmark_blocks.specs.TablesAhead.{block_interrupts}
-use Rattle.cmark_lines.specs.Rests.{row_of}
-use Rattle.cmark_lines.specs.Starts.{Shows}
-use Rattle.cmark_lines.specs.declared.line_rest.LineRest.{LineRest}
-use Rattle.cmark_lines.proofs.RestSteps.{whole}
+use Rattle.cmark_line_rules.specs.Rests.{row_of}
+use Rattle.cmark_line_rules.specs.Starts.{Shows}
+use Rattle.cmark_line_rules.specs.declared.line_rest.LineRest.{LineRest}
+use Rattle.cmark_line_rules.proofs.RestSteps.{whole}
 use Rattle.cmark_block_model.specs.BlockPass.{ahead_in}
 use Rattle.cmark_block_model.specs.OpenBlocks as model
 use Rattle.cmark_blocks.specs.declared.state.OpenContainer.{OpenContainer}
@@ -40,14 +40,14 @@ module _ (text : List ℕ) (options : Options) (lookup : Lookup) (cs : List Open
       let w = shows-at cs ms at c shows here in
       subst (λ n. Inside text options lookup (take count ms) n r more (row_of inside)) (sym more_by_one)
       (inside-keeps text options lookup (take count ms) at w.m (drop (suc at) (take count ms)) r more (row_of rest) (row_of inside)
-      (one-first ms count at w.m further w.behind) refl (keep w.m.container w.shows.0) (whole inside) i)
+      (one-first ms count at w.m further w.following) refl (keep w.m.container w.shows.0) (whole inside) i)
 
   pub first-misses : ((g : grammar.Container) → Shows c.container g → None ≡ keeps g false (row_of rest)) →
       Inside text options lookup (take count ms) at r more (row_of rest) → ahead_in text options lookup (take count ms) (r ∷ more) ≡ []
   first-misses keep i =
       let w = shows-at cs ms at c shows here in
       inside-misses text options lookup (take count ms) at w.m (drop (suc at) (take count ms)) r more (row_of rest)
-      (one-first ms count at w.m further w.behind) (keep w.m.container w.shows.0) i
+      (one-first ms count at w.m further w.following) (keep w.m.container w.shows.0) i
 
 -- all of them keep it
 pub first-all : (text : List ℕ) (options : Options) (lookup : Lookup) (ms : List model.OpenContainer) (count at : ℕ) (r : Row) (more : List Row) (rest : LineRest) → count ≤ at →

@@ -4,29 +4,29 @@ use Rattle.std.specs.Prelude.{slice_get, ◌==◌}
 use Rattle.std.proofs.lemmas.Option.{same_Some}
 use Rattle.cmark_grammar.specs.Answers.{Lookup}
 use Rattle.cmark_grammar.specs.Options.{Options}
-use Rattle.cmark_grammar.proofs.RowPlaces.{behind_prefix, kept-behind}
+use Rattle.cmark_block_model.proofs.RowPlaces.{after_prefix, kept-following}
 use Rattle.cmark_grammar.specs.Columns.{Column}
 use Rattle.cmark_grammar.specs.Rows.{Row}
 use Rattle.cmark_grammar.specs.Containers.{keeps}
 use Rattle.cmark_grammar.specs.Containers as grammar
-use Rattle.cmark_lines.specs.Rests.{row_of}
-use Rattle.cmark_lines.specs.Starts.{Shows}
-use Rattle.cmark_lines.specs.declared.container.Container.{Container}
-use Rattle.cmark_lines.specs.declared.container.Container.TheVariants as container
-use Rattle.cmark_lines.specs.declared.line_rest.LineRest.{LineRest}
+use Rattle.cmark_line_rules.specs.Rests.{row_of}
+use Rattle.cmark_line_rules.specs.Starts.{Shows}
+use Rattle.cmark_line_rules.specs.declared.container.Container.{Container}
+use Rattle.cmark_line_rules.specs.declared.container.Container.TheVariants as container
+use Rattle.cmark_line_rules.specs.declared.line_rest.LineRest.{LineRest}
 use Rattle.cmark_block_model.specs.BlockPass.{LineKeepers, kept_by, kept_if, is_last}
 use Rattle.cmark_block_model.specs.OpenBlocks as model
 use Rattle.cmark_blocks.specs.declared.state.OpenContainer.{OpenContainer}
-use Rattle.cmark_blocks.specs.KeepingContainers.{IsBehind}
+use Rattle.cmark_blocks.specs.KeepingContainers.{IsAfter}
 use Rattle.cmark_blocks.specs.Shown.{ShowsContainer, ShowsContainers}
 
-behind-next : (line rest inside : LineRest) (g : grammar.Container) (bare : Bool) → Some (row_of inside) ≡ keeps g bare (row_of rest) → IsBehind line rest → IsBehind line inside
-behind-next line rest inside g bare e h =
-    let n = kept-behind g bare (row_of rest) (row_of inside) (sym e) in (
+following-next : (line rest inside : LineRest) (g : grammar.Container) (bare : Bool) → Some (row_of inside) ≡ keeps g bare (row_of rest) → IsAfter line rest → IsAfter line inside
+following-next line rest inside g bare e h =
+    let n = kept-following g bare (row_of rest) (row_of inside) (sym e) in (
       h.0 + n.0,
       (
         n.1.0,
-        ap {A = List Column} {B = Row} (λ cs. record (row_of line) { columns = cs; held = n.1.0 }) (sym (drop-drop n.0 h.0 (row_of line).columns)) ∙ ap (behind_prefix n.0 n.1.0) h.1.1 ∙ n.1.1,
+        ap {A = List Column} {B = Row} (λ cs. record (row_of line) { columns = cs; held = n.1.0 }) (sym (drop-drop n.0 h.0 (row_of line).columns)) ∙ ap (after_prefix n.0 n.1.0) h.1.1 ∙ n.1.1,
       ),
     )
 
@@ -34,22 +34,22 @@ behind-next line rest inside g bare e h =
 pub record At (c : OpenContainer) (k : ℕ) (ms : List model.OpenContainer) : Type 0 where
   pub m : model.OpenContainer
   pub shows : ShowsContainer c m
-  pub behind : drop k ms ≡ m ∷ drop (suc k) ms
+  pub following : drop k ms ≡ m ∷ drop (suc k) ms
   pub before : take (suc k) ms ≡ take k ms ++ m ∷ []
 
 pub shows-at : (cs : List OpenContainer) (ms : List model.OpenContainer) (k : ℕ) (c : OpenContainer) → ShowsContainers cs ms → slice_get cs k ≡ Some c → At c k ms
 shows-at [] ms k c s e = absurd (let q : None ≡ Some c = e in cc)
 shows-at (b ∷ cs) [] k c s e = absurd s
-shows-at (b ∷ cs) (m ∷ ms) zero c s e = record { m = m; shows = subst (λ x. ShowsContainer x m) (same_Some b c e) s.0; behind = refl; before = refl }
+shows-at (b ∷ cs) (m ∷ ms) zero c s e = record { m = m; shows = subst (λ x. ShowsContainer x m) (same_Some b c e) s.0; following = refl; before = refl }
 shows-at (b ∷ cs) (m ∷ ms) (suc k) c s e =
     let r = shows-at cs ms k c s.1 e in
-    record { m = r.m; shows = r.shows; behind = r.behind; before = ap (λ l. m ∷ l) r.before }
+    record { m = r.m; shows = r.shows; following = r.following; before = ap (λ l. m ∷ l) r.before }
 
 -- the container of the model at a place is shown by the container at that place
 pub shows-there : (cs : List OpenContainer) (ms : List model.OpenContainer) (k : ℕ) (c : OpenContainer) (last : model.OpenContainer) (others : List model.OpenContainer) → ShowsContainers cs ms → slice_get cs k ≡ Some c → drop k ms ≡ last ∷ others → Shows c.container last.container
 shows-there cs ms k c last others s e split =
     let at = shows-at cs ms k c s e in
-    let same : at.m ∷ drop (suc k) ms ≡ last ∷ others = sym at.behind ∙ split in
+    let same : at.m ∷ drop (suc k) ms ≡ last ∷ others = sym at.following ∙ split in
     subst (λ (x : model.OpenContainer). Shows c.container x.container) (let q : at.m ≡ last = cc in q) at.shows.0
 
 pub shows-all : (cs : List OpenContainer) (ms : List model.OpenContainer) (k : ℕ) → ShowsContainers cs ms → length cs ≤ k → (take k ms ≡ ms) × (drop k ms ≡ [])
@@ -83,7 +83,7 @@ module _ (text : List ℕ) (options : Options) (lookup : Lookup) where
   keeps-on cs ms k c bare rest inside s e lt keep n next =
       subst (λ n. kept_by text options lookup (take k ms) (drop k ms) bare (row_of rest) ≡ kept_by text options lookup (take n ms) (drop n ms) bare (row_of inside)) (sym next)
       (let at = shows-at cs ms k c s e in
-      ap (λ l. kept_by text options lookup (take k ms) l bare (row_of rest)) at.behind
+      ap (λ l. kept_by text options lookup (take k ms) l bare (row_of rest)) at.following
       ∙ ap (λ o. kept_if text options lookup o (λ t. kept_by text options lookup (take k ms ++ at.m ∷ []) (drop (suc k) ms) bare t) (record { kept = take k ms; missed = at.m ∷ drop (suc k) ms; left = row_of rest }))
       (ap (λ b. keeps at.m.container (bare && b) (row_of rest)) (last-is cs ms k s lt) ∙ sym (keep at.m.container at.shows.0))
       ∙ ap (λ l. kept_by text options lookup l (drop (suc k) ms) bare (row_of inside)) (sym at.before))
@@ -93,10 +93,10 @@ module _ (text : List ℕ) (options : Options) (lookup : Lookup) where
       kept_by text options lookup (take k ms) (drop k ms) bare (row_of rest) ≡ record { kept = take k ms; missed = drop k ms; left = row_of rest }
   keeps-not cs ms k c bare rest s e lt keep =
       let at = shows-at cs ms k c s e in
-      ap (λ l. kept_by text options lookup (take k ms) l bare (row_of rest)) at.behind
+      ap (λ l. kept_by text options lookup (take k ms) l bare (row_of rest)) at.following
       ∙ ap (λ o. kept_if text options lookup o (λ t. kept_by text options lookup (take k ms ++ at.m ∷ []) (drop (suc k) ms) bare t) (record { kept = take k ms; missed = at.m ∷ drop (suc k) ms; left = row_of rest }))
       (ap (λ b. keeps at.m.container (bare && b) (row_of rest)) (last-is cs ms k s lt) ∙ sym (keep at.m.container at.shows.0))
-      ∙ ap {A = List model.OpenContainer} {B = LineKeepers text options lookup} (λ l. record { kept = take k ms; missed = l; left = row_of rest }) (sym at.behind)
+      ∙ ap {A = List model.OpenContainer} {B = LineKeepers text options lookup} (λ l. record { kept = take k ms; missed = l; left = row_of rest }) (sym at.following)
 
   pub keeps-all : (cs : List OpenContainer) (ms : List model.OpenContainer) (k : ℕ) (bare : Bool) (rest : LineRest) → ShowsContainers cs ms → length cs ≤ k →
       kept_by text options lookup (take k ms) (drop k ms) bare (row_of rest) ≡ record { kept = take k ms; missed = drop k ms; left = row_of rest }
@@ -106,11 +106,11 @@ module _ (text : List ℕ) (options : Options) (lookup : Lookup) where
       ∙ ap {A = List model.OpenContainer} {B = LineKeepers text options lookup} (λ l. record { kept = take k ms; missed = l; left = row_of rest }) (sym e)
 
 -- the rest comes after the prefixes of the containers that keep the line
-pub behind-more : (line rest inside : LineRest) (k : Container) (bare : Bool) → ((g : grammar.Container) → Shows k g → Some (row_of inside) ≡ keeps g bare (row_of rest)) → IsBehind line rest → IsBehind line inside
-behind-more line rest inside container.BlockQuote bare keep h = behind-next line rest inside (grammar.BlockQuote None) bare (keep (grammar.BlockQuote None) tt) h
-behind-more line rest inside (container.Footnote old) bare keep h =
-    behind-next line rest inside (grammar.Footnote [] old 0) bare (keep (grammar.Footnote [] old 0) refl) h
-behind-more line rest inside (container.Item width) bare keep h =
-    behind-next line rest inside (grammar.Item 45 None width None) bare (keep (grammar.Item 45 None width None) refl) h
-behind-more line rest inside (container.Definition width) bare keep h =
-    behind-next line rest inside (grammar.ListDefinition width) bare (keep (grammar.ListDefinition width) refl) h
+pub following-more : (line rest inside : LineRest) (k : Container) (bare : Bool) → ((g : grammar.Container) → Shows k g → Some (row_of inside) ≡ keeps g bare (row_of rest)) → IsAfter line rest → IsAfter line inside
+following-more line rest inside container.BlockQuote bare keep h = following-next line rest inside (grammar.BlockQuote None) bare (keep (grammar.BlockQuote None) tt) h
+following-more line rest inside (container.Footnote old) bare keep h =
+    following-next line rest inside (grammar.Footnote [] old 0) bare (keep (grammar.Footnote [] old 0) refl) h
+following-more line rest inside (container.Item width) bare keep h =
+    following-next line rest inside (grammar.Item 45 None width None) bare (keep (grammar.Item 45 None width None) refl) h
+following-more line rest inside (container.Definition width) bare keep h =
+    following-next line rest inside (grammar.ListDefinition width) bare (keep (grammar.ListDefinition width) refl) h

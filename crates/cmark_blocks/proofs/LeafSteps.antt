@@ -3,9 +3,9 @@ use Rattle.std.proofs.Common.{◌≡◌, ℕ, List, [], Option, refl, sym, ap, �
 use Rattle.cmark_grammar.specs.Answers.{Lookup}
 use Rattle.cmark_grammar.specs.Options.{Options}
 use Rattle.cmark_grammar.specs.BlockDocument.{BlockDocument, Nil, Node, join}
-use Rattle.cmark_lines.specs.declared.line_rest.LineRest.{LineRest}
-use Rattle.cmark_leaves.specs.declared.stretch.Stretch.{Stretch}
-use Rattle.cmark_leaves.specs.Stretches.{shown_waits}
+use Rattle.cmark_line_rules.specs.declared.line_rest.LineRest.{LineRest}
+use Rattle.cmark_leaf_nodes.specs.declared.stretch.Stretch.{Stretch}
+use Rattle.cmark_leaf_nodes.specs.Stretches.{shown_waits}
 use Rattle.cmark_block_model.specs.BlockPass.{close_leaf}
 use Rattle.cmark_block_model.specs.CodeLines.{texts_of, rest_of}
 use Rattle.cmark_block_model.specs.Drawing.{Drawing, drawn, closed_at}
@@ -27,7 +27,7 @@ pub verbatim-closes : (text : List ℕ) (options : Options) (lookup : Lookup) (l
     IsVerbatim l waits → ShowsLeaf text l blanks o →
     (blanks ≡ []) × (close_leaf text options lookup o m ≡ record m { drawing = closed_at m.line_end (drawn (texts_of (rest_of (shown_waits text waits))) m.drawing); leaf = model.Closed })
 verbatim-closes text options lookup leaf.Closed waits blanks o m v s = absurd v
-verbatim-closes text options lookup leaf.BehindTag waits blanks o m v s = absurd v
+verbatim-closes text options lookup leaf.AfterTag waits blanks o m v s = absurd v
 verbatim-closes text options lookup (leaf.Paragraph from last) waits blanks o m v s = absurd v
 verbatim-closes text options lookup (leaf.Definition left) waits blanks o m v s = absurd v
 verbatim-closes text options lookup (leaf.Table left) waits blanks o m v s = absurd v

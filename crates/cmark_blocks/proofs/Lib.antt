@@ -4,6 +4,7 @@ pub mod BracketSteps
 pub mod ClosingSteps
 pub mod CodeSteps
 pub mod CountSteps
+pub mod CutSteps
 pub mod DefinitionRows
 pub mod DefinitionSteps
 pub mod FeedSteps
@@ -17,6 +18,7 @@ pub mod InfoSteps
 pub mod InsideSteps
 pub mod KeepingSteps
 pub mod LeafSteps
+pub mod LineFacts
 pub mod LineFeeds
 pub mod LineSteps
 pub mod MetadataSteps
@@ -25,6 +27,7 @@ pub mod PassSteps
 pub mod PrefixSteps
 pub mod ReferenceSteps
 pub mod RunSteps
+pub mod SearchSteps
 pub mod SetextSteps
 pub mod TableRuns
 pub mod TableSteps

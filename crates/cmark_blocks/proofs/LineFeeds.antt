@@ -11,8 +11,8 @@ use Rattle.cmark_grammar.specs.Lines.{is_content, content, lines}
 use Rattle.cmark_grammar.specs.Openings.{is_none, put_if, texts, text_lines}
 use Rattle.cmark_grammar.specs.Options.{Options}
 use Rattle.cmark_grammar.specs.Rows.{Row, rows_from, shown, show_as}
-use Rattle.cmark_grammar.proofs.ColumnSteps.{bytes_of-expand}
-use Rattle.cmark_grammar.proofs.RowPlaces.{kept-behind}
+use Rattle.cmark_scan_lines.proofs.ColumnSteps.{bytes_of-expand}
+use Rattle.cmark_block_model.proofs.RowPlaces.{kept-following}
 use Rattle.cmark_block_model.specs.BlockPass.{ahead_in}
 use Rattle.cmark_block_model.specs.OpenBlocks.{OpenContainer}
 use Rattle.cmark_blocks.specs.Ahead.{lines_at}
@@ -33,8 +33,8 @@ no-feeds (b ∷ bs) h =
     ∙ (let ih = no-feeds bs h.1 in let none : 0 + line_ends bs ≡ 0 = omega (arith, ih) in none)
 
 -- in one text after another
-pub ends-behind : (bs cs : List ℕ) → line_ends (bs ++ cs) ≡ line_ends bs + line_ends cs
-ends-behind bs cs = sum_by-append (λ x. cond (x == 10) 1 0) bs cs
+pub ends-following : (bs cs : List ℕ) → line_ends (bs ++ cs) ≡ line_ends bs + line_ends cs
+ends-following bs cs = sum_by-append (λ x. cond (x == 10) 1 0) bs cs
 
 one-end : (r : Row) → line_ends (line_end_of r) ≡ 1
 one-end r = go (nat_le 2 (r.line_end - r.content_end))
@@ -46,9 +46,9 @@ one-end r = go (nat_le 2 (r.line_end - r.content_end))
 further-ends : (first : Row) (rs : List Row) → HaveNoFeed rs → line_ends (further_bytes first rs) ≡ length rs
 further-ends first [] h = refl
 further-ends first (r ∷ rs) h =
-    ends-behind (line_end_of first) (bytes_of r.columns ++ further_bytes r rs)
+    ends-following (line_end_of first) (bytes_of r.columns ++ further_bytes r rs)
     ∙ ap (λ n. n + line_ends (bytes_of r.columns ++ further_bytes r rs)) (one-end first)
-    ∙ (let split = ends-behind (bytes_of r.columns) (further_bytes r rs) in
+    ∙ (let split = ends-following (bytes_of r.columns) (further_bytes r rs) in
     let none = no-feeds (bytes_of r.columns) h.0 in
     let ih = further-ends r rs h.1 in
     let all : 1 + line_ends (bytes_of r.columns ++ further_bytes r rs) ≡ suc (length rs) = omega (arith, split, none, ih) in
@@ -82,7 +82,7 @@ strip-plain k bare r h = go (keeps k bare r) refl
     go : (o : Option Row) → keeps k bare r ≡ o → HasNoFeed (bytes_of (strip_as o r).columns)
     go None e = h
     go (Some s) e =
-        let n = kept-behind k bare r s e in
+        let n = kept-following k bare r s e in
         subst (λ (x : Row). HasNoFeed (bytes_of x.columns)) n.1.1 (columns-plain n.0 r.columns h)
 
 strips-plain : (k : Container) (bare : Bool) (rs : List Row) → HaveNoFeed rs → HaveNoFeed (strips k bare rs)

@@ -16,28 +16,28 @@ use Rattle.cmark_grammar.specs.Places.{Place, Apart}
 use Rattle.cmark_blocks.proofs.DefinitionRows.{opens-anywhere, inside-place, blank-defines-not}
 use Rattle.cmark_grammar.specs.Columns.{Column, bytes_of, without_indent}
 use Rattle.cmark_grammar.specs.Rows.{Row, without, is_bare, is_blank_line, indent_of, words_of}
-use Rattle.cmark_grammar.proofs.BlockLaws.{no_metadata}
-use Rattle.cmark_lines.proofs.OpeningRows.{opens-blank, none_ahead}
-use Rattle.cmark_lines.specs.Opened.{opened, HasInside, IsMarked, InsideIsIn}
-use Rattle.cmark_lines.specs.Rests.{row_of, IsIn}
-use Rattle.cmark_lines.specs.Starts.{shown_start, inside_of, Enters, HasMarker}
-use Rattle.cmark_lines.specs.declared.container.ContainerStart.{ContainerStart}
-use Rattle.cmark_lines.specs.declared.container.ContainerStart.TheVariants as begun
-use Rattle.cmark_lines.specs.declared.line_rest.LineRest.{LineRest}
-use Rattle.cmark_lines.specs.declared.opening.Opening.{Opening}
-use Rattle.cmark_lines.specs.declared.opening.Opening.TheVariants as opening
-use Rattle.cmark_text_parts.specs.declared.kind.BlockQuoteKind as found
-use Rattle.cmark_text_parts.specs.declared.kind.HeadingLevel.{HeadingLevel}
-use Rattle.cmark_text_parts.specs.Shown.{level_number, shown_block_quote_kind, shown_options}
-use Rattle.cmark_leaves.specs.TextColumns.{StandInText}
-use Rattle.cmark_leaves.proofs.TextColumnSteps.{without-in_text}
+use Rattle.cmark_block_model.proofs.BlockLaws.{no_metadata}
+use Rattle.cmark_line_rules.proofs.OpeningRows.{opens-blank, none_ahead}
+use Rattle.cmark_line_rules.specs.Opened.{opened, HasInside, IsMarked, InsideIsIn}
+use Rattle.cmark_line_rules.specs.Rests.{row_of, IsIn}
+use Rattle.cmark_line_rules.specs.Starts.{shown_start, inside_of, Enters, HasMarker}
+use Rattle.cmark_line_rules.specs.declared.container.ContainerStart.{ContainerStart}
+use Rattle.cmark_line_rules.specs.declared.container.ContainerStart.TheVariants as begun
+use Rattle.cmark_line_rules.specs.declared.line_rest.LineRest.{LineRest}
+use Rattle.cmark_line_rules.specs.declared.opening.Opening.{Opening}
+use Rattle.cmark_line_rules.specs.declared.opening.Opening.TheVariants as opening
+use Rattle.cmark_values.specs.declared.kind.BlockQuoteKind as found
+use Rattle.cmark_values.specs.declared.kind.HeadingLevel.{HeadingLevel}
+use Rattle.cmark_values.specs.Shown.{level_number, shown_block_quote_kind, shown_options}
+use Rattle.cmark_leaf_nodes.specs.TextColumns.{StandInText}
+use Rattle.cmark_leaf_nodes.proofs.TextColumnSteps.{without-in_text}
 use Rattle.cmark_block_model.specs.BlockPass.{ahead_in, begin, begin_as, begin_in, leaf_begun, container_begun, inside_begun, is_item, place_of}
 use Rattle.cmark_block_model.specs.OpenBlocks as model
 use Rattle.cmark_blocks.specs.Ahead.{lines_at}
 use Rattle.cmark_blocks.specs.declared.state.Pass.{Pass}
 use Rattle.cmark_blocks.specs.Entered.{OpensAs, HasNumber, DefinesAs, TellsMetadata, takes_line, line_taken, BeginsContainer, BeginsFirst, BeginsSoFar}
 use Rattle.cmark_blocks.specs.Runs.{Runs}
-use Rattle.cmark_leaves.specs.TextColumns.{IsRead}
+use Rattle.cmark_leaf_nodes.specs.TextColumns.{IsRead}
 use Rattle.cmark_blocks.specs.Steps.{Begins}
 use Rattle.cmark_blocks.proofs.OpeningSteps.{Fits, opens-fits}
 use Rattle.cmark_blocks.proofs.TaskSteps.{start-text, nested, nested-on, nested-taken}
@@ -77,16 +77,16 @@ module _ (r : Row) (open_as : Opening) (start : ContainerStart) (nests : open_as
   enters : Enters r start
   enters = start-enters r open_as start nests has
 
-  module _ (inside : LineRest) (behind : inside ≡ inside_of start) where
+  module _ (inside : LineRest) (following : inside ≡ inside_of start) where
     pub inside-row : (options : Options) → row_of inside ≡ without (marker_width (shown_start options r start) r) r
-    inside-row options = ap row_of behind ∙ enters options
+    inside-row options = ap row_of following ∙ enters options
 
     pub inside-line_end : (row_of inside).line_end ≡ r.line_end
     inside-line_end = ap (λ (s : Row). s.line_end) (inside-row no_options)
 
     pub inside-read : (text : List ℕ) → InsideIsIn text open_as → StandInText text r.columns → IsRead text inside
     inside-read text placed in_text = record {
-      placed = subst (IsIn text) (sym behind) (subst (InsideIsIn text) nests placed);
+      placed = subst (IsIn text) (sym following) (subst (InsideIsIn text) nests placed);
       in_text = subst (λ (s : Row). StandInText text s.columns) (sym (inside-row no_options)) (without-in_text text (marker_width (shown_start no_options r start) r) r in_text);
     }
 
@@ -106,12 +106,12 @@ module _ (r : Row) (open_as : Opening) (start : ContainerStart) (nests : open_as
     pub inside-begins : (inside : LineRest) → inside ≡ inside_of start → (item : Bool) → takes_line (shown_start options r start) ≡ false → item ≡ is_item (shown_start options r start) →
         begin_in text options lookup (suc columns) (place_of m.inner) r (lines_at text r.line_end) bare m
         ≡ begin_in text options lookup columns (place_of (container_begun (shown_start options r start) r m).inner) (row_of inside) (lines_at text (row_of inside).line_end) item (container_begun (shown_start options r start) r m)
-    inside-begins inside behind item left is =
+    inside-begins inside following item left is =
         let k = shown_start options r start in
         begins-nested
         ∙ nested-on text options lookup columns (lines_at text r.line_end) r m k left
-        ∙ ap (λ (s : Row). begin_in text options lookup columns Apart s (lines_at text r.line_end) (is_item k) (container_begun k r m)) (sym (inside-row inside behind options))
-        ∙ ap (λ (p : ℕ). begin_in text options lookup columns Apart (row_of inside) (lines_at text p) (is_item k) (container_begun k r m)) (sym (inside-line_end inside behind))
+        ∙ ap (λ (s : Row). begin_in text options lookup columns Apart s (lines_at text r.line_end) (is_item k) (container_begun k r m)) (sym (inside-row inside following options))
+        ∙ ap (λ (p : ℕ). begin_in text options lookup columns Apart (row_of inside) (lines_at text p) (is_item k) (container_begun k r m)) (sym (inside-line_end inside following))
         ∙ ap (λ (b : Bool). begin_in text options lookup columns Apart (row_of inside) (lines_at text (row_of inside).line_end) b (container_begun k r m)) (sym is)
         ∙ ap (λ (pl : Place). begin_in text options lookup columns pl (row_of inside) (lines_at text (row_of inside).line_end) item (container_begun k r m)) (inside-place k r m)
 
@@ -122,21 +122,21 @@ module _ {E : Type 0} (replacement : E → Lookup) (rest : LineRest) (open_as : 
 
   pub container-begins : (bare : Bool) (entered : Option (LineRest × Bool)) → DefinesAs replacement old rest None → TellsMetadata replacement old rest None → IfSome entered (λ inside. inside.0 ≡ inside_of start) →
       BeginsContainer replacement start rest entered old new → BeginsFirst replacement bare rest entered old new
-  container-begins bare None plain none behind begins text options lookup columns m le runs =
+  container-begins bare None plain none following begins text options lookup columns m le runs =
       let b = begins text options lookup m runs in
       subst (λ p. Runs replacement text options lookup p new) (sym (taken-begins (row_of rest) open_as start nests has text options lookup bare columns m (opens_here text options lookup m runs) (none text options lookup m runs) (sym (plain text options lookup m runs)) le b.0)) b.1
-  container-begins bare (Some inside) plain none behind begins text options lookup columns m le runs =
+  container-begins bare (Some inside) plain none following begins text options lookup columns m le runs =
       let b = begins text options lookup m runs in (
         container_begun (shown_start options (row_of rest) start) (row_of rest) m,
         b.2,
-        inside-line_end (row_of rest) open_as start nests has inside.0 behind,
-        inside-begins (row_of rest) open_as start nests has text options lookup bare columns m (opens_here text options lookup m runs) (none text options lookup m runs) (sym (plain text options lookup m runs)) inside.0 behind inside.1 b.0 b.1,
+        inside-line_end (row_of rest) open_as start nests has inside.0 following,
+        inside-begins (row_of rest) open_as start nests has text options lookup bare columns m (opens_here text options lookup m runs) (none text options lookup m runs) (sym (plain text options lookup m runs)) inside.0 following inside.1 b.0 b.1,
       )
 
 pub container-read : (r : Row) (open_as : Opening) (start : ContainerStart) → open_as ≡ opening.Nests start → HasInside open_as r → (entered : Option (LineRest × Bool)) (text : List ℕ) → IfSome entered (λ inside. inside.0 ≡ inside_of start) →
     InsideIsIn text open_as → StandInText text r.columns → IfSome entered (λ inside. IsRead text inside.0)
-container-read r open_as start nests has None text behind placed in_text = tt
-container-read r open_as start nests has (Some inside) text behind placed in_text = inside-read r open_as start nests has inside.0 behind text placed in_text
+container-read r open_as start nests has None text following placed in_text = tt
+container-read r open_as start nests has (Some inside) text following placed in_text = inside-read r open_as start nests has inside.0 following text placed in_text
 
 -- a line that begins no container, or metadata
 module _ (text : List ℕ) (options : Options) (lookup : Lookup) (r : Row) (next : List Row) (columns : ℕ) (bare : Bool) (m : model.Pass) where

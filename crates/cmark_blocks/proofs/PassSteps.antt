@@ -1,11 +1,11 @@
 -- The pass over a whole text, and over the rest of one.
 use Rattle.std.proofs.Common.{◌≡◌, ℕ, List, [], ◌∷◌, ◌++◌, false, map, option_map, refl, sym, ap, subst, ◌∙◌}
 use Rattle.cmark_tree.specs.Building.{Is}
-use Rattle.cmark_grammar.proofs.BlocksSound.{blocks-body}
+use Rattle.cmark_block_model.proofs.BlocksSound.{blocks-body}
 use Rattle.cmark_grammar.specs.Answers.{Lookup}
 use Rattle.cmark_grammar.specs.BlockDocument.{Reference}
-use Rattle.cmark_grammar.specs.BlocksModel.{blocks}
-use Rattle.cmark_grammar.specs.DrawnDocument.{settled, without_definitions}
+use Rattle.cmark_block_model.specs.BlocksModel.{blocks}
+use Rattle.cmark_block_model.specs.DrawnDocument.{settled, without_definitions}
 use Rattle.cmark_grammar.specs.Labels.{fold}
 use Rattle.cmark_grammar.specs.Options.{Options}
 use Rattle.cmark_grammar.specs.References.{first_with, references}

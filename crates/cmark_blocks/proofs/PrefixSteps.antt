@@ -12,9 +12,9 @@ use Rattle.cmark_tree.specs.Tree.{Holds, entry_at, HasNode, spine_of}
 use Rattle.cmark_tree.proofs.StandsLemmas.{Stands-inner, Stands-right}
 use Rattle.cmark_tree.proofs.Entries.{node_at-within}
 use Rattle.cmark_items.specs.declared.item.Item.{Item}
-use Rattle.cmark_scan_blocks.specs.LineStart.{row_from}
-use Rattle.cmark_scan_blocks.specs.declared.line_start.LineStart.{LineStart}
-use Rattle.cmark_blocks.specs.Prefixes.{container_in, in_front, containers_of, LineKeepers, one_more, kept_if, kept}
+use Rattle.cmark_scan_lines.specs.LineStart.{row_from}
+use Rattle.cmark_scan_lines.specs.declared.line_start.LineStart.{LineStart}
+use Rattle.cmark_blocks.specs.Prefixes.{container_in, preceding, containers_of, LineKeepers, one_more, kept_if, kept}
 use Rattle.cmark_grammar.specs.Options.{Options}
 
 -- a node of the tree has this item
@@ -50,45 +50,45 @@ module _ (options : Options) where
   -- the containers among these items
   abbrev pub containers_in : List Item → List grammar.Container
   containers_in [] = []
-  containers_in (i ∷ is) = in_front (container_in options i.body) (containers_in is)
+  containers_in (i ∷ is) = preceding (container_in options i.body) (containers_in is)
 
-  containers-push : (is : List Item) (i : Item) → containers_in (is ++ i ∷ []) ≡ containers_in is ++ in_front (container_in options i.body) []
+  containers-push : (is : List Item) (i : Item) → containers_in (is ++ i ∷ []) ≡ containers_in is ++ preceding (container_in options i.body) []
   containers-push [] i = refl
   containers-push (j ∷ is) i = go (container_in options j.body) (containers-push is i)
     where
-      go : (o : Option grammar.Container) → containers_in (is ++ i ∷ []) ≡ containers_in is ++ in_front (container_in options i.body) [] → in_front o (containers_in (is ++ i ∷ [])) ≡ in_front o (containers_in is) ++ in_front (container_in options i.body) []
+      go : (o : Option grammar.Container) → containers_in (is ++ i ∷ []) ≡ containers_in is ++ preceding (container_in options i.body) [] → preceding o (containers_in (is ++ i ∷ [])) ≡ preceding o (containers_in is) ++ preceding (container_in options i.body) []
       go None e = e
       go (Some k) e = ap (λ ks. k ∷ ks) e
 
   containers-path : (up : List (Level Item)) → containers_of options up ≡ containers_in (items_on up)
   containers-path [] = refl
   containers-path (v ∷ up) =
-      ap (λ ks. ks ++ in_front (container_in options v.place.item.body) []) (containers-path up) ∙ sym (containers-push (items_on up) v.place.item)
+      ap (λ ks. ks ++ preceding (container_in options v.place.item.body) []) (containers-path up) ∙ sym (containers-push (items_on up) v.place.item)
 
   -- the lines kept after a number of containers
-  abbrev pub behind : ℕ → LineKeepers → LineKeepers
-  behind n k = record { count = n + k.count; rest = k.rest }
+  abbrev pub following : ℕ → LineKeepers → LineKeepers
+  following n k = record { count = n + k.count; rest = k.rest }
 
-  behind-none : (k : LineKeepers) → k ≡ behind 0 k
-  behind-none k = ap {A = ℕ} {B = LineKeepers} (λ n. record { count = n; rest = k.rest }) (let e : k.count ≡ 0 + k.count = omega arith in e)
+  following-none : (k : LineKeepers) → k ≡ following 0 k
+  following-none k = ap {A = ℕ} {B = LineKeepers} (λ n. record { count = n; rest = k.rest }) (let e : k.count ≡ 0 + k.count = omega arith in e)
 
-  behind-end : (n : ℕ) (r : Row) → behind n (record { count = 0; rest = r }) ≡ record { count = n; rest = r }
-  behind-end n r = ap {A = ℕ} {B = LineKeepers} (λ m. record { count = m; rest = r }) (let e : n + 0 ≡ n = omega arith in e)
+  following-end : (n : ℕ) (r : Row) → following n (record { count = 0; rest = r }) ≡ record { count = n; rest = r }
+  following-end n r = ap {A = ℕ} {B = LineKeepers} (λ m. record { count = m; rest = r }) (let e : n + 0 ≡ n = omega arith in e)
 
-  behind-more : (n m : ℕ) (k : LineKeepers) → m ≡ suc n → behind n (one_more k) ≡ behind m k
-  behind-more n m k e = ap {A = ℕ} {B = LineKeepers} (λ c. record { count = c; rest = k.rest }) (let q : n + suc k.count ≡ m + k.count = omega (arith, e) in q)
+  following-more : (n m : ℕ) (k : LineKeepers) → m ≡ suc n → following n (one_more k) ≡ following m k
+  following-more n m k e = ap {A = ℕ} {B = LineKeepers} (λ c. record { count = c; rest = k.rest }) (let q : n + suc k.count ≡ m + k.count = omega (arith, e) in q)
 
   -- the first `count` containers of a path keep a line, whose rest after their prefixes is this; these nodes of the path are left
   pub record Continuation (tree : Tree Item) (up : List (Level Item)) (old line : LineStart) (count : ℕ) (rest : List TreeIndex) : Type 0 where
     pub items : List Item
     pub have : HaveItems tree rest items
-    pub same : (at line_end : ℕ) → kept (containers_of options up) (row_from at line_end old) ≡ behind count (kept (containers_in items) (row_from at line_end line))
+    pub same : (at line_end : ℕ) → kept (containers_of options up) (row_from at line_end old) ≡ following count (kept (containers_in items) (row_from at line_end line))
 
   pub further-first : (tree : Tree Item) (z : Zip Item) (line : LineStart) (rest : List TreeIndex) → Holds tree z → rest ≡ spine_of z.up → Continuation tree z.up line line 0 rest
   further-first tree z line rest h e = record {
     items = items_on z.up;
     have = subst (λ ixs. HaveItems tree ixs (items_on z.up)) (sym e) (have-path tree z.up (siblings z) h.forest.stands);
-    same = λ at line_end. ap (λ ks. kept ks (row_from at line_end line)) (containers-path z.up) ∙ behind-none (kept (containers_in (items_on z.up)) (row_from at line_end line));
+    same = λ at line_end. ap (λ ks. kept ks (row_from at line_end line)) (containers-path z.up) ∙ following-none (kept (containers_in (items_on z.up)) (row_from at line_end line));
   }
 
   module _ (tree : Tree Item) (up : List (Level Item)) (old line : LineStart) (count : ℕ) where
@@ -98,12 +98,12 @@ module _ (options : Options) where
       pub items : List Item
       pub has : HasItem tree ix.ix item
       pub have : HaveItems tree rest items
-      pub same : (at line_end : ℕ) → kept (containers_of options up) (row_from at line_end old) ≡ behind count (kept (in_front (container_in options item.body) (containers_in items)) (row_from at line_end line))
+      pub same : (at line_end : ℕ) → kept (containers_of options up) (row_from at line_end old) ≡ following count (kept (preceding (container_in options item.body) (containers_in items)) (row_from at line_end line))
 
     pub next : (ix : TreeIndex) (rest : List TreeIndex) → Continuation tree up old line count (ix ∷ rest) → Next ix rest
     next ix rest f = go f.items f.have f.same
       where
-        go : (items : List Item) → HaveItems tree (ix ∷ rest) items → ((at line_end : ℕ) → kept (containers_of options up) (row_from at line_end old) ≡ behind count (kept (containers_in items) (row_from at line_end line))) → Next ix rest
+        go : (items : List Item) → HaveItems tree (ix ∷ rest) items → ((at line_end : ℕ) → kept (containers_of options up) (row_from at line_end old) ≡ following count (kept (containers_in items) (row_from at line_end line))) → Next ix rest
         go [] h s = absurd h
         go (i ∷ is) h s = record { item = i; items = is; has = h.0; have = h.1; same = s }
 
@@ -112,9 +112,9 @@ module _ (options : Options) where
     over (ix ∷ rest) none f at line_end = absurd (omega (arith, none))
     over [] none f at line_end = go f.items f.have (f.same at line_end)
       where
-        go : (items : List Item) → HaveItems tree [] items → kept (containers_of options up) (row_from at line_end old) ≡ behind count (kept (containers_in items) (row_from at line_end line))
+        go : (items : List Item) → HaveItems tree [] items → kept (containers_of options up) (row_from at line_end old) ≡ following count (kept (containers_in items) (row_from at line_end line))
             → kept (containers_of options up) (row_from at line_end old) ≡ record { count = count; rest = row_from at line_end line }
-        go [] h s = s ∙ behind-end count (row_from at line_end line)
+        go [] h s = s ∙ following-end count (row_from at line_end line)
         go (i ∷ is) h s = absurd h
 
     module _ (ix : TreeIndex) (rest : List TreeIndex) (f : Continuation tree up old line count (ix ∷ rest)) where
@@ -123,10 +123,10 @@ module _ (options : Options) where
 
       module _ (item : Item) (is : (e : Entry Item) → entry_at tree ix.ix ≡ Some e → item ≡ e.item) (o : Option grammar.Container) (found : o ≡ container_in options item.body) where
         -- the result for the containers from the next node on
-        ahead : (n : Next ix rest) (at line_end : ℕ) → kept (containers_of options up) (row_from at line_end old) ≡ behind count (kept (in_front o (containers_in n.items)) (row_from at line_end line))
+        ahead : (n : Next ix rest) (at line_end : ℕ) → kept (containers_of options up) (row_from at line_end old) ≡ following count (kept (preceding o (containers_in n.items)) (row_from at line_end line))
         ahead n at line_end =
             n.same at line_end
-            ∙ ap (λ z. behind count (kept (in_front z (containers_in n.items)) (row_from at line_end line))) (ap (λ i. container_in options i.body) (sym (is n.has.0 n.has.1 ∙ n.has.2)) ∙ sym found)
+            ∙ ap (λ z. following count (kept (preceding z (containers_in n.items)) (row_from at line_end line))) (ap (λ i. container_in options i.body) (sym (is n.has.0 n.has.1 ∙ n.has.2)) ∙ sym found)
 
         -- the node is no container
         pub passed : o ≡ None → Continuation tree up old line count rest
@@ -135,13 +135,13 @@ module _ (options : Options) where
             record {
               items = n.items;
               have = n.have;
-              same = λ at line_end. ahead n at line_end ∙ ap (λ z. behind count (kept (in_front z (containers_in n.items)) (row_from at line_end line))) none;
+              same = λ at line_end. ahead n at line_end ∙ ap (λ z. following count (kept (preceding z (containers_in n.items)) (row_from at line_end line))) none;
             }
 
         module _ (k : grammar.Container) (some : o ≡ Some k) where
           tried : (n : Next ix rest) (at line_end : ℕ) → kept (containers_of options up) (row_from at line_end old)
-              ≡ behind count (kept_if (keeps k false (row_from at line_end line)) (kept (containers_in n.items)) (record { count = 0; rest = row_from at line_end line }))
-          tried n at line_end = ahead n at line_end ∙ ap (λ z. behind count (kept (in_front z (containers_in n.items)) (row_from at line_end line))) some
+              ≡ following count (kept_if (keeps k false (row_from at line_end line)) (kept (containers_in n.items)) (record { count = 0; rest = row_from at line_end line }))
+          tried n at line_end = ahead n at line_end ∙ ap (λ z. following count (kept (preceding z (containers_in n.items)) (row_from at line_end line))) some
 
           -- the container keeps the line
           pub taken : (new : LineStart) → ((at line_end : ℕ) → Some (row_from at line_end new) ≡ keeps k false (row_from at line_end line)) → (more : ℕ) → more ≡ suc count → Continuation tree up old new more rest
@@ -152,8 +152,8 @@ module _ (options : Options) where
                 have = n.have;
                 same = λ at line_end.
                     tried n at line_end
-                    ∙ ap (λ z. behind count (kept_if z (kept (containers_in n.items)) (record { count = 0; rest = row_from at line_end line }))) (sym (keep at line_end))
-                    ∙ behind-more count more (kept (containers_in n.items) (row_from at line_end new)) one;
+                    ∙ ap (λ z. following count (kept_if z (kept (containers_in n.items)) (record { count = 0; rest = row_from at line_end line }))) (sym (keep at line_end))
+                    ∙ following-more count more (kept (containers_in n.items) (row_from at line_end new)) one;
               }
 
           -- it lacks its prefix
@@ -161,5 +161,5 @@ module _ (options : Options) where
           lacked keep at line_end =
               let n = next ix rest f in
               tried n at line_end
-              ∙ ap (λ z. behind count (kept_if z (kept (containers_in n.items)) (record { count = 0; rest = row_from at line_end line }))) (sym (keep at line_end))
-              ∙ behind-end count (row_from at line_end line)
+              ∙ ap (λ z. following count (kept_if z (kept (containers_in n.items)) (record { count = 0; rest = row_from at line_end line }))) (sym (keep at line_end))
+              ∙ following-end count (row_from at line_end line)

@@ -10,8 +10,8 @@ use Rattle.std.proofs.lemmas.Slice.Eq.{bytes_eq-Decides}
 use Rattle.cmark_grammar.specs.BlockDocument.{Reference}
 use Rattle.cmark_grammar.specs.Labels.{is_nonempty, words, normal_form, case_folded, fold}
 use Rattle.cmark_grammar.specs.References.{found_or, first_with}
-use Rattle.cmark_text_parts.specs.declared.label.LinkLabel.{LinkLabel}
-use Rattle.cmark_text_parts.specs.Labelled.{link_key}
+use Rattle.cmark_values.specs.declared.label.LinkLabel.{LinkLabel}
+use Rattle.cmark_values.specs.Labelled.{link_key}
 use Rattle.cmark_references.specs.Definitions.{definition, reference_at, shown_entry, first_of, at_label}
 use Rattle.cmark_references.specs.declared.definitions.RefDefs.{RefDefs}
 use Rattle.cmark_references.proofs.SpellingSteps.{at, no_entry}

@@ -18,7 +18,7 @@ use Rattle.std.specs.Prelude.{if◌then◌else◌}
 use Rattle.std.proofs.lemmas.Option.{same_Some}
 use Rattle.cmark_blocks.specs.declared.state.OpenLeaf.{OpenLeaf}
 use Rattle.cmark_blocks.specs.declared.state.OpenLeaf.TheVariants as leaf
-use Rattle.cmark_lines.specs.declared.line_rest.LineRest.{LineRest}
+use Rattle.cmark_line_rules.specs.declared.line_rest.LineRest.{LineRest}
 use Rattle.cmark_blocks.specs.Runs.{Runs, ShowsLeaf}
 
 pub shows-snoc : (cs : List OpenContainer) (ms : List model.OpenContainer) (c : OpenContainer) (m : model.OpenContainer) → ShowsContainers cs ms → ShowsContainer c m → ShowsContainers (cs ++ c ∷ []) (ms ++ m ∷ [])
@@ -126,8 +126,8 @@ module _ {E : Type 0} (replacement : E → Lookup) (text : List ℕ) (options : 
   }
 
   -- no lines are kept if no leaf is open
-  pub none_behind_closed : pass.leaf ≡ leaf.Closed → Runs replacement text options lookup m pass → pass.blank_lines.items ≡ []
-  none_behind_closed is runs = (subst (λ l. ShowsLeaf text l pass.blank_lines.items m.leaf) is runs.leaf).1
+  pub none_after_closed : pass.leaf ≡ leaf.Closed → Runs replacement text options lookup m pass → pass.blank_lines.items ≡ []
+  none_after_closed is runs = (subst (λ l. ShowsLeaf text l pass.blank_lines.items m.leaf) is runs.leaf).1
 
   -- no leaf is open, and no blank lines wait
   pub runs-closed : (blanks : Vec LineRest Global) → Runs replacement text options lookup m pass → blanks.items ≡ [] → Runs replacement text options lookup (record m { leaf = model.Closed }) (record pass { leaf = leaf.Closed; blank_lines = blanks })

@@ -4,11 +4,11 @@ use Rattle.std.specs.Prelude.{if◌then◌else◌, string_bytes}
 use Rattle.cmark_grammar.specs.Attributes.{attributes_of, no_attributes}
 use Rattle.cmark_grammar.specs.SetextAttributes.{attributes_place, texts_if, setext_attributes}
 use Rattle.cmark_block_model.specs.Drawing.{OpenNode, Drawing, cut_at, texts_cut, unbraced}
-use Rattle.cmark_lines.specs.declared.line_rest.LineRest.{LineRest}
-use Rattle.cmark_leaves.specs.Contents.{AreRead, content_columns}
-use Rattle.cmark_leaves.specs.TextColumns.{IsRead}
-use Rattle.cmark_leaves.specs.declared.setext.SetextAttributes.{SetextAttributes}
-use Rattle.cmark_leaves.proofs.SetextContent.{no-setext}
+use Rattle.cmark_line_rules.specs.declared.line_rest.LineRest.{LineRest}
+use Rattle.cmark_leaf_nodes.specs.Contents.{AreRead, content_columns}
+use Rattle.cmark_leaf_nodes.specs.TextColumns.{IsRead}
+use Rattle.cmark_leaf_nodes.specs.declared.setext.SetextAttributes.{SetextAttributes}
+use Rattle.cmark_leaf_nodes.proofs.SetextContent.{no-setext}
 use Rattle.cmark_blocks.specs.Setext.{FindsIf}
 use Rattle.cmark_blocks.specs.Runs.{IsLastRead}
 use Rattle.cmark_blocks.specs.declared.state.OpenLeaf.{OpenLeaf}

@@ -9,14 +9,14 @@ use Rattle.cmark_grammar.specs.Rows.{Row, start_of, last_line_end}
 use Rattle.cmark_grammar.specs.TableRows.{count_missing, most_filled, one_more_if}
 use Rattle.cmark_grammar.specs.TableTokens.{row_cells, row_tokens}
 use Rattle.cmark_items.specs.Tables.{defined}
-use Rattle.cmark_lines.specs.declared.line_rest.LineRest.{LineRest}
+use Rattle.cmark_line_rules.specs.declared.line_rest.LineRest.{LineRest}
 use Rattle.cmark_block_model.specs.BlockPass.{ahead_in}
 use Rattle.cmark_block_model.specs.Drawing.{Drawing, drawn}
 use Rattle.cmark_block_model.specs.OpenBlocks as model
 use Rattle.cmark_builder.specs.declared.builder.Builder.{Builder}
 use Rattle.cmark_builder.specs.Drawn.{Draws}
-use Rattle.cmark_leaves.proofs.DrawSteps.{drawn-Nil}
-use Rattle.cmark_leaves.proofs.TableSteps.{drawn-node}
+use Rattle.cmark_leaf_nodes.proofs.DrawSteps.{drawn-Nil}
+use Rattle.cmark_leaf_nodes.proofs.TableSteps.{drawn-node}
 use Rattle.cmark_blocks.specs.declared.state.Pass.{Pass}
 use Rattle.cmark_blocks.specs.Ahead.{lines_at}
 use Rattle.cmark_blocks.specs.declared.state.OpenLeaf.TheVariants as leaf
@@ -26,8 +26,8 @@ use Rattle.cmark_blocks.proofs.RunSteps.{runs-builder}
 
 module _ {E : Type 0} (replacement : E → Lookup) (text : List ℕ) (options : Options) (lookup : Lookup) (m : model.Pass) (columns : ℕ) (delimiter : Row) where
   -- the rows after a line, if `left` cells may be filled in
-  abbrev rows_behind : (left : ℕ) → Row → List Row
-  rows_behind left r = rows_taken options columns left (ahead_in text options lookup m.outer (lines_at text r.line_end))
+  abbrev rows_following : (left : ℕ) → Row → List Row
+  rows_following left r = rows_taken options columns left (ahead_in text options lookup m.outer (lines_at text r.line_end))
 
   abbrev row_node : Row → BlockDocument
   row_node r = Node (node TableRow (start_of r) r.line_end) (row_cells text columns r) Nil
@@ -46,8 +46,8 @@ module _ {E : Type 0} (replacement : E → Lookup) (text : List ℕ) (options : 
         runs = runs-builder replacement text options lookup (record m { drawing = before.drawing }) old b (drawn (row_node row) before.drawing) before.runs (draws before.drawing before.runs.drawing) references;
         draws =
             before.draws ∙ ap (λ rs. drawn (row_tokens text columns rs) before.drawing) next
-            ∙ drawn-node (node TableRow (start_of row) row.line_end) (row_cells text columns row) (row_tokens text columns (rows_behind (left - count_missing columns row) row)) before.drawing;
-        counts = before.counts ∙ ap (λ rs. count + length rs) next ∙ one-more count (length (rows_behind (left - count_missing columns row) row));
+            ∙ drawn-node (node TableRow (start_of row) row.line_end) (row_cells text columns row) (row_tokens text columns (rows_following (left - count_missing columns row) row)) before.drawing;
+        counts = before.counts ∙ ap (λ rs. count + length rs) next ∙ one-more count (length (rows_following (left - count_missing columns row) row));
         ends = before.ends ∙ ap (last_line_end last) next;
       })
     where
@@ -62,8 +62,8 @@ module _ {E : Type 0} (replacement : E → Lookup) (text : List ℕ) (options : 
   rows-drawn left count line_end last now before none place = (
     subst (λ (d : Drawing). Runs replacement text options lookup (record m { drawing = d }) now)
         (sym (before.draws ∙ ap (λ rs. drawn (row_tokens text columns rs) before.drawing) none ∙ drawn-Nil before.drawing)) before.runs,
-    (let counts : length (rows_behind most_filled delimiter) ≡ count + length (rows_behind left last) = before.counts in
-        let left_none : length (rows_behind left last) ≡ 0 = ap length none in
+    (let counts : length (rows_following most_filled delimiter) ≡ count + length (rows_following left last) = before.counts in
+        let left_none : length (rows_following left last) ≡ 0 = ap length none in
         omega (arith, counts, left_none)),
     place ∙ sym (before.ends ∙ ap (last_line_end last) none),
   )

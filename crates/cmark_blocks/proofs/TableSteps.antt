@@ -11,8 +11,8 @@ use Rattle.cmark_grammar.specs.Rows.{Row, indent_of, words_of}
 use Rattle.cmark_grammar.specs.TableRows.{holds_pipe, count_cells, count_missing, most_filled, one_more_if, with_columns, delimited_ahead, table_head, is_some_head, begins_with_pipe, table_interrupts}
 use Rattle.cmark_grammar.specs.Tables.{delimiter_row}
 use Rattle.cmark_items.specs.ItemNodes.{columns_of}
-use Rattle.cmark_lines.specs.Rests.{row_of}
-use Rattle.cmark_lines.specs.declared.line_rest.LineRest.{LineRest}
+use Rattle.cmark_line_rules.specs.Rests.{row_of}
+use Rattle.cmark_line_rules.specs.declared.line_rest.LineRest.{LineRest}
 use Rattle.cmark_block_model.specs.BlockPass.{leaf_begun, begin_as, paragraph_begun}
 use Rattle.cmark_block_model.specs.OpenBlocks as model
 use Rattle.cmark_blocks.specs.TablesAhead.{IsHead, rows_taken}
@@ -81,17 +81,17 @@ delimiter-says columns s ahead e = go (nat_le (indent_of s) 3) e
     go true e = with-columns columns row e
     go false e = absurd (true≢false (sym e))
 
-module _ (options : Options) (r : Row) (ahead : List Row) (columns : ℕ) (s : Row) (behind : List Row) (next : ahead ≡ s ∷ behind)
+module _ (options : Options) (r : Row) (ahead : List Row) (columns : ℕ) (s : Row) (following : List Row) (next : ahead ≡ s ∷ following)
     (on : options.tables ≡ true) (whole : r.lazy ≡ false) (pipe : holds_pipe (words_of r) ≡ true) (cells : count_cells r ≡ columns) where
-  here : table_head options r ahead ≡ delimited_ahead columns (s ∷ behind)
+  here : table_head options r ahead ≡ delimited_ahead columns (s ∷ following)
   here = head-ahead options r ahead columns on whole pipe cells ∙ ap (delimited_ahead columns) next
 
   -- the next line is a delimiter row, or is not
-  pub head-is : is_some_head (delimited_ahead columns (s ∷ behind)) ≡ true → IsHead options r ahead columns s behind
-  head-is e = let says = delimiter-says columns s behind e in record { next = next; is = here ∙ says.0; many = says.1 }
+  pub head-is : is_some_head (delimited_ahead columns (s ∷ following)) ≡ true → IsHead options r ahead columns s following
+  head-is e = let says = delimiter-says columns s following e in record { next = next; is = here ∙ says.0; many = says.1 }
 
-  pub head-not : is_some_head (delimited_ahead columns (s ∷ behind)) ≡ false → table_head options r ahead ≡ None
-  head-not e = here ∙ no-columns (delimited_ahead columns (s ∷ behind)) e
+  pub head-not : is_some_head (delimited_ahead columns (s ∷ following)) ≡ false → table_head options r ahead ≡ None
+  head-not e = here ∙ no-columns (delimited_ahead columns (s ∷ following)) e
 
 -- whether a table interrupts a paragraph
 module _ (options : Options) (r : Row) (ahead : List Row) where
@@ -115,10 +115,10 @@ module _ (options : Options) (r : Row) (ahead : List Row) where
       nothing false = refl
 
 -- a head was found, or the line is not a head
-pub head-in_text : (options : Options) (r : Row) (ahead : List Row) (behind : LineRest → List Row) (in_text : Option (ℕ × LineRest)) →
-    MatchOption in_text (table_head options r ahead ≡ None) (λ head. IsHead options r ahead head.0 (row_of head.1) (behind head.1)) → is_some in_text ≡ is_some_head (table_head options r ahead)
-head-in_text options r ahead behind None none = sym (ap is_some_head none)
-head-in_text options r ahead behind (Some head) some = sym (ap is_some_head some.is)
+pub head-in_text : (options : Options) (r : Row) (ahead : List Row) (following : LineRest → List Row) (in_text : Option (ℕ × LineRest)) →
+    MatchOption in_text (table_head options r ahead ≡ None) (λ head. IsHead options r ahead head.0 (row_of head.1) (following head.1)) → is_some in_text ≡ is_some_head (table_head options r ahead)
+head-in_text options r ahead following None none = sym (ap is_some_head none)
+head-in_text options r ahead following (Some head) some = sym (ap is_some_head some.is)
 
 -- the rows ahead
 module _ (options : Options) (columns left : ℕ) (r : Row) (ahead : List Row) where
@@ -150,14 +150,14 @@ fits-in_text left missing cells e same = let le = ltb-false left missing e in om
 
 -- the opening of a line that begins no other leaf
 module _ (text : List ℕ) (options : Options) (lookup : Lookup) (m : model.Pass) (inside : Container → model.Pass) (r : Row) (ahead : List Row) (bare : Bool) where
-  pub begins-table : (columns : ℕ) (delimiter : Row) (behind : List Row) → IsHead options r ahead columns delimiter behind →
-      leaf_begun text options lookup (Table (columns_of (delimiter_row (words_of delimiter)))) (suc (count_rows options columns most_filled behind)) r (delimiter ∷ behind) m
+  pub begins-table : (columns : ℕ) (delimiter : Row) (following : List Row) → IsHead options r ahead columns delimiter following →
+      leaf_begun text options lookup (Table (columns_of (delimiter_row (words_of delimiter)))) (suc (count_rows options columns most_filled following)) r (delimiter ∷ following) m
       ≡ begin_as text options lookup (table_if options (table_head options r ahead) ahead) inside r ahead bare m
-  begins-table columns delimiter behind head =
+  begins-table columns delimiter following head =
       let alignments = columns_of (delimiter_row (words_of delimiter)) in
       sym (ap (λ o. begin_as text options lookup (table_if options o ahead) inside r ahead bare m) head.is
       ∙ ap (λ rs. leaf_begun text options lookup (Table alignments) (suc (count_rows options (length alignments) most_filled (drop 1 rs))) r rs m) head.next
-      ∙ ap (λ n. leaf_begun text options lookup (Table alignments) (suc (count_rows options n most_filled behind)) r (delimiter ∷ behind) m) head.many)
+      ∙ ap (λ n. leaf_begun text options lookup (Table alignments) (suc (count_rows options n most_filled following)) r (delimiter ∷ following) m) head.many)
 
   pub begins-paragraph : table_head options r ahead ≡ None → paragraph_begun text options lookup r m ≡ begin_as text options lookup (table_if options (table_head options r ahead) ahead) inside r ahead bare m
   begins-paragraph none = sym (ap (λ o. begin_as text options lookup (table_if options o ahead) inside r ahead bare m) none)

@@ -11,14 +11,14 @@ use Rattle.cmark_grammar.specs.Letters.{first_is}
 use Rattle.cmark_grammar.specs.Openings.{Blank, Plain, opens, opens_at}
 use Rattle.cmark_grammar.specs.Options.{Options}
 use Rattle.cmark_grammar.specs.Blocks.{place_in}
-use Rattle.cmark_grammar.specs.Places.{Apart, BehindTask}
+use Rattle.cmark_grammar.specs.Places.{Apart, AfterTask}
 use Rattle.cmark_grammar.specs.Rows.{Row, without, begin_of, is_bare, is_blank_line, indent_of, words_of}
 use Rattle.cmark_grammar.specs.TaskItems.{task_in}
 use Rattle.cmark_grammar.specs.TaskMarkers.{box_of, task_of}
-use Rattle.cmark_lines.specs.Rests.{row_of}
-use Rattle.cmark_lines.specs.Starts.{shown_start, Enters}
-use Rattle.cmark_lines.specs.declared.container.ContainerStart.{ContainerStart}
-use Rattle.cmark_lines.specs.declared.container.ContainerStart.TheVariants as begun
+use Rattle.cmark_line_rules.specs.Rests.{row_of}
+use Rattle.cmark_line_rules.specs.Starts.{shown_start, Enters}
+use Rattle.cmark_line_rules.specs.declared.container.ContainerStart.{ContainerStart}
+use Rattle.cmark_line_rules.specs.declared.container.ContainerStart.TheVariants as begun
 use Rattle.cmark_grammar.specs.BlockDocument.{BlockDocument, Nil}
 use Rattle.cmark_grammar.specs.Derivation.{task_then}
 use Rattle.cmark_block_model.proofs.PlainTokens.{join-nil}
@@ -65,8 +65,8 @@ blank-bytes (suc n) (c ∷ cs) e = go (c.part == 0) (blank-bytes n cs e) (blank-
     go false shorter longer = longer
 
 -- after a task marker there is text
-behind-box : (options : Options) (r : Row) (is_checked : Bool) → task_in options r ≡ Some is_checked → is_blank_line (without 3 r) ≡ false
-behind-box options r is_checked e = go (is_blank_line (without 3 r)) refl
+following-box : (options : Options) (r : Row) (is_checked : Bool) → task_in options r ≡ Some is_checked → is_blank_line (without 3 r) ≡ false
+following-box options r is_checked e = go (is_blank_line (without 3 r)) refl
   where
     zero-is : (n : ℕ) → (n == 0) ≡ true → n ≡ 0
     zero-is n q = grind (arith)
@@ -104,7 +104,7 @@ item-text : (options : Options) (r s : Row) (delimiter : ℕ) (number : Option �
 unfolding enter
 item-text options r s delimiter number width None is in_text = tt
 item-text options r s delimiter number width (Some is_checked) is in_text =
-    ap (λ cs. is_bare (without_indent cs)) (sym (drop-drop 3 width r.columns)) ∙ sym (ap (λ (x : Row). is_blank_line (without 3 x)) is) ∙ behind-box options s is_checked in_text
+    ap (λ cs. is_bare (without_indent cs)) (sym (drop-drop 3 width r.columns)) ∙ sym (ap (λ (x : Row). is_blank_line (without 3 x)) is) ∙ following-box options s is_checked in_text
 
 pub start-text : (options : Options) (r : Row) (start : ContainerStart) → Enters r start → HasText (shown_start options r start) r
 start-text options r (begun.BlockQuote inside) enters = tt
@@ -113,11 +113,11 @@ start-text options r (begun.Item item inside) enters =
 start-text options r (begun.Footnote footnote inside) enters = tt
 
 -- text after a task marker is a paragraph
-text-opens : (options : Options) (r : Row) (ahead : List Row) → is_blank_line r ≡ false → opens_at options BehindTask r ahead ≡ Plain
+text-opens : (options : Options) (r : Row) (ahead : List Row) → is_blank_line r ≡ false → opens_at options AfterTask r ahead ≡ Plain
 unfolding opens
 text-opens options r ahead some = go r.lazy refl
   where
-    go : (z : Bool) → r.lazy ≡ z → opens_at options BehindTask r ahead ≡ Plain
+    go : (z : Bool) → r.lazy ≡ z → opens_at options AfterTask r ahead ≡ Plain
     go true lazy = ap (λ z. if not z then (if is_blank_line r then Blank else Plain) else opens options r ahead) lazy ∙ lazy-opens lazy
       where
         lazy-opens : r.lazy ≡ true → opens options r ahead ≡ Plain
@@ -177,14 +177,14 @@ item-alone r m delimiter number width =
     ap {A = BlockDocument} {B = model.Pass} (λ here. record p { drawing = record p.drawing { here = here } }) (join-nil p.drawing.here)
 
 -- an item with a task marker is begun with the marker, and with the paragraph after it
-pub item-taken : (text : List ℕ) (options : Options) (lookup : Lookup) (m : model.Pass) (r inside behind : Row) (delimiter : ℕ) (number : Option ℕ) (width : ℕ) (is_checked : Bool) (at from : ℕ) →
-    inside ≡ without width r → behind ≡ without 3 inside → at ≡ begin_of r → from ≡ begin_of inside →
-    paragraph_begun text options lookup behind (with_drawn (task_then (Some is_checked) from (begin_of behind) Nil) (item_begun_in delimiter number width (Some is_checked) at m))
+pub item-taken : (text : List ℕ) (options : Options) (lookup : Lookup) (m : model.Pass) (r inside following : Row) (delimiter : ℕ) (number : Option ℕ) (width : ℕ) (is_checked : Bool) (at from : ℕ) →
+    inside ≡ without width r → following ≡ without 3 inside → at ≡ begin_of r → from ≡ begin_of inside →
+    paragraph_begun text options lookup following (with_drawn (task_then (Some is_checked) from (begin_of following) Nil) (item_begun_in delimiter number width (Some is_checked) at m))
     ≡ line_taken text options lookup (Item delimiter number width (Some is_checked)) r (container_begun (Item delimiter number width (Some is_checked)) r m)
 unfolding enter
-item-taken text options lookup m r inside behind delimiter number width is_checked at from is_inside is_behind at_is from_is =
+item-taken text options lookup m r inside following delimiter number width is_checked at from is_inside is_after at_is from_is =
     let last : Row = without (width + 3) r in
-    let e : behind ≡ last = is_behind ∙ ap (without 3) is_inside ∙ ap {A = List Column} {B = Row} (λ cs. record r { columns = cs }) (drop-drop 3 width r.columns) in
+    let e : following ≡ last = is_after ∙ ap (without 3) is_inside ∙ ap {A = List Column} {B = Row} (λ cs. record r { columns = cs }) (drop-drop 3 width r.columns) in
     let f : from ≡ begin_of (without width r) = from_is ∙ ap begin_of is_inside in
     ap (λ (b : Row). paragraph_begun text options lookup b (with_drawn (task_then (Some is_checked) from (begin_of b) Nil) (item_begun_in delimiter number width (Some is_checked) at m))) e
     ∙ ap (λ (n : ℕ). paragraph_begun text options lookup last (with_drawn (task_then (Some is_checked) n (begin_of last) Nil) (item_begun_in delimiter number width (Some is_checked) at m))) f

@@ -11,14 +11,14 @@ use Rattle.cmark_grammar.specs.Options.{Options}
 use Rattle.cmark_grammar.specs.DefinitionLists.{definition_at}
 use Rattle.cmark_grammar.specs.Rows.{Row}
 use Rattle.cmark_items.specs.ItemNodes.{list_number}
-use Rattle.cmark_lines.specs.Opened.{opened}
-use Rattle.cmark_lines.specs.Rests.{row_of}
-use Rattle.cmark_lines.specs.Starts.{shown_start}
-use Rattle.cmark_lines.specs.declared.container.ContainerStart.{ContainerStart}
-use Rattle.cmark_lines.specs.declared.container.ContainerStart.TheVariants as begun
-use Rattle.cmark_lines.specs.declared.line_rest.LineRest.{LineRest}
-use Rattle.cmark_lines.specs.declared.opening.Opening.{Opening}
-use Rattle.cmark_lines.specs.declared.opening.Opening.TheVariants as opening
+use Rattle.cmark_line_rules.specs.Opened.{opened}
+use Rattle.cmark_line_rules.specs.Rests.{row_of}
+use Rattle.cmark_line_rules.specs.Starts.{shown_start}
+use Rattle.cmark_line_rules.specs.declared.container.ContainerStart.{ContainerStart}
+use Rattle.cmark_line_rules.specs.declared.container.ContainerStart.TheVariants as begun
+use Rattle.cmark_line_rules.specs.declared.line_rest.LineRest.{LineRest}
+use Rattle.cmark_line_rules.specs.declared.opening.Opening.{Opening}
+use Rattle.cmark_line_rules.specs.declared.opening.Opening.TheVariants as opening
 use Rattle.cmark_block_model.specs.BlockPass.{ahead_in, begin, begin_as, begin_in, container_begun, is_item, paragraph_begun, place_of}
 use Rattle.cmark_block_model.specs.OpenBlocks as model
 use Rattle.cmark_blocks.specs.Ahead.{lines_at}
@@ -54,7 +54,7 @@ takes_line (ListDefinition width) = false
 
 -- the whole line of a container that takes it was taken
 abbrev pub line_taken : List ℕ → Options → Lookup → Container → Row → model.Pass → model.Pass
-line_taken text options lookup (BlockQuote alert) r p = record p { leaf = model.BehindTag }
+line_taken text options lookup (BlockQuote alert) r p = record p { leaf = model.AfterTag }
 line_taken text options lookup (Item delimiter number width task) r p = paragraph_begun text options lookup (enter (Item delimiter number width task) r) p
 line_taken text options lookup (Footnote label old size) r p = p
 line_taken text options lookup (ListDefinition width) r p = p

@@ -7,8 +7,8 @@ use Rattle.cmark_items.specs.Tables.{Tables}
 use Rattle.cmark_references.specs.declared.footnotes.FootnoteDef.{FootnoteDef}
 use Rattle.cmark_references.specs.declared.footnotes.FootnoteDefs.{FootnoteDefs}
 use Rattle.cmark_grammar.specs.SpanDocuments.{has_label}
-use Rattle.cmark_text_parts.specs.Shown.{text_bytes}
-use Rattle.cmark_text_parts.specs.declared.text.CowStr.{CowStr}
+use Rattle.cmark_values.specs.Shown.{text_bytes}
+use Rattle.cmark_values.specs.declared.text.CowStr.{CowStr}
 
 -- a text was added after the others
 abbrev pub KeepsText : (bytes : List ℕ) → (old new : Tables) → Type 0

@@ -5,16 +5,16 @@ use Rattle.cmark_grammar.specs.LinkDefinitions.{further_bytes, bytes_over, defin
 use Rattle.cmark_grammar.specs.Openings.{text_lines}
 use Rattle.cmark_grammar.specs.Options.{Options}
 use Rattle.cmark_grammar.specs.Rows.{Row}
-use Rattle.cmark_definitions.specs.Settled.{defined_before}
-use Rattle.cmark_lines.specs.Rests.{row_of}
-use Rattle.cmark_lines.specs.declared.line_rest.LineRest.{LineRest}
+use Rattle.cmark_link_definitions.specs.Settled.{defined_before}
+use Rattle.cmark_line_rules.specs.Rests.{row_of}
+use Rattle.cmark_line_rules.specs.declared.line_rest.LineRest.{LineRest}
 use Rattle.cmark_block_model.specs.BlockPass.{ahead_in}
 use Rattle.cmark_block_model.specs.OpenBlocks as model
 use Rattle.cmark_blocks.specs.declared.state.Pass.{Pass}
 use Rattle.cmark_blocks.specs.declared.gathered.Gathered.{Gathered}
 use Rattle.cmark_blocks.specs.Ahead.{lines_at}
 use Rattle.cmark_blocks.specs.Runs.{Runs}
-use Rattle.cmark_leaves.specs.TextColumns.{IsRead}
+use Rattle.cmark_leaf_nodes.specs.TextColumns.{IsRead}
 
 -- the last of these lines
 abbrev pub last_of : Row → List Row → Row
@@ -59,5 +59,5 @@ module _ {E : Type 0} (replacement : E → Lookup) where
   abbrev pub Decides : Pass E → Gathered → Type 0
   Decides pass gathered =
       (text : List ℕ) (options : Options) (lookup : Lookup) (m : model.Pass) → Runs replacement text options lookup m pass →
-      let behind = further_bytes (row_of gathered.last) (texts_at text options lookup m (row_of gathered.last).line_end) in
-      definition_in (string_bytes gathered.text ++ behind) ≡ option_map (defined_before behind) (definition_in (string_bytes gathered.text))
+      let following = further_bytes (row_of gathered.last) (texts_at text options lookup m (row_of gathered.last).line_end) in
+      definition_in (string_bytes gathered.text ++ following) ≡ option_map (defined_before following) (definition_in (string_bytes gathered.text))

@@ -3,16 +3,16 @@ use Rattle.std.specs.Prelude.{◌≡◌, ℕ, Bool, List, [], take, drop}
 use Rattle.cmark_grammar.specs.Answers.{Lookup}
 use Rattle.cmark_grammar.specs.Options.{Options}
 use Rattle.cmark_grammar.specs.Rows.{without}
-use Rattle.cmark_lines.specs.Rests.{row_of}
-use Rattle.cmark_lines.specs.declared.line_rest.LineRest.{LineRest}
+use Rattle.cmark_line_rules.specs.Rests.{row_of}
+use Rattle.cmark_line_rules.specs.declared.line_rest.LineRest.{LineRest}
 use Rattle.cmark_block_model.specs.BlockPass.{kept_by}
 use Rattle.cmark_block_model.specs.OpenBlocks as model
 use Rattle.cmark_blocks.specs.declared.state.Pass.{Pass}
 use Rattle.cmark_blocks.specs.Runs.{Runs}
 
 -- this is the rest of the line after some of its columns, held by a container without a prefix or not
-abbrev pub IsBehind : LineRest → LineRest → Type 0
-IsBehind line rest = (n : ℕ) × ((held : Bool) × (record (without n (row_of line)) { held = held } ≡ row_of rest))
+abbrev pub IsAfter : LineRest → LineRest → Type 0
+IsAfter line rest = (n : ℕ) × ((held : Bool) × (record (without n (row_of line)) { held = held } ≡ row_of rest))
 
 module _ {E : Type 0} (replacement : E → Lookup) where
   -- this many containers keep the line, and this is the rest of it

@@ -1,5 +1,6 @@
 pub mod Ahead
 pub mod Brackets
+pub mod Cuts
 pub mod Entered
 pub mod FirstPass
 pub mod Footnotes

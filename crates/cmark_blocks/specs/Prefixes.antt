@@ -8,8 +8,8 @@ use Rattle.cmark_tree.specs.Zip.{Level}
 use Rattle.cmark_items.specs.declared.item.Item.{Item}
 use Rattle.cmark_items.specs.declared.item.ItemBody.{ItemBody}
 use Rattle.cmark_items.specs.declared.item.ItemBody.TheVariants as body
-use Rattle.cmark_lines.specs.declared.container.Container.{Container}
-use Rattle.cmark_lines.specs.declared.container.Container.TheVariants as container
+use Rattle.cmark_line_rules.specs.declared.container.Container.{Container}
+use Rattle.cmark_line_rules.specs.declared.container.Container.TheVariants as container
 
 -- an item with a prefix of this width. Its character, number and task marker do not matter to the lines that it keeps, so it is represented
 -- as a bullet without a task marker. Likewise a block quote is represented without an alert, and a footnote definition without its label
@@ -32,14 +32,14 @@ container_in options (body.FootnoteDefinition label) = Some (grammar.Footnote []
 container_in options _ = None
 
 -- the container, if there is one, before these
-abbrev pub in_front : Option grammar.Container → List grammar.Container → List grammar.Container
-in_front None ks = ks
-in_front (Some k) ks = k ∷ ks
+abbrev pub preceding : Option grammar.Container → List grammar.Container → List grammar.Container
+preceding None ks = ks
+preceding (Some k) ks = k ∷ ks
 
 -- the containers among the nodes of a path, the outermost first
 abbrev pub containers_of : Options → List (Level Item) → List grammar.Container
 containers_of options [] = []
-containers_of options (v ∷ up) = containers_of options up ++ in_front (container_in options v.place.item.body) []
+containers_of options (v ∷ up) = containers_of options up ++ preceding (container_in options v.place.item.body) []
 
 -- the number of containers that keep a line, and the rest of the line after their prefixes
 pub record LineKeepers : Type 0 where

@@ -8,15 +8,15 @@ use Rattle.cmark_grammar.specs.Labels.{fold}
 use Rattle.cmark_grammar.specs.References.{first_with}
 use Rattle.cmark_references.specs.Definitions.{reference_at}
 use Rattle.cmark_builder.specs.Drawn.{Draws}
-use Rattle.cmark_lines.specs.Rests.{row_of}
-use Rattle.cmark_lines.specs.declared.line_rest.LineRest.{LineRest}
-use Rattle.cmark_text_parts.specs.Shown.{shown_metadata_block_kind, shown_options}
-use Rattle.cmark_scan_blocks.specs.HtmlLines.{kind_number}
+use Rattle.cmark_line_rules.specs.Rests.{row_of}
+use Rattle.cmark_line_rules.specs.declared.line_rest.LineRest.{LineRest}
+use Rattle.cmark_values.specs.Shown.{shown_metadata_block_kind, shown_options}
+use Rattle.cmark_scan_lines.specs.HtmlLines.{kind_number}
 use Rattle.cmark_grammar.specs.Leaves.{Fence}
-use Rattle.cmark_leaves.specs.Stretches.{shown_waits}
-use Rattle.cmark_leaves.specs.declared.stretch.Stretch.{Stretch}
-use Rattle.cmark_leaves.specs.Contents.{AreRead}
-use Rattle.cmark_leaves.specs.TextColumns.{IsRead}
+use Rattle.cmark_leaf_nodes.specs.Stretches.{shown_waits}
+use Rattle.cmark_leaf_nodes.specs.declared.stretch.Stretch.{Stretch}
+use Rattle.cmark_leaf_nodes.specs.Contents.{AreRead}
+use Rattle.cmark_leaf_nodes.specs.TextColumns.{IsRead}
 use Rattle.cmark_block_model.specs.OpenBlocks as model
 use Rattle.cmark_blocks.specs.declared.state.OpenLeaf.{OpenLeaf}
 use Rattle.cmark_blocks.specs.declared.state.OpenLeaf.TheVariants as leaf
@@ -30,7 +30,7 @@ IsFence fence delimiter run_length indent = (fence.delimiter ≡ delimiter) × (
 -- the open leaf, with the blank lines after indented code, or the earlier lines of a paragraph, if they are kept
 abbrev pub ShowsLeaf : List ℕ → OpenLeaf → List LineRest → model.OpenLeaf → Type 0
 ShowsLeaf text leaf.Closed blanks m = (m ≡ model.Closed) × (blanks ≡ [])
-ShowsLeaf text leaf.BehindTag blanks m = (m ≡ model.BehindTag) × (blanks ≡ [])
+ShowsLeaf text leaf.AfterTag blanks m = (m ≡ model.AfterTag) × (blanks ≡ [])
 ShowsLeaf text (leaf.Paragraph from last) lines m = m ≡ model.InParagraph (map row_of lines) from (row_of last)
 ShowsLeaf text (leaf.Definition left) blanks m = (m ≡ model.InDefinition left) × (blanks ≡ [])
 ShowsLeaf text (leaf.Table left) blanks m = (m ≡ model.InTable left) × (blanks ≡ [])
@@ -43,7 +43,7 @@ ShowsLeaf text (leaf.Metadata kind waits) blanks m = (m ≡ model.InMetadata (sh
 -- fenced code or metadata with this stretch that waits, or HTML without one
 abbrev pub IsVerbatim : OpenLeaf → Option Stretch → Type 0
 IsVerbatim leaf.Closed waits = ⊥
-IsVerbatim leaf.BehindTag waits = ⊥
+IsVerbatim leaf.AfterTag waits = ⊥
 IsVerbatim (leaf.Paragraph from last) waits = ⊥
 IsVerbatim (leaf.Definition left) waits = ⊥
 IsVerbatim (leaf.Table left) waits = ⊥
@@ -55,7 +55,7 @@ IsVerbatim (leaf.Metadata kind others) waits = waits ≡ others
 -- the last line of an open paragraph is read in the text
 abbrev pub IsLastRead : List ℕ → OpenLeaf → Type 0
 IsLastRead text leaf.Closed = Unit {0}
-IsLastRead text leaf.BehindTag = Unit {0}
+IsLastRead text leaf.AfterTag = Unit {0}
 IsLastRead text (leaf.Paragraph from last) = IsRead text last
 IsLastRead text (leaf.Definition left) = Unit {0}
 IsLastRead text (leaf.Table left) = Unit {0}

@@ -1,7 +1,7 @@
 -- The open blocks of the pass, as in its model.
 use Rattle.std.specs.Prelude.{◌≡◌, ℕ, List, [], ◌∷◌, Option, Some, None, option_map, ◌==◌, if◌then◌else◌}
 use Rattle.cmark_items.specs.ItemNodes.{list_number}
-use Rattle.cmark_lines.specs.Starts.{Shows}
+use Rattle.cmark_line_rules.specs.Starts.{Shows}
 use Rattle.cmark_block_model.specs.OpenBlocks as model
 use Rattle.cmark_blocks.specs.declared.siblings.LastBlock.{LastBlock}
 use Rattle.cmark_blocks.specs.declared.siblings.LastBlock.TheVariants.{Paragraph, Other}

@@ -1,10 +1,10 @@
 -- The effect of a call of the block pass on the state of its model.
 use Rattle.std.specs.Prelude.{◌≡◌, ℕ, Bool, false, List, [], ◌∷◌, ◌++◌, length, map, Some}
 use Rattle.cmark_block_model.specs.BlockPass.{container_closed, containers_closed, paragraph_begun, paragraph_line, heading_made, leaf_begun, leaf_closed, ahead_in, begin, begin_as, leaf_fed, lazy_fed, with_drawn}
-use Rattle.cmark_leaves.specs.TextColumns.{IsRead}
-use Rattle.cmark_lines.specs.Opened.{bracket_of}
-use Rattle.cmark_lines.specs.Rests.{row_of}
-use Rattle.cmark_lines.specs.declared.line_rest.LineRest.{LineRest}
+use Rattle.cmark_leaf_nodes.specs.TextColumns.{IsRead}
+use Rattle.cmark_line_rules.specs.Opened.{bracket_of}
+use Rattle.cmark_line_rules.specs.Rests.{row_of}
+use Rattle.cmark_line_rules.specs.declared.line_rest.LineRest.{LineRest}
 use Rattle.cmark_grammar.specs.Answers.{Lookup}
 use Rattle.cmark_grammar.specs.BlockDocument.{Nil}
 use Rattle.cmark_grammar.specs.Containers.{Container}
@@ -29,7 +29,7 @@ module _ {E : Type 0} where
     pub bare : new.bare ≡ old.bare
 
   -- a line of the text comes after an open paragraph with this last line, whose touching lines begin at this byte offset
-  pub record IsBehindParagraph (pass : Pass E) (from : ℕ) (last rest : LineRest) : Type 0 where
+  pub record IsAfterParagraph (pass : Pass E) (from : ℕ) (last rest : LineRest) : Type 0 where
     pub line : IsRead pass.text.now rest
     pub is : pass.leaf ≡ leaf.Paragraph from last
     pub bare : pass.bare ≡ false
@@ -69,9 +69,9 @@ module _ {E : Type 0} (replacement : E → Lookup) where
 
   -- a task marker was drawn, whose box begins at this place, and a paragraph was begun on the line after the box
   abbrev pub BeginsTask : (is_checked : Bool) → (start : ℕ) → LineRest → Pass E → Pass E → Type 0
-  BeginsTask is_checked start behind old new =
+  BeginsTask is_checked start following old new =
       (text : List ℕ) (options : Options) (lookup : Lookup) (m : model.Pass) → Runs replacement text options lookup m old →
-      Runs replacement text options lookup (paragraph_begun text options lookup (row_of behind) (with_drawn (task_then (Some is_checked) start (begin_of (row_of behind)) Nil) m)) new
+      Runs replacement text options lookup (paragraph_begun text options lookup (row_of following) (with_drawn (task_then (Some is_checked) start (begin_of (row_of following)) Nil) m)) new
 
   -- the leaf was closed
   abbrev pub ClosesLeaf : Pass E → Pass E → Type 0

@@ -9,8 +9,8 @@ use Rattle.cmark_grammar.specs.TableRows.{count_missing, most_filled, table_head
 use Rattle.cmark_grammar.specs.Tables.{delimiter_row}
 use Rattle.cmark_grammar.specs.TableTokens.{row_tokens}
 use Rattle.cmark_items.specs.ItemNodes.{columns_of}
-use Rattle.cmark_lines.specs.Rests.{row_of}
-use Rattle.cmark_lines.specs.declared.line_rest.LineRest.{LineRest}
+use Rattle.cmark_line_rules.specs.Rests.{row_of}
+use Rattle.cmark_line_rules.specs.declared.line_rest.LineRest.{LineRest}
 use Rattle.cmark_block_model.specs.BlockPass.{ahead_in, leaf_begun}
 use Rattle.cmark_block_model.specs.Drawing.{Drawing, drawn}
 use Rattle.cmark_block_model.specs.OpenBlocks as model
@@ -23,8 +23,8 @@ abbrev pub block_interrupts : Options → (may_define : Bool) → Row → List R
 block_interrupts options may_define r ahead = table_interrupts options r ahead || (may_define && begins_definition options r)
 
 -- a line is the head of a table with `columns` columns, and that line is its delimiter row
-pub record IsHead (options : Options) (head : Row) (ahead : List Row) (columns : ℕ) (delimiter : Row) (behind : List Row) : Type 0 where
-  pub next : ahead ≡ delimiter ∷ behind
+pub record IsHead (options : Options) (head : Row) (ahead : List Row) (columns : ℕ) (delimiter : Row) (following : List Row) : Type 0 where
+  pub next : ahead ≡ delimiter ∷ following
   pub is : table_head options head ahead ≡ Some (columns_of (delimiter_row (words_of delimiter)))
   pub many : length (columns_of (delimiter_row (words_of delimiter))) ≡ columns
 
@@ -92,6 +92,6 @@ module _ {E : Type 0} (replacement : E → Lookup) where
   BeginsTable columns delimiter rest old new =
       (text : List ℕ) (options : Options) (lookup : Lookup) (m : model.Pass) → Runs replacement text options lookup m old →
       let alignments = columns_of (delimiter_row (words_of (row_of delimiter))) in
-      let behind = ahead_in text options lookup m.outer (lines_at text (row_of delimiter).line_end) in
+      let following = ahead_in text options lookup m.outer (lines_at text (row_of delimiter).line_end) in
       length alignments ≡ columns →
-      Runs replacement text options lookup (leaf_begun text options lookup (Table alignments) (suc (count_rows options columns most_filled behind)) (row_of rest) (row_of delimiter ∷ behind) m) new
+      Runs replacement text options lookup (leaf_begun text options lookup (Table alignments) (suc (count_rows options columns most_filled following)) (row_of rest) (row_of delimiter ∷ following) m) new

@@ -4,10 +4,10 @@ use Rattle.cmark_tree.specs.Forest.{Forest, size}
 use Rattle.cmark_tree.specs.Building.{Is}
 use Rattle.cmark_grammar.specs.Answers.{Lookup}
 use Rattle.cmark_grammar.specs.BlockDocument.{Reference}
-use Rattle.cmark_grammar.specs.DrawnDocument.{settled, without_definitions}
+use Rattle.cmark_block_model.specs.DrawnDocument.{settled, without_definitions}
 use Rattle.cmark_grammar.specs.Labels.{fold}
 use Rattle.cmark_grammar.specs.Options.{Options}
-use Rattle.cmark_grammar.specs.Ranges.{count_nodes}
+use Rattle.cmark_block_model.specs.Ranges.{count_nodes}
 use Rattle.cmark_grammar.specs.References.{first_with, references}
 use Rattle.cmark_grammar.specs.SpanDocuments.{footnote_labels}
 use Rattle.cmark_items.specs.declared.item.Item.{Item}

@@ -3,25 +3,25 @@
 ghost use Rattle.std.specs.Prelude.{◌≡◌, ◌<◌, ◌≤◌, ℕ, List, length, false, IfSome, not, true, ◌&&◌};
 ghost use Rattle.cmark_grammar.specs.Leaves.{underlines};
 ghost use Rattle.cmark_grammar.specs.Openings.{interrupts, is_none};
-ghost use Rattle.cmark_text_parts.specs.Shown.{shown_options};
+ghost use Rattle.cmark_values.specs.Shown.{shown_options};
 ghost use Rattle.cmark_grammar.specs.Rows.{Row};
-ghost use Rattle.cmark_leaves.specs.TextColumns.{StandInText};
-ghost use Rattle.cmark_lines.specs.Rests.{IsIn, row_of};
+ghost use Rattle.cmark_leaf_nodes.specs.TextColumns.{StandInText};
+ghost use Rattle.cmark_line_rules.specs.Rests.{IsIn, row_of};
 
 use crate::state::Pass;
-use cmark_lines::{LineRest, interrupts, underlines};
-use cmark_text_parts::{EntityLookup, Options};
+use cmark_line_rules::{LineRest, interrupts, underlines};
+use cmark_values::{EntityLookup, Options};
 
 impl<'a, E: EntityLookup> Pass<'a, E> {
     ghost use Rattle.cmark_blocks.specs.Ahead.{SeenInside, SeenInsideFirst, SeesNext, SeesNextInside, GoesOnWith};
-    ghost use Rattle.cmark_blocks.specs.KeepingContainers.{IsBehind};
+    ghost use Rattle.cmark_blocks.specs.KeepingContainers.{IsAfter};
 
     /// The rest of a line inside all open containers, if they keep it.
     fn inside(&self, line: LineRest<'a>) -> Option<LineRest<'a>>
         requires { self.now.bare ≡ false }
         ensures seen { SeenInside E.replacement self.now line.entry result }
         ensures placed { (text : List ℕ) → IsIn text line.entry → IfSome result (IsIn text) }
-        ensures behind { IfSome result (IsBehind line.entry) }
+        ensures following { IfSome result (IsAfter line.entry) }
     {
         if self.outer.is_empty() {
             return Some(line);
@@ -38,7 +38,7 @@ impl<'a, E: EntityLookup> Pass<'a, E> {
         requires { count ≤ length self.now.outer.items }
         ensures seen { SeenInsideFirst E.replacement self.now count line.entry result }
         ensures placed { (text : List ℕ) → IsIn text line.entry → IfSome result (IsIn text) }
-        ensures behind { IfSome result (IsBehind line.entry) }
+        ensures following { IfSome result (IsAfter line.entry) }
     {
         let mut at = 0;
         let mut rest = line;
@@ -50,7 +50,7 @@ impl<'a, E: EntityLookup> Pass<'a, E> {
     }
 
     /// The line after this one, inside the `count` outermost open containers, if there is one and they keep it.
-    pub(crate) fn line_behind(&self, count: usize, last: LineRest<'a>) -> Option<LineRest<'a>>
+    pub(crate) fn line_after(&self, count: usize, last: LineRest<'a>) -> Option<LineRest<'a>>
         requires few { count ≤ length self.now.outer.items }
         requires within { IsIn self.now.text.now last }
         ensures next { SeesNextInside E.replacement self.now count last.entry result }

@@ -5,23 +5,23 @@ ghost use Rattle.cmark_tree.specs.Building.{IsPlaced};
 ghost use Rattle.cmark_items.specs.Tables.{defined};
 ghost use Rattle.cmark_grammar.specs.Leaves as grammar;
 ghost use Rattle.cmark_grammar.specs.Leaves.{code_continuation};
-ghost use Rattle.cmark_lines.specs.Rests.{row_of};
+ghost use Rattle.cmark_line_rules.specs.Rests.{row_of};
 ghost use Rattle.cmark_blocks.specs.IndentedLines.{DrawsLines};
 ghost use Rattle.cmark_grammar.specs.Openings.{IndentedCode, FencedCode};
 ghost use Rattle.cmark_grammar.specs.Rows.{words_of};
 ghost use Rattle.cmark_grammar.specs.Tokens.{resolved};
-ghost use Rattle.cmark_lines.specs.Opened.{InfoStands};
-ghost use Rattle.cmark_text_parts.specs.Shown.{text_bytes};
-ghost use Rattle.cmark_scan_blocks.specs.LeafLines.{shown_fence};
+ghost use Rattle.cmark_line_rules.specs.Opened.{InfoStands};
+ghost use Rattle.cmark_values.specs.Shown.{text_bytes};
+ghost use Rattle.cmark_scan_lines.specs.LeafLines.{shown_fence};
 ghost use Rattle.cmark_block_model.specs.BlockPass.{is_some};
 
 use crate::state::{OpenLeaf, Pass};
 use cmark_builder::Builder;
 use cmark_items::ItemBody;
-use cmark_leaves::{Stretch, draw_code_line, draw_stretch};
-use cmark_lines::{CodeFence, CodeOrHtml, Continuation, LineRest};
-use cmark_scan_parts::unescape;
-use cmark_text_parts::{CowStr, EntityLookup};
+use cmark_leaf_nodes::{Stretch, draw_code_line, draw_stretch};
+use cmark_line_rules::{CodeFence, CodeOrHtml, Continuation, LineRest};
+use cmark_scan_bytes::unescape;
+use cmark_values::{CowStr, EntityLookup};
 use std::alloc::AllocError;
 
 /// Whether there is a line.
@@ -56,7 +56,7 @@ fn draw_blank_lines(
 impl<'a, E: EntityLookup> Pass<'a, E> {
     ghost use Rattle.cmark_blocks.specs.declared.state.OpenLeaf.TheVariants as leaf;
     ghost use Rattle.cmark_blocks.specs.Runs.{IsGood};
-    ghost use Rattle.cmark_leaves.specs.TextColumns.{IsRead};
+    ghost use Rattle.cmark_leaf_nodes.specs.TextColumns.{IsRead};
     ghost use Rattle.cmark_blocks.specs.Steps.{FeedsLeaf, BeginsLeaf, ClosesLeaf};
 
     /// Begins indented code on a line, after four columns of indent (CommonMark 4.4).

@@ -3,23 +3,23 @@
 ghost use Rattle.std.specs.Prelude.{◌≡◌, Bool, List, Option, ℕ, OnOk, unwrap_or, option_map, length, ◌-◌, ◌<◌, ◌&&◌, ◌==◌, suc, ◌≤◌, IfOk, IfSome};
 ghost use Rattle.cmark_grammar.specs.Containers as grammar;
 ghost use Rattle.cmark_items.specs.ItemNodes.{list_number};
-ghost use Rattle.cmark_text_parts.specs.Shown.{shown_block_quote_kind, shown_options};
-ghost use Rattle.cmark_lines.specs.Starts.{Shows, inside_of, Enters, HasMarker};
+ghost use Rattle.cmark_values.specs.Shown.{shown_block_quote_kind, shown_options};
+ghost use Rattle.cmark_line_rules.specs.Starts.{Shows, inside_of, Enters, HasMarker};
 ghost use Rattle.cmark_blocks.specs.Shown.{shown_siblings, ShowsContainer};
-ghost use Rattle.cmark_block_model.specs.BlockPass.{inside_of as stepped_inside, block_quote_begun, item_begun_in, definition_begun_in, behind_container};
+ghost use Rattle.cmark_block_model.specs.BlockPass.{inside_of as stepped_inside, block_quote_begun, item_begun_in, definition_begun_in, after_container};
 ghost use Rattle.cmark_block_model.specs.OpenBlocks as model;
-ghost use Rattle.cmark_lines.specs.Rests.{IsIn, row_of};
+ghost use Rattle.cmark_line_rules.specs.Rests.{IsIn, row_of};
 ghost use Rattle.cmark_blocks.specs.Entered.{HasNumber, BeginsContainer, DefinesAs};
-ghost use Rattle.cmark_lines.specs.Definitions.{EntersDefinition, width_of};
+ghost use Rattle.cmark_line_rules.specs.Definitions.{EntersDefinition, width_of};
 
 use crate::siblings::Siblings;
 use crate::state::{OpenContainer, OpenLeaf, Pass};
 use bitflags::Flags;
 use cmark_items::ItemBody;
-use cmark_lines::{
+use cmark_line_rules::{
     Container, ContainerStart, ItemStart, LineRest, definition_start, reads_definition_lists,
 };
-use cmark_text_parts::{BlockQuoteKind, EntityLookup, Options};
+use cmark_values::{BlockQuoteKind, EntityLookup, Options};
 use std::alloc::AllocError;
 
 /// Whether alerts are read.
@@ -39,9 +39,9 @@ fn reads_tasklists(options: Options) -> bool
 impl<'a, E: EntityLookup> Pass<'a, E> {
     ghost use Rattle.cmark_blocks.specs.Runs.{IsGood};
     ghost use Rattle.cmark_blocks.specs.Steps.{Steps, ClosesLast, ClosesAll, BeginsTask};
-    ghost use Rattle.cmark_blocks.specs.KeepingContainers.{IsBehind, KeepsOf};
+    ghost use Rattle.cmark_blocks.specs.KeepingContainers.{IsAfter, KeepsOf};
     ghost use Rattle.cmark_blocks.specs.declared.state.OpenLeaf.TheVariants as leaf;
-    ghost use Rattle.cmark_leaves.specs.TextColumns.{IsRead};
+    ghost use Rattle.cmark_leaf_nodes.specs.TextColumns.{IsRead};
 
     /// Begins a container on a line, with no leaf open. Returns the line after its marker, and whether the container is an item. Returns
     /// `None` if nothing of the line is left to begin: it is an alert's tag, or a task marker with its paragraph.
@@ -69,7 +69,7 @@ impl<'a, E: EntityLookup> Pass<'a, E> {
                 let alert = inside.alert_kind(reads_alerts(self.options));
                 self.begin_block_quote(alert, rest.words_begin())?;
                 if alert.is_some() {
-                    self.leaf = OpenLeaf::BehindTag;
+                    self.leaf = OpenLeaf::AfterTag;
                     return Ok(None);
                 }
                 Ok(Some((inside, false)))
@@ -77,8 +77,8 @@ impl<'a, E: EntityLookup> Pass<'a, E> {
             ContainerStart::Item(item, inside) => {
                 let task = inside.task_marker(reads_tasklists(self.options));
                 self.begin_item(item, rest.begin())?;
-                if let Some((is_checked, behind)) = task {
-                    self.begin_task(is_checked, inside.begin(), behind)?;
+                if let Some((is_checked, following)) = task {
+                    self.begin_task(is_checked, inside.begin(), following)?;
                     return Ok(None);
                 }
                 Ok(Some((inside, true)))
@@ -95,19 +95,19 @@ impl<'a, E: EntityLookup> Pass<'a, E> {
         &mut self,
         is_checked: bool,
         start: usize,
-        behind: LineRest<'a>,
+        following: LineRest<'a>,
     ) -> Result<(), AllocError>
         requires good { IsGood self.old }
-        requires line { IsRead self.old.text.now behind }
+        requires line { IsRead self.old.text.now following }
         requires closed { self.old.leaf ≡ leaf.Closed }
         ensures good { IsGood self.new }
-        ensures runs { OnOk result (BeginsTask E.replacement is_checked start behind.entry self.old self.new) }
+        ensures runs { OnOk result (BeginsTask E.replacement is_checked start following.entry self.old self.new) }
         ensures text { self.new.text ≡ self.old.text }
         ensures bare { self.new.bare ≡ self.old.bare }
     {
         let body = ItemBody::TaskListMarker(is_checked);
-        self.builder.add(start, behind.begin(), body)?;
-        self.begin_paragraph(behind)
+        self.builder.add(start, following.begin(), body)?;
+        self.begin_paragraph(following)
     }
 
     /// The width in columns of the definition that a line begins, and the line after its marker. The definition begins after a paragraph,
@@ -196,7 +196,7 @@ impl<'a, E: EntityLookup> Pass<'a, E> {
     }
 
     /// Whether this container is an item whose first line was blank and was the last line.
-    fn is_bare(&self, index: usize) -> bool
+    pub(crate) fn is_bare(&self, index: usize) -> bool
         requires { index < length self.now.outer.items }
         ensures { result ≡ (self.now.bare && (suc index == length self.now.outer.items)) }
     {
@@ -209,7 +209,7 @@ impl<'a, E: EntityLookup> Pass<'a, E> {
         ensures kept { KeepsOf E.replacement self.now line.entry result.0 result.1 }
         ensures few { result.0 ≤ length self.now.outer.items }
         ensures placed { (text : List ℕ) → IsIn text line.entry → IsIn text result.1 }
-        ensures behind { IsBehind line.entry result.1 }
+        ensures following { IsAfter line.entry result.1 }
     {
         let mut kept = 0;
         let mut rest = line;
@@ -237,7 +237,7 @@ impl<'a, E: EntityLookup> Pass<'a, E> {
         self.close_list();
         if let Some(open) = self.outer.pop() {
             self.builder.close(self.line_end);
-            self.inner = open.siblings_behind(self.inner, self.line_end);
+            self.inner = open.siblings_after(self.inner, self.line_end);
         }
     }
 
@@ -258,8 +258,8 @@ impl<'a, E: EntityLookup> Pass<'a, E> {
 
 impl OpenContainer {
     /// The siblings with this container as the last one; it ended at this byte offset with these blocks in it.
-    fn siblings_behind(self, inside: Siblings, end: usize) -> Siblings
-        ensures { (m : model.OpenContainer) → ShowsContainer self m → shown_siblings result ≡ behind_container m.container end (shown_siblings inside) m.around }
+    fn siblings_after(self, inside: Siblings, end: usize) -> Siblings
+        ensures { (m : model.OpenContainer) → ShowsContainer self m → shown_siblings result ≡ after_container m.container end (shown_siblings inside) m.around }
     {
         match self.container {
             Container::BlockQuote => self.around,
@@ -268,7 +268,7 @@ impl OpenContainer {
                 ..self.around
             },
             Container::Item { .. } | Container::Definition { .. } => {
-                self.around.behind_item(inside, end)
+                self.around.after_item(inside, end)
             }
         }
     }

@@ -3,14 +3,14 @@
 ghost use Rattle.std.specs.Prelude.{◌≡◌, ◌≤◌, false, drop, length, OnOk};
 ghost use Rattle.cmark_grammar.specs.LinkDefinitions.{line_ends};
 ghost use Rattle.cmark_blocks.specs.Brackets.{lacks_colon, begins_none};
-ghost use Rattle.cmark_definitions.specs.Shown.{written};
-ghost use Rattle.cmark_lines.specs.Rests.{IsIn};
+ghost use Rattle.cmark_link_definitions.specs.Shown.{written};
+ghost use Rattle.cmark_line_rules.specs.Rests.{IsIn};
 
 use crate::gathered::Gathered;
 use crate::state::{OpenLeaf, Pass};
-use cmark_definitions::{Definition, link_definition, scan_definition};
-use cmark_lines::LineRest;
-use cmark_text_parts::EntityLookup;
+use cmark_line_rules::LineRest;
+use cmark_link_definitions::{Definition, link_definition, scan_definition};
+use cmark_values::EntityLookup;
 use std::alloc::AllocError;
 use std::mem;
 use std::ops::Range;
@@ -46,7 +46,7 @@ fn lacks_colon(label: &[u8]) -> bool
 }
 
 /// The number of line endings after this byte offset of a text.
-fn line_ends_behind(text: &str, place: usize) -> usize
+fn line_ends_after(text: &str, place: usize) -> usize
     requires { place ≤ length text.now }
     ensures { result ≡ line_ends (drop place text.now) }
 {
@@ -60,13 +60,13 @@ impl<'a, E: EntityLookup> Pass<'a, E> {
     ghost use Rattle.std.specs.Prelude.{false};
     ghost use Rattle.cmark_blocks.specs.declared.state.OpenLeaf.TheVariants as leaf;
     ghost use Rattle.cmark_blocks.specs.Runs.{IsGood};
-    ghost use Rattle.cmark_leaves.specs.TextColumns.{IsRead};
+    ghost use Rattle.cmark_leaf_nodes.specs.TextColumns.{IsRead};
     ghost use Rattle.cmark_blocks.specs.Steps.{StepsOver, BeginsBracket, FeedsLeaf};
     ghost use Rattle.cmark_blocks.specs.Gathered.{IsGathered, Gathers, Decides};
     ghost use Rattle.cmark_blocks.specs.LinkDefinitions.{definition_kept, definition_begun, StopsAt};
 
     /// The end of the line that is `more` lines after this one, in the paragraph that this one may begin.
-    fn content_end_behind(&self, rest: LineRest<'a>, more: usize) -> usize
+    fn content_end_after(&self, rest: LineRest<'a>, more: usize) -> usize
         requires bare { self.now.bare ≡ false }
         requires within { IsIn self.now.text.now rest }
         ensures { StopsAt E.replacement self.now rest.entry more result }
@@ -143,9 +143,9 @@ impl<'a, E: EntityLookup> Pass<'a, E> {
         let Some(definition) = scan_definition(paragraph) else {
             return self.begin_text(rest);
         };
-        let behind = line_ends_behind(paragraph, definition.end);
-        let more = gathered.lines.saturating_sub(behind);
-        let end = self.content_end_behind(rest, more);
+        let following = line_ends_after(paragraph, definition.end);
+        let more = gathered.lines.saturating_sub(following);
+        let end = self.content_end_after(rest, more);
         self.begin_definition(&definition, rest.words_begin()..end, more)
     }
 

@@ -1,15 +1,15 @@
 //! Feeding a line to the block pass.
 
 ghost use Rattle.std.specs.Prelude.{◌≡◌, ◌≤◌, ◌<◌, OnOk, false, length};
-ghost use Rattle.cmark_lines.specs.Rests.{row_of};
+ghost use Rattle.cmark_line_rules.specs.Rests.{row_of};
 ghost use Rattle.cmark_grammar.specs.Containers as grammar;
 ghost use Rattle.cmark_grammar.specs.DefinitionLists.{is_definition};
-ghost use Rattle.cmark_lines.specs.Starts.{Shows};
+ghost use Rattle.cmark_line_rules.specs.Starts.{Shows};
 ghost use Rattle.cmark_blocks.specs.LineByLine.{TakesLazy};
 
 use crate::state::{OpenLeaf, Pass};
-use cmark_lines::{Container, LineRest, interrupts};
-use cmark_text_parts::EntityLookup;
+use cmark_line_rules::{Container, LineRest, interrupts};
+use cmark_values::EntityLookup;
 use std::alloc::AllocError;
 
 /// Whether a lazy line may follow the leaf: a paragraph, a link reference definition, after which a paragraph may begin (CommonMark 4.7 and
@@ -18,7 +18,7 @@ fn takes_lazy(leaf: OpenLeaf<'_>) -> bool
     ensures { TakesLazy leaf.entry result }
 {
     match leaf {
-        OpenLeaf::Paragraph(_, _) | OpenLeaf::Definition(_) | OpenLeaf::BehindTag => true,
+        OpenLeaf::Paragraph(_, _) | OpenLeaf::Definition(_) | OpenLeaf::AfterTag => true,
         OpenLeaf::Closed
         | OpenLeaf::Table(_)
         | OpenLeaf::Indented(_, _)
@@ -38,7 +38,7 @@ fn is_definition(container: Container) -> bool
 impl<'a, E: EntityLookup> Pass<'a, E> {
     ghost use Rattle.cmark_blocks.specs.declared.state.OpenLeaf.TheVariants as leaf;
     ghost use Rattle.cmark_blocks.specs.Runs.{IsGood};
-    ghost use Rattle.cmark_leaves.specs.TextColumns.{IsRead};
+    ghost use Rattle.cmark_leaf_nodes.specs.TextColumns.{IsRead};
     ghost use Rattle.cmark_blocks.specs.Steps.{FeedsLeaf, FeedsLazily};
     ghost use Rattle.cmark_blocks.specs.LineByLine.{IsLazy, FeedsRest, Feeds};
 
@@ -85,7 +85,7 @@ impl<'a, E: EntityLookup> Pass<'a, E> {
     {
         match self.leaf {
             OpenLeaf::Closed => self.begin(rest),
-            OpenLeaf::BehindTag => self.begin_anew(rest),
+            OpenLeaf::AfterTag => self.begin_anew(rest),
             OpenLeaf::Paragraph(from, last) => self.feed_paragraph(from, last, rest),
             OpenLeaf::Definition(left) => self.feed_definition(left, rest),
             OpenLeaf::Table(left) => self.feed_table(left, rest),
@@ -109,7 +109,7 @@ impl<'a, E: EntityLookup> Pass<'a, E> {
     {
         match self.leaf {
             OpenLeaf::Paragraph(from, last) => self.add_to_paragraph(from, last, rest),
-            OpenLeaf::Definition(_) | OpenLeaf::BehindTag => {
+            OpenLeaf::Definition(_) | OpenLeaf::AfterTag => {
                 self.close_leaf()?;
                 self.begin_paragraph(rest)
             }
@@ -123,7 +123,7 @@ impl<'a, E: EntityLookup> Pass<'a, E> {
     }
 
     /// Whether this line, which only the `kept` outermost containers keep, continues the open leaf as a lazy line (CommonMark 5.1).
-    fn is_lazy(&self, kept: usize, rest: LineRest<'a>) -> bool
+    pub(crate) fn is_lazy(&self, kept: usize, rest: LineRest<'a>) -> bool
         requires line { IsRead self.now.text.now rest }
         requires few { kept < length self.now.outer.items }
         ensures { IsLazy E.replacement self.now kept rest.entry result }

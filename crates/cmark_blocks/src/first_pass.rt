@@ -1,14 +1,14 @@
 //! The block pass over a whole text.
 
 ghost use Rattle.std.specs.Prelude.{◌≡◌, OnOk, IfOk};
-ghost use Rattle.cmark_text_parts.specs.Shown.{shown_options};
+ghost use Rattle.cmark_values.specs.Shown.{shown_options};
 ghost use Rattle.cmark_blocks.specs.FirstPass.{Leaves};
 
 use crate::state::Pass;
 use cmark_items::{Allocations, Item};
-use cmark_lines::LineRest;
-use cmark_text_parts::{EntityLookup, Options};
+use cmark_line_rules::LineRest;
 use cmark_tree::Tree;
+use cmark_values::{EntityLookup, Options};
 use std::alloc::{AllocError, Global};
 
 /// The result of the block pass over a text.

@@ -4,18 +4,18 @@ ghost use Rattle.std.specs.Prelude.{◌≡◌, length, OnOk, IfOk};
 ghost use Rattle.cmark_grammar.specs.Labels.{normal_form};
 ghost use Rattle.cmark_grammar.specs.Rows.{words_of};
 ghost use Rattle.cmark_block_model.specs.BlockPass.{container_begun};
-ghost use Rattle.cmark_lines.specs.Rests.{row_of};
-ghost use Rattle.cmark_lines.specs.Starts.{shown_footnote};
-ghost use Rattle.cmark_scan_parts.specs.Footnotes.{marked, IsClosed};
+ghost use Rattle.cmark_line_rules.specs.Rests.{row_of};
+ghost use Rattle.cmark_line_rules.specs.Starts.{shown_footnote};
+ghost use Rattle.cmark_scan_bytes.specs.Footnotes.{marked, IsClosed};
 ghost use Rattle.cmark_blocks.specs.Footnotes.{KeepsText, Notes};
-ghost use Rattle.cmark_leaves.specs.TextColumns.{IsRead};
+ghost use Rattle.cmark_leaf_nodes.specs.TextColumns.{IsRead};
 
 use crate::gathered::words_in;
 use crate::state::Pass;
 use cmark_items::{Allocations, CowIndex, ItemBody};
-use cmark_lines::{Container, FootnoteStart, LineRest};
+use cmark_line_rules::{Container, FootnoteStart, LineRest};
 use cmark_references::FootnoteDef;
-use cmark_text_parts::{CowStr, EntityLookup, FootnoteLabel};
+use cmark_values::{CowStr, EntityLookup, FootnoteLabel};
 use std::alloc::{AllocError, Global};
 
 /// The label, of `size` bytes, of the footnote definition that a line of this text begins.

@@ -4,13 +4,13 @@ ghost use Rattle.std.specs.Prelude.{◌≡◌, ◌≤◌, true, length, string_b
 ghost use Rattle.cmark_grammar.specs.Columns.{bytes_of};
 ghost use Rattle.cmark_grammar.specs.LinkDefinitions.{line_end_of};
 ghost use Rattle.cmark_grammar.specs.Rows.{words_of};
-ghost use Rattle.cmark_lines.specs.Rests.{row_of};
-ghost use Rattle.cmark_leaves.specs.TextColumns.{IsRead};
+ghost use Rattle.cmark_line_rules.specs.Rests.{row_of};
+ghost use Rattle.cmark_leaf_nodes.specs.TextColumns.{IsRead};
 
 use crate::state::Pass;
-use cmark_definitions::is_settled;
-use cmark_lines::LineRest;
-use cmark_text_parts::EntityLookup;
+use cmark_line_rules::LineRest;
+use cmark_link_definitions::is_settled;
+use cmark_values::EntityLookup;
 use std::alloc::AllocError;
 
 /// The beginning of a paragraph's text: the first line after its indent, and some more lines after the prefixes of the open containers,
@@ -53,7 +53,7 @@ fn line_end_of(rest: LineRest<'_>) -> &'static str
 
 impl<'a, E: EntityLookup> Pass<'a, E> {
     ghost use Rattle.std.specs.Prelude.{false};
-    ghost use Rattle.cmark_leaves.specs.TextColumns.{IsRead};
+    ghost use Rattle.cmark_leaf_nodes.specs.TextColumns.{IsRead};
     ghost use Rattle.cmark_blocks.specs.Gathered.{IsGathered, Gathers, GathersMore, Decides};
 
     /// The first line, in the string `room`, which is reused.

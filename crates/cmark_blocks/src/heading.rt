@@ -1,22 +1,22 @@
 //! Headings, and the underlines of paragraphs (CommonMark 4.2 and 4.3).
 
 ghost use Rattle.std.specs.Prelude.{◌≡◌, List, ℕ, Some, OnOk, IfOk, Bool};
-ghost use Rattle.cmark_text_parts.specs.Shown.{shown_options, level_number, text_bytes};
+ghost use Rattle.cmark_values.specs.Shown.{shown_options, level_number, text_bytes};
 ghost use Rattle.cmark_grammar.specs.Attributes.{attributes_of};
 ghost use Rattle.cmark_grammar.specs.BlockDocument.{Heading};
 ghost use Rattle.cmark_block_model.specs.Drawing.{Drawing, unbraced};
 ghost use Rattle.cmark_builder.specs.Drawn.{Draws};
 ghost use Rattle.cmark_items.specs.ItemNodes.{shape, kind_of};
 ghost use Rattle.cmark_items.specs.Tables.{defined};
-ghost use Rattle.cmark_leaves.specs.Contents.{AreRead, content_columns as setext_columns};
-ghost use Rattle.cmark_leaves.specs.TextColumns.{IsRead};
+ghost use Rattle.cmark_leaf_nodes.specs.Contents.{AreRead, content_columns as setext_columns};
+ghost use Rattle.cmark_leaf_nodes.specs.TextColumns.{IsRead};
 ghost use Rattle.cmark_blocks.specs.Setext.{FindsIf};
 ghost use Rattle.cmark_tree.specs.Building.{IsPlaced};
 ghost use Rattle.cmark_grammar.specs.SetextAttributes.{setext_attributes};
-ghost use Rattle.cmark_lines.specs.declared.line_rest.LineRest.{LineRest};
+ghost use Rattle.cmark_line_rules.specs.declared.line_rest.LineRest.{LineRest};
 ghost use Rattle.cmark_grammar.specs.Columns.{bytes_of};
 ghost use Rattle.cmark_grammar.specs.Tokens.{attribute_columns, content_columns};
-ghost use Rattle.cmark_lines.specs.Rests.{row_of};
+ghost use Rattle.cmark_line_rules.specs.Rests.{row_of};
 ghost use Rattle.cmark_grammar.specs.Leaves.{run};
 ghost use Rattle.cmark_grammar.specs.Rows.{words_of};
 ghost use Rattle.cmark_grammar.specs.Openings.{AtxHeading};
@@ -25,12 +25,12 @@ use crate::state::{OpenLeaf, Pass};
 use bitflags::Flags;
 use cmark_builder::Builder;
 use cmark_items::ItemBody;
-use cmark_leaves::{
+use cmark_leaf_nodes::{
     SetextAttributes, cut_lines, draw_heading, draw_last_lines, find_attributes,
     find_setext_attributes,
 };
-use cmark_lines::LineRest;
-use cmark_text_parts::{CowStr, EntityLookup, HeadingLevel, Options};
+use cmark_line_rules::LineRest;
+use cmark_values::{CowStr, EntityLookup, HeadingLevel, Options};
 use std::alloc::{AllocError, Global};
 
 /// Whether attributes of headings are read.

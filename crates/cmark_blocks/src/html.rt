@@ -2,19 +2,19 @@
 
 ghost use Rattle.std.specs.Prelude.{◌≡◌, ℕ, OnOk, false};
 ghost use Rattle.cmark_grammar.specs.Openings.{HtmlBlock};
-ghost use Rattle.cmark_scan_blocks.specs.HtmlLines.{kind_number};
+ghost use Rattle.cmark_scan_lines.specs.HtmlLines.{kind_number};
 
 use crate::state::{OpenLeaf, Pass};
 use cmark_items::ItemBody;
-use cmark_leaves::draw_html_line;
-use cmark_lines::{CodeOrHtml, Continuation, HtmlKind, LineRest, ends_at_once};
-use cmark_text_parts::EntityLookup;
+use cmark_leaf_nodes::draw_html_line;
+use cmark_line_rules::{CodeOrHtml, Continuation, HtmlKind, LineRest, ends_at_once};
+use cmark_values::EntityLookup;
 use std::alloc::AllocError;
 
 impl<'a, E: EntityLookup> Pass<'a, E> {
     ghost use Rattle.cmark_blocks.specs.declared.state.OpenLeaf.TheVariants as leaf;
     ghost use Rattle.cmark_blocks.specs.Runs.{IsGood};
-    ghost use Rattle.cmark_leaves.specs.TextColumns.{IsRead};
+    ghost use Rattle.cmark_leaf_nodes.specs.TextColumns.{IsRead};
     ghost use Rattle.cmark_blocks.specs.Steps.{FeedsLeaf, BeginsLeaf};
 
     /// Begins HTML on a line, which may also end it (CommonMark 4.6).

@@ -8,11 +8,11 @@ ghost use Rattle.cmark_grammar.specs.Options.{Options};
 ghost use Rattle.cmark_grammar.specs.References.{references};
 ghost use Rattle.cmark_grammar.specs.SpanDocuments.{footnote_labels, segments};
 
-pub use cmark_grammar::block_laws::{nodes_are_few, tables_are_rectangular};
+pub use cmark_block_model::block_laws::{nodes_are_few, tables_are_rectangular};
 
-/// A text has one document of blocks. Two documents that it derives have the same nodes, of the same kinds with the same data and ranges
-/// (`nodes`). They have the same events and leaves in order (`tokens`), and the same tables of link reference definitions and of footnotes
-/// (`references`, `footnotes`).
+/// A text has one document of blocks. Two documents that it derives have equal nodes, of equal kinds with equal data and ranges (`nodes`).
+/// They have equal events and leaves in order (`tokens`), and equal tables of link reference definitions and of footnotes (`references`,
+/// `footnotes`).
 pub fn one_blocks()
     ensures nodes { (text : List ℕ) (options : Options) (lookup : Lookup) (first second : BlockDocument)
         → Derives text options lookup first → Derives text options lookup second → first ≡ second }

@@ -3,8 +3,8 @@
 ghost use Rattle.std.specs.Prelude.{◌≡◌, OnOk};
 
 use crate::state::{OpenLeaf, Pass};
-use cmark_leaves::{Stretch, draw_stretch};
-use cmark_text_parts::EntityLookup;
+use cmark_leaf_nodes::{Stretch, draw_stretch};
+use cmark_values::EntityLookup;
 use std::alloc::AllocError;
 
 impl<'a, E: EntityLookup> Pass<'a, E> {
@@ -40,7 +40,7 @@ impl<'a, E: EntityLookup> Pass<'a, E> {
         match self.leaf {
             OpenLeaf::Closed => Ok(()),
             OpenLeaf::Paragraph(from, last) => self.close_paragraph(from, last),
-            OpenLeaf::Definition(_) | OpenLeaf::BehindTag | OpenLeaf::Table(_) => {
+            OpenLeaf::Definition(_) | OpenLeaf::AfterTag | OpenLeaf::Table(_) => {
                 self.leaf = OpenLeaf::Closed;
                 Ok(())
             }

@@ -5,6 +5,7 @@
 mod ahead;
 mod code;
 mod containers;
+mod cuts;
 mod definition;
 mod feed;
 mod first_pass;
@@ -25,7 +26,8 @@ mod state;
 mod table;
 mod thematic_break;
 
-pub use cmark_finds::{LoopInstruction, iterate_special_bytes, special_bytes};
+pub use cmark_span_scan::{LoopInstruction, iterate_special_bytes, special_bytes};
+pub use cuts::last_cut;
 pub use first_pass::{FirstPass, run_first_pass};
 pub use prefixes::{scan_containers, skip_container_prefixes};
 pub use rest::run_first_pass_from;

@@ -1,20 +1,20 @@
 //! The blocks that a line begins: containers, and then a leaf (CommonMark 3 to 5).
 
 ghost use Rattle.std.specs.Prelude.{true, ◌≡◌, ◌<◌, false, length, OnOk, IfOk, IfSome};
-ghost use Rattle.cmark_text_parts.specs.Shown.{shown_options};
-ghost use Rattle.cmark_lines.specs.Opened.{InfoIsIn};
-ghost use Rattle.cmark_lines.specs.Rests.{row_of};
+ghost use Rattle.cmark_values.specs.Shown.{shown_options};
+ghost use Rattle.cmark_line_rules.specs.Opened.{InfoIsIn};
+ghost use Rattle.cmark_line_rules.specs.Rests.{row_of};
 ghost use Rattle.cmark_blocks.specs.Entered.{OpensAs, IsNoContainer};
 
 use crate::state::Pass;
-use cmark_lines::{LineRest, Opening, begins_with_label, begins_with_text, what_opens};
-use cmark_text_parts::EntityLookup;
+use cmark_line_rules::{LineRest, Opening, begins_with_label, begins_with_text, what_opens};
+use cmark_values::EntityLookup;
 use std::alloc::AllocError;
 
 impl<'a, E: EntityLookup> Pass<'a, E> {
     ghost use Rattle.cmark_blocks.specs.declared.state.OpenLeaf.TheVariants as leaf;
     ghost use Rattle.cmark_blocks.specs.Runs.{IsGood};
-    ghost use Rattle.cmark_leaves.specs.TextColumns.{IsRead};
+    ghost use Rattle.cmark_leaf_nodes.specs.TextColumns.{IsRead};
     ghost use Rattle.cmark_blocks.specs.Steps.{Steps, Begins, BeginsAnew};
     ghost use Rattle.cmark_blocks.specs.Entered.{BeginsAs, BeginsFirst};
 

@@ -3,7 +3,7 @@
 ghost use Rattle.std.specs.Prelude.{◌≡◌, not, OnOk, unwrap_or, option_map};
 ghost use Rattle.cmark_items.specs.ItemNodes.{is_tight, list_number, shape, Element};
 ghost use Rattle.cmark_grammar.specs.Derivation.{list_kind};
-ghost use Rattle.cmark_block_model.specs.BlockPass.{title_released, ended, block_begun, list_begun, item_begun, title_made, definition_behind};
+ghost use Rattle.cmark_block_model.specs.BlockPass.{title_released, ended, block_begun, list_begun, item_begun, title_made, definition_after};
 ghost use Rattle.cmark_blocks.specs.Titles.{text_block_begun};
 ghost use Rattle.cmark_blocks.specs.Shown.{shown_list};
 
@@ -11,8 +11,8 @@ use crate::siblings::{DEFINITION_DELIMITER, OpenList, Title};
 use crate::state::Pass;
 use bitflags::Flags;
 use cmark_items::{ItemBody, ListFlags};
-use cmark_lines::ItemStart;
-use cmark_text_parts::EntityLookup;
+use cmark_line_rules::ItemStart;
+use cmark_values::EntityLookup;
 use std::alloc::AllocError;
 
 /// The flags of a list whose end is known.
@@ -81,7 +81,7 @@ impl<'a, E: EntityLookup> Pass<'a, E> {
         ensures others { LeavesTheRest self.old self.new }
     {
         if self.inner.has_list() {
-            self.begin_block_behind_list();
+            self.begin_block_after_list();
             return;
         }
         self.inner.add_block();
@@ -89,7 +89,7 @@ impl<'a, E: EntityLookup> Pass<'a, E> {
 
     /// Closes the open list, if any, and begins a block that is not an item.
     #[inline(never)]
-    fn begin_block_behind_list(&mut self)
+    fn begin_block_after_list(&mut self)
         requires { IsGood self.old }
         ensures good { IsGood self.new }
         ensures runs { Steps E.replacement self.old self.new block_begun }
@@ -108,7 +108,7 @@ impl<'a, E: EntityLookup> Pass<'a, E> {
         ensures others { LeavesTheRest self.old self.new }
     {
         if self.inner.has_list() {
-            self.begin_text_behind_list();
+            self.begin_text_after_list();
             return;
         }
         self.inner.add_paragraph();
@@ -116,7 +116,7 @@ impl<'a, E: EntityLookup> Pass<'a, E> {
 
     /// Begins a paragraph, which may be a title: an open definition list stays open, and any other list is closed.
     #[inline(never)]
-    fn begin_text_behind_list(&mut self)
+    fn begin_text_after_list(&mut self)
         requires { IsGood self.old }
         ensures good { IsGood self.new }
         ensures runs { Steps E.replacement self.old self.new text_block_begun }
@@ -160,7 +160,7 @@ impl<'a, E: EntityLookup> Pass<'a, E> {
         Ok(())
     }
 
-    /// Continues the open list with this item, if it is of the same kind; else begins a list at this byte offset.
+    /// Continues the open list with this item, if it is of the list's kind; else begins a list at this byte offset.
     pub(crate) fn join_list(&mut self, item: ItemStart, start: usize) -> Result<(), AllocError>
         requires good { IsGood self.old }
         requires number { list_number item.delimiter (unwrap_or item.number 0) ≡ item.number }
@@ -191,12 +191,12 @@ impl<'a, E: EntityLookup> Pass<'a, E> {
     {
         if title.list.is_some() {
             self.builder.title_last();
-            self.inner = self.inner.behind_title(title, start);
+            self.inner = self.inner.after_title(title, start);
             return Ok(());
         }
         let around = ItemBody::DefinitionList(list_flags(true));
         self.builder.enclose_title(around)?;
-        self.inner = self.inner.behind_title(title, start);
+        self.inner = self.inner.after_title(title, start);
         Ok(())
     }
 
@@ -204,7 +204,7 @@ impl<'a, E: EntityLookup> Pass<'a, E> {
     pub(crate) fn join_definitions(&mut self, width: usize, start: usize) -> Result<(), AllocError>
         requires { IsGood self.old }
         ensures good { IsGood self.new }
-        ensures runs { OnOk result (Steps E.replacement self.old self.new (λ p. definition_behind p.inner.title start p)) }
+        ensures runs { OnOk result (Steps E.replacement self.old self.new (λ p. definition_after p.inner.title start p)) }
         ensures text { self.new.text ≡ self.old.text }
         ensures leaf { self.new.leaf ≡ self.old.leaf }
         ensures bare { self.new.bare ≡ self.old.bare }

@@ -2,14 +2,14 @@
 
 ghost use Rattle.std.specs.Prelude.{◌≡◌, ℕ, OnOk, false, option_map};
 ghost use Rattle.cmark_grammar.specs.Openings.{MetadataBlock};
-ghost use Rattle.cmark_lines.specs.Rests.{IsIn};
-ghost use Rattle.cmark_text_parts.specs.Shown.{shown_metadata_block_kind};
+ghost use Rattle.cmark_line_rules.specs.Rests.{IsIn};
+ghost use Rattle.cmark_values.specs.Shown.{shown_metadata_block_kind};
 
 use crate::state::{OpenLeaf, Pass};
 use cmark_items::ItemBody;
-use cmark_leaves::{Stretch, draw_code_line, draw_stretch};
-use cmark_lines::{LineRest, ends_metadata, metadata_kind};
-use cmark_text_parts::{EntityLookup, MetadataBlockKind};
+use cmark_leaf_nodes::{Stretch, draw_code_line, draw_stretch};
+use cmark_line_rules::{LineRest, ends_metadata, metadata_kind};
+use cmark_values::{EntityLookup, MetadataBlockKind};
 use std::alloc::AllocError;
 
 impl<'a, E: EntityLookup> Pass<'a, E> {

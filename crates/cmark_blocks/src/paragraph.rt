@@ -2,16 +2,16 @@
 
 ghost use Rattle.std.specs.Prelude.{◌≡◌, List, ℕ, map, OnOk};
 ghost use Rattle.cmark_block_model.specs.BlockPass.{kept_lines};
-ghost use Rattle.cmark_leaves.specs.Contents.{AreRead};
-ghost use Rattle.cmark_leaves.specs.TextColumns.{IsRead};
-ghost use Rattle.cmark_lines.specs.Rests.{row_of};
+ghost use Rattle.cmark_leaf_nodes.specs.Contents.{AreRead};
+ghost use Rattle.cmark_leaf_nodes.specs.TextColumns.{IsRead};
+ghost use Rattle.cmark_line_rules.specs.Rests.{row_of};
 
 use crate::heading::reads_attributes;
 use crate::state::{OpenLeaf, Pass};
 use cmark_items::ItemBody;
-use cmark_leaves::{close_lines, draw_lines};
-use cmark_lines::{LineRest, interrupts, underlines};
-use cmark_text_parts::EntityLookup;
+use cmark_leaf_nodes::{close_lines, draw_lines};
+use cmark_line_rules::{LineRest, interrupts, underlines};
+use cmark_values::EntityLookup;
 use std::alloc::AllocError;
 
 /// Keeps an earlier line of a paragraph, if attributes of headings are read: the paragraph may become a heading.
@@ -33,7 +33,7 @@ fn keep_line<'a>(
 impl<'a, E: EntityLookup> Pass<'a, E> {
     ghost use Rattle.cmark_blocks.specs.declared.state.OpenLeaf.TheVariants as leaf;
     ghost use Rattle.cmark_blocks.specs.Runs.{IsGood};
-    ghost use Rattle.cmark_blocks.specs.Steps.{IsBehindParagraph, AddsLine, BeginsParagraph, FeedsLeaf, ClosesLeaf};
+    ghost use Rattle.cmark_blocks.specs.Steps.{IsAfterParagraph, AddsLine, BeginsParagraph, FeedsLeaf, ClosesLeaf};
 
     /// Begins a paragraph on a line, with no leaf open.
     pub(crate) fn begin_paragraph(&mut self, rest: LineRest<'a>) -> Result<(), AllocError>
@@ -89,7 +89,7 @@ impl<'a, E: EntityLookup> Pass<'a, E> {
         rest: LineRest<'a>,
     ) -> Result<(), AllocError>
         requires good { IsGood self.old }
-        requires behind { IsBehindParagraph self.old from last rest }
+        requires following { IsAfterParagraph self.old from last rest }
         ensures good { IsGood self.new }
         ensures runs { OnOk result (FeedsLeaf E.replacement rest.entry self.old self.new) }
         ensures text { self.new.text ≡ self.old.text }
@@ -115,7 +115,7 @@ impl<'a, E: EntityLookup> Pass<'a, E> {
         rest: LineRest<'a>,
     ) -> Result<(), AllocError>
         requires good { IsGood self.old }
-        requires behind { IsBehindParagraph self.old from last rest }
+        requires following { IsAfterParagraph self.old from last rest }
         ensures good { IsGood self.new }
         ensures runs { OnOk result (FeedsLeaf E.replacement rest.entry self.old self.new) }
         ensures text { self.new.text ≡ self.old.text }

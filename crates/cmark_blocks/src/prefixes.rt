@@ -3,18 +3,18 @@
 ghost use Rattle.std.specs.Prelude.{◌≡◌, ◌+◌, ℕ, [], Bool, Option, None, false, option_map};
 ghost use Rattle.cmark_grammar.specs.Containers.{BlockQuote, Item as ListItem, Footnote, keeps};
 ghost use Rattle.cmark_grammar.specs.Rows.{begin_of};
-ghost use Rattle.cmark_text_parts.specs.Shown.{shown_options};
+ghost use Rattle.cmark_values.specs.Shown.{shown_options};
 ghost use Rattle.cmark_tree.specs.Zip.{Zip};
 ghost use Rattle.cmark_tree.specs.Tree.{Holds, IsTree};
-ghost use Rattle.cmark_scan_blocks.specs.LineStart.{row_from, line_of};
+ghost use Rattle.cmark_scan_lines.specs.LineStart.{row_from, line_of};
 ghost use Rattle.cmark_blocks.specs.Prefixes.{shown_container, container_in, containers_of, kept};
 
 use bitflags::Flags;
 use cmark_items::{Item, ItemBody};
-use cmark_lines::Container;
-use cmark_scan_blocks::LineStart;
-use cmark_text_parts::Options;
+use cmark_line_rules::Container;
+use cmark_scan_lines::LineStart;
 use cmark_tree::Tree;
+use cmark_values::Options;
 
 /// Whether these options ask for footnotes in the old style.
 fn reads_old_footnotes(options: Options) -> bool
@@ -39,56 +39,56 @@ fn container_of(body: ItemBody, options: Options) -> Option<Container>
 }
 
 /// The line after a block quote's prefix, if it has one (CommonMark 5.1).
-fn behind_block_quote<'a>(line: LineStart<'a>) -> Option<LineStart<'a>>
+fn after_block_quote<'a>(line: LineStart<'a>) -> Option<LineStart<'a>>
     ensures { (at line_end : ℕ) → option_map (row_from at line_end) result ≡ keeps (BlockQuote None) false (row_from at line_end line.entry) }
 {
-    let mut behind = line;
-    behind.scan_space_upto(3);
-    if behind.scan_blockquote_marker() {
-        Some(behind)
+    let mut following = line;
+    following.scan_space_upto(3);
+    if following.scan_blockquote_marker() {
+        Some(following)
     } else {
         None
     }
 }
 
 /// The line after `width` columns of spaces and tabs, or after fewer if nothing follows them (CommonMark 5.2).
-fn behind_width<'a>(line: LineStart<'a>, width: usize) -> Option<LineStart<'a>>
+fn after_width<'a>(line: LineStart<'a>, width: usize) -> Option<LineStart<'a>>
     ensures { (at line_end delimiter : ℕ) (number : Option ℕ) (task : Option Bool) → option_map (row_from at line_end) result ≡ keeps (ListItem delimiter number width task) false (row_from at line_end line.entry) }
 {
-    let mut behind = line;
-    if !behind.scan_space(width) && !behind.is_at_eol() {
+    let mut following = line;
+    if !following.scan_space(width) && !following.is_at_eol() {
         return None;
     }
-    Some(behind)
+    Some(following)
 }
 
 /// The line after a footnote definition's prefix, if it keeps the line. In the old style it is the whole line, marked as held (this
 /// profile's own).
-fn behind_footnote<'a>(line: LineStart<'a>, old: bool) -> Option<LineStart<'a>>
+fn after_footnote<'a>(line: LineStart<'a>, old: bool) -> Option<LineStart<'a>>
     ensures { (at line_end : ℕ) → option_map (row_from at line_end) result ≡ keeps (Footnote [] old 0) false (row_from at line_end line.entry) }
 {
     if !old {
-        return behind_width(line, 4);
+        return after_width(line, 4);
     }
     let mut ahead = line;
     ahead.scan_all_space();
     if ahead.is_at_eol() {
         return None;
     }
-    let mut behind = line;
-    behind.hold();
-    Some(behind)
+    let mut following = line;
+    following.hold();
+    Some(following)
 }
 
 /// The line after this container's prefix, if the container keeps the line.
-fn behind_prefix<'a>(container: Container, line: LineStart<'a>) -> Option<LineStart<'a>>
+fn after_prefix<'a>(container: Container, line: LineStart<'a>) -> Option<LineStart<'a>>
     ensures { (at line_end : ℕ) → option_map (row_from at line_end) result ≡ keeps (shown_container container) false (row_from at line_end line.entry) }
 {
     match container {
-        Container::BlockQuote => behind_block_quote(line),
-        Container::Item { width } => behind_width(line, width),
-        Container::Definition { width } => behind_width(line, width),
-        Container::Footnote { old } => behind_footnote(line, old),
+        Container::BlockQuote => after_block_quote(line),
+        Container::Item { width } => after_width(line, width),
+        Container::Definition { width } => after_width(line, width),
+        Container::Footnote { old } => after_footnote(line, old),
     }
 }
 
@@ -109,10 +109,10 @@ pub fn scan_containers(tree: &Tree<Item>, line: &mut LineStart<'_>, options: Opt
         let Some(container) = container_of(tree.item(*ix).body, options) else {
             continue;
         };
-        let Some(behind) = behind_prefix(container, *line) else {
+        let Some(following) = after_prefix(container, *line) else {
             return count;
         };
-        *line = behind;
+        *line = following;
         count += 1;
     }
     count

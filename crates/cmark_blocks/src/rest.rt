@@ -1,7 +1,7 @@
 //! The block pass over the rest of a text.
 
 ghost use Rattle.std.specs.Prelude.{IfOk, IsCharBoundary, List, ℕ};
-ghost use Rattle.cmark_text_parts.specs.Shown.{shown_options};
+ghost use Rattle.cmark_values.specs.Shown.{shown_options};
 ghost use Rattle.cmark_grammar.specs.BlockDocument.{Reference};
 ghost use Rattle.cmark_blocks.specs.Footnotes.{HasLabels};
 ghost use Rattle.cmark_blocks.specs.Tails.{HasDefinitions, LeavesRest};
@@ -11,7 +11,7 @@ use crate::siblings::Siblings;
 use crate::state::{OpenLeaf, Pass};
 use cmark_builder::Builder;
 use cmark_references::{FootnoteDefs, RefDefs};
-use cmark_text_parts::{EntityLookup, Options};
+use cmark_values::{EntityLookup, Options};
 use std::alloc::{AllocError, Global};
 
 impl<'a, E: EntityLookup> Pass<'a, E> {
@@ -19,7 +19,7 @@ impl<'a, E: EntityLookup> Pass<'a, E> {
     ghost use Rattle.cmark_blocks.specs.Runs.{Runs, IsGood};
 
     /// The state before the line that begins at the byte offset `from`, after the definitions and footnotes of earlier lines.
-    fn starting_at(
+    pub(crate) fn starting_at(
         alloc: Global,
         text: &'a str,
         from: usize,

@@ -1,8 +1,8 @@
 //! The blocks of a container so far, and the list of the last one, if it is an item (CommonMark 5.3).
 
 ghost use Rattle.std.specs.Prelude.{◌≡◌, ◌||◌, IfSome, None, is_some, option_map, true};
-ghost use Rattle.cmark_block_model.specs.BlockPass.{siblings_with_block, siblings_with_paragraph, siblings_with_item, siblings_behind_item, definitions_in, place_of};
-ghost use Rattle.cmark_grammar.specs.Places.{is_behind_title};
+ghost use Rattle.cmark_block_model.specs.BlockPass.{siblings_with_block, siblings_with_paragraph, siblings_with_item, siblings_after_item, definitions_in, place_of};
+ghost use Rattle.cmark_grammar.specs.Places.{is_after_title};
 ghost use Rattle.cmark_block_model.specs.OpenBlocks.{no_siblings};
 ghost use Rattle.cmark_blocks.specs.Titles.{list_around, untitled, with_open, with_title};
 ghost use Rattle.cmark_blocks.specs.Shown.{shown_list, shown_siblings, shown_title, list_of};
@@ -50,7 +50,7 @@ pub(crate) struct Siblings {
     pub has_line: bool,
     /// Whether a blank line is at the end. Blanks after the container's marker do not count.
     pub blank: bool,
-    /// Whether a blank line comes before a block, other than an item of the same list.
+    /// Whether a blank line comes before a block, other than an item of its list.
     pub parted: bool,
 }
 
@@ -174,7 +174,7 @@ impl Siblings {
 
     /// Whether a definition may follow the last block: it is a paragraph, or another definition.
     pub(crate) fn may_define(self) -> bool
-        ensures { result ≡ is_behind_title (place_of (shown_siblings self)) }
+        ensures { result ≡ is_after_title (place_of (shown_siblings self)) }
     {
         self.title().is_some() || self.definitions().is_some()
     }
@@ -192,7 +192,7 @@ impl Siblings {
 
     /// With the last block, a paragraph, as the title of a definition that begins at this byte offset. It continues the definition list
     /// that was open before it, or begins one.
-    pub(crate) fn behind_title(self, title: Title, start: usize) -> Siblings
+    pub(crate) fn after_title(self, title: Title, start: usize) -> Siblings
         ensures { shown_siblings result ≡ with_title (option_map shown_list title.list) title.parted start (shown_siblings self) }
     {
         let (open, parted) = match title.list {
@@ -257,8 +257,8 @@ impl Siblings {
     }
 
     /// With the last item, which ended at this byte offset with these blocks in it.
-    pub(crate) fn behind_item(self, inside: Siblings, end: usize) -> Siblings
-        ensures { shown_siblings result ≡ siblings_behind_item end (shown_siblings inside) (shown_siblings self) }
+    pub(crate) fn after_item(self, inside: Siblings, end: usize) -> Siblings
+        ensures { shown_siblings result ≡ siblings_after_item end (shown_siblings inside) (shown_siblings self) }
     {
         let list = match self.open_list() {
             Some(list) => Some(OpenList {

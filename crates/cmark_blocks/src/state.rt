@@ -1,13 +1,13 @@
 //! The state of the block pass.
 
 ghost use Rattle.std.specs.Prelude.{IfOk};
-ghost use Rattle.cmark_text_parts.specs.Shown.{shown_options};
+ghost use Rattle.cmark_values.specs.Shown.{shown_options};
 
 use crate::siblings::Siblings;
 use cmark_builder::Builder;
-use cmark_leaves::Stretch;
-use cmark_lines::{Container, HtmlKind, LineRest};
-use cmark_text_parts::{EntityLookup, MetadataBlockKind, Options};
+use cmark_leaf_nodes::Stretch;
+use cmark_line_rules::{Container, HtmlKind, LineRest};
+use cmark_values::{EntityLookup, MetadataBlockKind, Options};
 use std::alloc::{AllocError, Global};
 
 /// The open leaf, if any.
@@ -16,7 +16,7 @@ pub(crate) enum OpenLeaf<'a> {
     /// No leaf is open.
     Closed,
     /// No leaf is open yet, directly after an alert's tag.
-    BehindTag,
+    AfterTag,
     /// A paragraph: the byte offset of the first line that touches the last one, and the last line. They become a node when the next line
     /// shows whether they continue.
     Paragraph(usize, LineRest<'a>),
@@ -33,9 +33,6 @@ pub(crate) enum OpenLeaf<'a> {
     /// Metadata: its kind, and the stretch of the text that waits.
     Metadata(MetadataBlockKind, Option<Stretch>),
 }
-
-/// The number of open containers for which there is room from the beginning: few texts nest deeper.
-const USUAL_DEPTH: usize = 16;
 
 /// An open container, with the siblings before it.
 #[derive(Clone, Copy)]
@@ -74,7 +71,7 @@ pub(crate) struct Pass<'a, E> {
 impl<'a, E: EntityLookup> Pass<'a, E> {
     ghost use Rattle.cmark_block_model.specs.OpenBlocks.{at_start};
     ghost use Rattle.cmark_blocks.specs.Runs.{Runs, IsGood};
-    ghost use Rattle.cmark_text_parts.specs.Shown.{shown_options};
+    ghost use Rattle.cmark_values.specs.Shown.{shown_options};
 
     /// The state before the first line of this text, with these options.
     #[tactic(auto, using(crate::proofs::ReferenceSteps::no_reference))]
@@ -87,8 +84,6 @@ impl<'a, E: EntityLookup> Pass<'a, E> {
         ensures good { IfOk result IsGood }
         ensures runs { IfOk result (Runs E.replacement text.entry.now (shown_options options) (E.replacement entities.entry.now) at_start) }
     {
-        // The list is made first: if memory is then refused to the builder, one call frees it.
-        let outer = Vec::with_capacity(alloc, USUAL_DEPTH)?;
         let builder = Builder::new(alloc)?;
         Ok(Pass {
             alloc,
@@ -97,7 +92,7 @@ impl<'a, E: EntityLookup> Pass<'a, E> {
             entities,
             builder,
             inner: Siblings::none(),
-            outer,
+            outer: Vec::new(alloc),
             bare: false,
             leaf: OpenLeaf::Closed,
             blank_lines: Vec::new(alloc),

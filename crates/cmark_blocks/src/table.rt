@@ -8,20 +8,20 @@ ghost use Rattle.cmark_grammar.specs.TableRows.{count_missing};
 ghost use Rattle.cmark_grammar.specs.Tables.{delimiter_row};
 ghost use Rattle.cmark_items.specs.ItemNodes.{columns_of, kind_of, shape};
 ghost use Rattle.cmark_items.specs.Tables.{defined};
-ghost use Rattle.cmark_lines.specs.Rests.{IsIn, row_of};
-ghost use Rattle.cmark_text_parts.specs.Shown.{shown_options};
+ghost use Rattle.cmark_line_rules.specs.Rests.{IsIn, row_of};
+ghost use Rattle.cmark_values.specs.Shown.{shown_options};
 
 use crate::gathered::words_in;
 use crate::state::{OpenLeaf, Pass};
 use bitflags::Flags;
 use cmark_builder::Builder;
 use cmark_items::ItemBody;
-use cmark_leaves::{draw_head, draw_row};
-use cmark_lines::{
+use cmark_leaf_nodes::{draw_head, draw_row};
+use cmark_line_rules::{
     LineRest, begins_definition, begins_with_pipe, count_missing, head_cells, interrupts,
     is_delimiter_row,
 };
-use cmark_text_parts::{CowStr, EntityLookup, Options};
+use cmark_values::{CowStr, EntityLookup, Options};
 use std::alloc::AllocError;
 
 /// The largest number of filled cells in one table (this profile's own).
@@ -58,7 +58,7 @@ fn table_body<'a>(builder: &mut Builder<'a>, row: &'a str) -> Result<ItemBody, A
 impl<'a, E: EntityLookup> Pass<'a, E> {
     ghost use Rattle.cmark_blocks.specs.declared.state.OpenLeaf.TheVariants as leaf;
     ghost use Rattle.cmark_blocks.specs.Runs.{IsGood};
-    ghost use Rattle.cmark_leaves.specs.TextColumns.{IsRead};
+    ghost use Rattle.cmark_leaf_nodes.specs.TextColumns.{IsRead};
     ghost use Rattle.cmark_blocks.specs.Steps.{BeginsText, FeedsLeaf};
     ghost use Rattle.cmark_blocks.specs.TablesAhead.{TellsHead, TellsInterrupts, TellsBlock, GoesOnWithRow, DrawsRows, BeginsTable};
 
@@ -75,7 +75,7 @@ impl<'a, E: EntityLookup> Pass<'a, E> {
             return None;
         }
         let columns = head_cells(rest)?;
-        let next = self.line_behind(count, rest)?;
+        let next = self.line_after(count, rest)?;
         if is_delimiter_row(next, columns) {
             Some((columns, next))
         } else {

@@ -5,8 +5,8 @@ ghost use Rattle.cmark_grammar.specs.Openings.{ThematicBreak};
 
 use crate::state::Pass;
 use cmark_items::ItemBody;
-use cmark_lines::LineRest;
-use cmark_text_parts::EntityLookup;
+use cmark_line_rules::LineRest;
+use cmark_values::EntityLookup;
 use std::alloc::AllocError;
 
 impl<'a, E: EntityLookup> Pass<'a, E> {

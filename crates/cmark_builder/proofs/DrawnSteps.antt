@@ -2,8 +2,8 @@
 use Rattle.std.proofs.Common.{◌≡◌, ◌⊎◌, inl, inr, ℕ, zero, suc, List, [], ◌∷◌, ◌++◌, map, Option, Some, None, option_map, refl, sym, ap, ◌∙◌, subst}
 use Rattle.std.specs.Prelude.{slice_get}
 use Rattle.std.proofs.lemmas.Option.{same_Some}
-use Rattle.cmark_text_parts.specs.declared.text.CowStr.{CowStr}
-use Rattle.cmark_text_parts.specs.Shown.{text_bytes}
+use Rattle.cmark_values.specs.declared.text.CowStr.{CowStr}
+use Rattle.cmark_values.specs.Shown.{text_bytes}
 use Rattle.cmark_tree.specs.Forest as forest
 use Rattle.cmark_tree.specs.Forest.{Forest, one, join as join_forests}
 use Rattle.cmark_tree.specs.Building.{Opened, Is, IsPlaced, closed}
@@ -98,8 +98,8 @@ module _ (text : List ℕ) (old new : Builder) where
         ∙ ap (λ u. record { left = nodes_of d.here; item = Some (node kind start start) } ∷ u) draws.up_is);
   }
 
-  Behind : Drawing → Type 0
-  Behind d = Draws text new d
+  Following : Drawing → Type 0
+  Following d = Draws text new d
 
   -- a node was closed: as another one, whose kind is known
   pub draws-close_as : (end : ℕ) (body : ItemBody) (kind : BlockKind) (d : Drawing) →

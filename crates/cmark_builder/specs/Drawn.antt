@@ -5,7 +5,7 @@ use Rattle.cmark_tree.specs.Building.{Opened, Is}
 use Rattle.cmark_grammar.specs.BlockDocument.{BlockNode}
 use Rattle.cmark_items.specs.declared.item.Item.{Item}
 use Rattle.cmark_items.specs.ItemNodes.{shown_element, shown_forest, nodes_of}
-use Rattle.cmark_text_parts.specs.declared.text.CowStr.{CowStr}
+use Rattle.cmark_values.specs.declared.text.CowStr.{CowStr}
 use Rattle.cmark_block_model.specs.Drawing.{OpenNode, Drawing}
 use Rattle.cmark_builder.specs.declared.builder.Builder.{Builder}
 

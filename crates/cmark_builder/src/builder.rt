@@ -11,8 +11,8 @@ ghost use Rattle.cmark_items.specs.declared.item.ItemBody.TheVariants as body;
 
 use cmark_items::{Allocations, Item, ItemBody};
 use cmark_references::{FootnoteDefs, RefDefs};
-use cmark_text_parts::CowStr;
 use cmark_tree::Tree;
+use cmark_values::CowStr;
 use std::alloc::{AllocError, Global};
 
 /// A document's tree and its tables. Nodes are added only at the end: the last sibling is the end of the current siblings, inside the open
@@ -24,7 +24,7 @@ pub struct Builder<'a> {
     pub allocations: Allocations<'a>,
 }
 
-/// The body of this paragraph as the title of a definition. A text that is part of the same node stays there.
+/// The body of this paragraph as the title of a definition. A text that is part of the node stays there.
 fn titled(body: ItemBody) -> ItemBody
     ensures { result ≡ titled body }
 {

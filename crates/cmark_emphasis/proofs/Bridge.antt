@@ -7,7 +7,7 @@ use Rattle.cmark_emphasis.specs.Shown.{shown_run}
 use Rattle.cmark_emphasis.specs.declared.run.Run as code_run
 use Rattle.cmark_grammar.specs.Spans.{Spans, Nil, Single, singles}
 use Rattle.cmark_grammar.specs.Emphasis.{Run, Pair, Sibling, Plain, Delimiter, Piece, Whole, Standing, agrees, pair_of, rest_of_opener, rest_of_closer, wrapped, before, keep, deactivates, deactivated, is_tilde_or_caret, left_open, stand, runs_of}
-use Rattle.cmark_grammar.specs.EmphasisModel.{Closed, paired, chosen, close, or_none, closed, resolve, pairs_of}
+use Rattle.cmark_inline_model.specs.EmphasisModel.{Closed, paired, chosen, close, or_none, closed, resolve, pairs_of}
 use Rattle.cmark_emphasis.specs.Stack.{Chased, and_then, picked, put, stays_open, still_open, chase, or_same, chased, rest_on, pair_all, run_pairs}
 
 abbrev opens_of : List Piece → List Run

@@ -4,7 +4,7 @@ use Rattle.std.specs.Prelude.{map, filter}
 use Rattle.cmark_emphasis.specs.Shown.{shown_run}
 use Rattle.cmark_emphasis.specs.declared.run.Run as code_run
 use Rattle.cmark_grammar.specs.Emphasis.{Run, Pair, Sibling, agrees, pair_of, deactivates, runs_of}
-use Rattle.cmark_grammar.specs.EmphasisModel.{pairs_of}
+use Rattle.cmark_inline_model.specs.EmphasisModel.{pairs_of}
 use Rattle.cmark_emphasis.specs.Stack.{chased, rest_on, run_pairs, stays_open}
 use Rattle.cmark_emphasis.proofs.Bridge.{run_pairs-are}
 

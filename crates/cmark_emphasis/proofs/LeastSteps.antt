@@ -7,7 +7,7 @@ use Rattle.std.proofs.lemmas.List.{append-nil, append_cancel_right, get_or-map, 
 use Rattle.std.proofs.lemmas.List.Elements.{filter-append}
 use Rattle.std.proofs.lemmas.Option.{slice_get-get_or}
 use Rattle.cmark_grammar.specs.Emphasis.{Run, agrees, deactivates, is_tilde_or_caret, rest_of_closer, rest_of_opener}
-use Rattle.cmark_grammar.proofs.EmphasisSound.{one_empty}
+use Rattle.cmark_inline_model.proofs.EmphasisSound.{one_empty}
 use Rattle.cmark_emphasis.specs.Bottoms.{AreBottoms, active_runs, bottom_of, class_of, or_other, stays}
 use Rattle.cmark_emphasis.specs.Counts.{examined_of_two, searches}
 use Rattle.cmark_emphasis.specs.Least.{AreStanding, HasSought, IsOfKind, Seeking, Standing, active_in, count_of, fresh_in, is_fresh, least_examined, least_from, left_standing, passed_by, put_open, put_up, run_of, seek, sought, stays_standing, takes_none, with_more}

@@ -7,14 +7,14 @@ use Rattle.cmark_emphasis.specs.Shown.{shown_pair}
 use Rattle.cmark_emphasis.specs.declared.run.Pair as code_pair
 use Rattle.cmark_grammar.specs.Spans.{SpanKind, Emphasis, Strong, SingleTilde, DoubleTilde, Caret, DoubleEquals, span_width, Spans, Nil, Single, Around}
 use Rattle.cmark_grammar.specs.Emphasis.{Pair, Sibling, StandFrom, places_taken}
-use Rattle.cmark_grammar.specs.EmphasisModel.{pairs_of, spans_of}
-use Rattle.cmark_grammar.specs.SpanEntries.{AllWithin}
+use Rattle.cmark_inline_model.specs.EmphasisModel.{pairs_of, spans_of}
+use Rattle.cmark_inline_model.specs.SpanEntries.{AllWithin}
 use Rattle.cmark_emphasis.specs.declared.slot.SpanKind as code_kind
 use Rattle.cmark_emphasis.specs.declared.slot.SpanKind.TheVariants as code
 use Rattle.cmark_emphasis.specs.declared.slot.Slot.{Slot}
 use Rattle.cmark_emphasis.specs.declared.slot.Slot.TheVariants as slot
 use Rattle.cmark_emphasis.specs.Slots.{opening, closing, stays, slots_of, AreBalanced, ArePairs, mark_pairs}
-use Rattle.cmark_grammar.proofs.SpanEntries as entries
+use Rattle.cmark_inline_model.proofs.SpanEntries as entries
 
 opening-wide : (k : SpanKind) → length (opening k) ≡ span_width k
 opening-wide Emphasis = refl

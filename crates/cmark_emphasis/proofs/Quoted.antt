@@ -3,7 +3,7 @@ use Rattle.std.proofs.Common.{◌≡◌, ℕ, zero, suc, ◌<◌, ◌≤◌, Boo
 use Rattle.std.specs.Prelude.{is_some, IfSome, reverse, map, take}
 use Rattle.std.proofs.lemmas.List.{append-nil, reverse-append, reverse-reverse, take_all}
 use Rattle.cmark_grammar.specs.Quotes.{Quote, is_double_open, is_single_open, is_closed_by, double_character, quote_characters}
-use Rattle.cmark_emphasis.specs.QuoteSteps.{single_after, double_after, double_character_after, turned, open_single, closed_from, character_so_far, so_far, IsBehind}
+use Rattle.cmark_emphasis.specs.QuoteSteps.{single_after, double_after, double_character_after, turned, open_single, closed_from, character_so_far, so_far, IsAfter}
 
 pub single-open : (before : List Quote) → is_some (open_single before) ≡ is_single_open before
 single-open [] = refl
@@ -99,8 +99,8 @@ double-step q before e = go q.double e (if q.closes then true else if q.opens th
     go true z x y = refl
     go false z x y = absurd (let w : false ≡ true = z in cc)
 
-pub behind_double : (q : Quote) (before : List Quote) (single : Option ℕ) (double next : Bool) (old new : List ℕ) → IsBehind before single double old → q.double ≡ true → next ≡ double_after q double → new ≡ old ++ double_character_after q double ∷ [] → IsBehind (q ∷ before) single next new
-behind_double q before single double next old new h e s n = record {
+pub after_double : (q : Quote) (before : List Quote) (single : Option ℕ) (double next : Bool) (old new : List ℕ) → IsAfter before single double old → q.double ≡ true → next ≡ double_after q double → new ≡ old ++ double_character_after q double ∷ [] → IsAfter (q ∷ before) single next new
+after_double q before single double next old new h e s n = record {
   single_is = h.single_is ∙ sym (one q.double e);
   double_is = s ∙ ap (double_after q) h.double_is ∙ sym (two q.double e);
   characters_are = n ∙ ap (λ l. l ++ double_character_after q double ∷ []) h.characters_are ∙ ap (λ b. so_far before false ++ double_character_after q b ∷ []) h.double_is ∙ sym (double-step q before e);
@@ -114,8 +114,8 @@ behind_double q before single double next old new h e s n = record {
     two true z = refl
     two false z = absurd (let y : false ≡ true = z in cc)
 
-pub behind_single : (q : Quote) (before : List Quote) (single next : Option ℕ) (double : Bool) (old new : List ℕ) → IsBehind before single double old → q.double ≡ false → next ≡ single_after q (length old) single → new ≡ turned q.closes single old ++ 8217 ∷ [] → IsBehind (q ∷ before) next double new
-behind_single q before single next double old new h e s n = record {
+pub after_single : (q : Quote) (before : List Quote) (single next : Option ℕ) (double : Bool) (old new : List ℕ) → IsAfter before single double old → q.double ≡ false → next ≡ single_after q (length old) single → new ≡ turned q.closes single old ++ 8217 ∷ [] → IsAfter (q ∷ before) next double new
+after_single q before single next double old new h e s n = record {
   single_is =
       s
       ∙ ap (λ k. single_after q k single) (ap length h.characters_are ∙ length-so before false)
@@ -133,8 +133,8 @@ behind_single q before single next double old new h e s n = record {
     two false z = refl
     two true z = absurd (let y : true ≡ false = z in cc)
 
-pub behind_within : (before : List Quote) (single : Option ℕ) (double : Bool) (old : List ℕ) → IsBehind before single double old → IfSome single (λ i. i < length old)
-behind_within before single double old h =
+pub after_within : (before : List Quote) (single : Option ℕ) (double : Bool) (old : List ℕ) → IsAfter before single double old → IfSome single (λ i. i < length old)
+after_within before single double old h =
     subst (λ o. IfSome o (λ i. i < length old)) (sym h.single_is)
     (subst (λ k. IfSome (open_single before) (λ i. i < k)) (sym (ap length h.characters_are ∙ length-so before false)) (single-within before))
 
@@ -151,13 +151,13 @@ split (q ∷ before) after =
     ∙ ap (λ l. quote_characters [] (l ++ after)) (sym (reverse-append (q ∷ []) before))
 
 -- all quotes
-pub behind_all : (quotes : List Quote) (single : Option ℕ) (double : Bool) (characters : List ℕ) → IsBehind (reverse quotes) single double characters → characters ≡ quote_characters [] quotes
-behind_all quotes single double characters h =
+pub after_while : (quotes : List Quote) (single : Option ℕ) (double : Bool) (characters : List ℕ) → IsAfter (reverse quotes) single double characters → characters ≡ quote_characters [] quotes
+after_while quotes single double characters h =
     h.characters_are
     ∙ sym (append-nil (so_far (reverse quotes) false))
     ∙ split (reverse quotes) []
     ∙ ap (quote_characters []) (append-nil (reverse (reverse quotes)) ∙ reverse-reverse quotes)
 
-pub behind_taken : {A : Type 0} (shown : A → Quote) (quotes : List A) (i : ℕ) (single : Option ℕ) (double : Bool) (characters : List ℕ) → length quotes ≤ i → IsBehind (reverse (map shown (take i quotes))) single double characters → characters ≡ quote_characters [] (map shown quotes)
-behind_taken shown quotes i single double characters le h =
-    behind_all (map shown quotes) single double characters (subst (λ l. IsBehind (reverse (map shown l)) single double characters) (take_all i quotes le) h)
+pub after_taken : {A : Type 0} (shown : A → Quote) (quotes : List A) (i : ℕ) (single : Option ℕ) (double : Bool) (characters : List ℕ) → length quotes ≤ i → IsAfter (reverse (map shown (take i quotes))) single double characters → characters ≡ quote_characters [] (map shown quotes)
+after_taken shown quotes i single double characters le h =
+    after_while (map shown quotes) single double characters (subst (λ l. IsAfter (reverse (map shown l)) single double characters) (take_all i quotes le) h)

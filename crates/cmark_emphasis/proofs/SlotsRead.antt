@@ -3,10 +3,10 @@ use Rattle.std.proofs.Common.{◌≡◌, ℕ, suc, ◌+◌, List, [], ◌∷◌,
 use Rattle.std.proofs.lemmas.List.{append-nil}
 use Rattle.cmark_grammar.specs.Spans.{SpanKind, Emphasis, Strong, SingleTilde, DoubleTilde, Caret, DoubleEquals, span_width, Spans, Nil, Single, Around, join, TakePlaces}
 use Rattle.cmark_grammar.specs.Emphasis.{Sibling, StandFrom, places_taken}
-use Rattle.cmark_grammar.specs.EmphasisModel.{spans_of}
+use Rattle.cmark_inline_model.specs.EmphasisModel.{spans_of}
 use Rattle.cmark_emphasis.specs.declared.slot.Slot.{Slot}
 use Rattle.cmark_emphasis.specs.Slots.{opening, closing, slots_of, Begun, read_from, read_slots}
-use Rattle.cmark_grammar.proofs.SpanPlaces.{places}
+use Rattle.cmark_inline_model.proofs.SpanPlaces.{places}
 
 join-nil : (f : Spans) → join f Nil ≡ f
 join-nil Nil = refl

@@ -14,7 +14,7 @@ use Rattle.cmark_emphasis.specs.declared.run.Run as code_run
 use Rattle.cmark_emphasis.specs.declared.run.Pair as code_pair
 use Rattle.cmark_emphasis.proofs.Agreeing.{mark_same, closing, class_no_tilde}
 use Rattle.cmark_emphasis.proofs.ActiveRuns.{none_of, none_inactive, active_runs-none, active_runs-push, open-push, tops_at}
-use Rattle.cmark_grammar.proofs.EmphasisSound.{agrees-empty, one_empty}
+use Rattle.cmark_inline_model.proofs.EmphasisSound.{agrees-empty, one_empty}
 
 agree-append : (c o : Run) (passed : List Run) → NoneAgree c passed → agrees o c ≡ false → NoneAgree c (passed ++ o ∷ [])
 agree-append c o [] h e = (e, tt)
@@ -79,13 +79,13 @@ course_step c o stack next pairs i n k h read e m s =
     let agree : agrees (shown_run o) c ≡ true = subst (λ r. agrees (shown_run r) c ≡ true) same h.agree in
     let step = chased-pair c (shown_run o) h.passed front h.miss agree in
     let all : map shown_pair (pairs ++ m ∷ []) ≡ map shown_pair pairs ++ pair_of (shown_run o) c ∷ [] = map-append shown_pair pairs (m ∷ []) ∙ ap (λ p. map shown_pair pairs ++ p ∷ []) s in
-    let behind : Chased = chased (rest_of_closer (shown_run o) c) (open_runs (active_runs k next)) in
+    let following : Chased = chased (rest_of_closer (shown_run o) c) (open_runs (active_runs k next)) in
     sym (ap (λ l. pairs_after (map shown_pair pairs) (chased c l)) cut
     ∙ ap (λ (d : Chased). pairs_after (map shown_pair pairs) d) step
     ∙ ap (λ l. pairs_after (map shown_pair pairs) (with_pair (pair_of (shown_run o) c) (chased (rest_of_closer (shown_run o) c) l))) (sym e)
-    ∙ ap {B = Chased} (λ l. record { rest = behind.rest; opens = behind.opens; pairs = l })
-    (sym (append_assoc (map shown_pair pairs) (pair_of (shown_run o) c ∷ []) behind.pairs)
-    ∙ ap (λ l. l ++ behind.pairs) (sym all)))
+    ∙ ap {B = Chased} (λ l. record { rest = following.rest; opens = following.opens; pairs = l })
+    (sym (append_assoc (map shown_pair pairs) (pair_of (shown_run o) c ∷ []) following.pairs)
+    ∙ ap (λ l. l ++ following.pairs) (sym all)))
 
 pub course_end : (c : Run) (stack next : List code_run.Run) (pairs : List code_pair.Pair) → NoneAgree c (open_runs stack) → open_runs next ≡ still_open c (open_runs stack) → course_from c stack pairs ≡ record { rest = c; opens = open_runs next; pairs = map shown_pair pairs }
 course_end c stack next pairs h e =

@@ -2,7 +2,7 @@
 use Rattle.std.proofs.Common.{◌≡◌, ◌≢◌, ℕ, zero, suc, ◌+◌, ◌-◌, ◌<◌, ◌≤◌, ◌==◌, ◌&&◌, Bool, true, false, nat_lt, if◌then◌else◌, [], ◌∷◌, ◌++◌, refl, sym, ap, ◌∙◌, arith, true≢false}
 use Rattle.cmark_grammar.specs.Spans.{SpanKind, Emphasis, Strong, SingleTilde, DoubleTilde, Caret, DoubleEquals, span_width}
 use Rattle.cmark_grammar.specs.Emphasis.{Run, Pair, StandFrom, agrees, kinds_of, tilde_kinds, caret_kinds, equals_kinds, emphasis_kinds, pair_of, places_taken}
-use Rattle.cmark_grammar.specs.EmphasisModel.{pairs_of, spans_of}
+use Rattle.cmark_inline_model.specs.EmphasisModel.{pairs_of, spans_of}
 use Rattle.cmark_emphasis.specs.Slots.{opening, closing, stays, slots_of, mark_spans, mark_pairs}
 use Rattle.cmark_emphasis.specs.TwoRuns.{is_one, two_siblings}
 use Rattle.cmark_emphasis.proofs.Bridge.{run_pairs-are}

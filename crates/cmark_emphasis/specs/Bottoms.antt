@@ -10,7 +10,7 @@ use Rattle.cmark_emphasis.specs.declared.bottom.OpenersBottom.{OpenersBottom}
 abbrev pub rank : Run → ℕ
 rank run = (if can_both run then 3 else 0) + run.run_length % 3
 
--- the class of a run of `*` or `_`, or of two `=`: all closing runs of one class agree with the same open runs
+-- the class of a run of `*` or `_`, or of two `=`: an open run agrees with all closing runs of a class, or with none
 abbrev pub class_of : Run → Option ℕ
 class_of run = if run.delimiter == 42 then Some (rank run) else if run.delimiter == 95 then Some (6 + rank run) else if (run.delimiter == 61) && (run.run_length == 2) then Some 12 else None
 

@@ -1,4 +1,4 @@
--- Closing runs of one class, which agree with the same open runs.
+-- Closing runs of one class: an open run agrees with all of them, or with none.
 use Rattle.std.specs.Prelude.{◌≡◌, ℕ, ◌%◌, ◌<◌, Bool, true, ◌==◌, ◌||◌}
 use Rattle.cmark_grammar.specs.Emphasis.{Run, can_both}
 

@@ -97,8 +97,8 @@ pub record AreStanding (bottoms : OpenersBottom) (stack : List code_run.Run) (st
 abbrev pub IsOfKind : (closer other : Run) → Type 0
 IsOfKind closer other = (other.delimiter ≡ closer.delimiter) ⊎ (deactivates closer ≡ true) × (is_tilde_or_caret other.delimiter ≡ true)
 
--- the searches of a run among these open runs are over: `rest` is left of it, the other runs are open on this stack, and the count grew by
--- at least the lower bound
+-- the searches of a run among these open runs are over. `rest` is left of it, the other runs are open on this stack, and the count grew
+-- by at least the lower bound
 pub record HasSought (closer : Run) (standing : List Standing) (before after : ℕ) (bottoms : OpenersBottom) (stack : List code_run.Run) (rest : Run) : Type 0 where
   pub rest_is : (sought closer standing).rest ≡ rest
   pub stand : AreStanding bottoms stack (sought closer standing).standing

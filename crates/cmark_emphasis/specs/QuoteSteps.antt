@@ -39,7 +39,7 @@ so_far [] closed = []
 so_far (quote ∷ before) closed = so_far before (closed_from quote closed) ++ character_so_far before quote closed ∷ []
 
 -- the state after these quotes, the nearest first
-pub record IsBehind (before : List Quote) (single : Option ℕ) (double : Bool) (characters : List ℕ) : Type 0 where
+pub record IsAfter (before : List Quote) (single : Option ℕ) (double : Bool) (characters : List ℕ) : Type 0 where
   pub single_is : single ≡ open_single before
   pub double_is : double ≡ is_double_open before
   pub characters_are : characters ≡ so_far before false

@@ -2,9 +2,9 @@
 use Rattle.std.specs.Prelude.{◌≡◌, ℕ, suc, List, [], ◌∷◌}
 use Rattle.cmark_grammar.specs.Spans.{SpanKind, Emphasis, Strong, SingleTilde, DoubleTilde, Caret, DoubleEquals, Spans, Nil, Single, Around, join}
 use Rattle.cmark_grammar.specs.Emphasis.{Run, Pair, Sibling, StandFrom, places_taken, runs_of}
-use Rattle.cmark_grammar.specs.EmphasisModel.{pairs_of}
-use Rattle.cmark_grammar.specs.SpanEntries as entries
-use Rattle.cmark_grammar.specs.SpanEntries.{entries_of}
+use Rattle.cmark_inline_model.specs.EmphasisModel.{pairs_of}
+use Rattle.cmark_inline_model.specs.SpanEntries as entries
+use Rattle.cmark_inline_model.specs.SpanEntries.{entries_of}
 use Rattle.cmark_emphasis.specs.Shown.{shown_kind}
 use Rattle.cmark_emphasis.specs.declared.slot.SpanKind.TheVariants as code
 use Rattle.cmark_emphasis.specs.declared.slot.SpanKind as code_kind

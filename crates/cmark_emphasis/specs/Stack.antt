@@ -16,8 +16,8 @@ and_then pair stops None = stops
 and_then pair stops (Some chased) = record chased { pairs = pair ∷ chased.pairs }
 
 abbrev pub picked : Bool → Chased → Option Chased → Option Chased
-picked true here behind = Some here
-picked false here behind = behind
+picked true here following = Some here
+picked false here following = following
 
 abbrev pub put : Run → List Run → List Run
 put run opens = if nat_lt 0 run.left then run ∷ opens else opens

@@ -25,8 +25,8 @@ fn deactivates(closer: Run) -> bool
     closer.closes && closer.left > 0 && is_tilde_or_caret(closer.delimiter)
 }
 
-/// The class of a run of `*`, `_` or `=`. All closing runs of one class agree with the same open runs: for `*` and `_` because of the rule
-/// of three, and for `=` because all runs of `=` agree.
+/// The class of a run of `*`, `_` or `=`. An open run agrees with all closing runs of a class, or with none. For `*` and `_` this is
+/// because of the rule of three, and for `=` because all runs of `=` agree.
 fn class_of(run: Run) -> Option<usize>
     ensures value { result ≡ class_of (shown_run run) }
     ensures within { IfSome result (λ class. class < 13) }

@@ -1,7 +1,7 @@
 //! Whether a delimiter run can open, and whether it can close, by the characters beside it (CommonMark 6.2).
 
 ghost use Rattle.std.specs.Prelude.{◌≡◌, ◌&&◌, ◌||◌, not};
-ghost use Rattle.cmark_text_parts.specs.Shown.{shown_options};
+ghost use Rattle.cmark_values.specs.Shown.{shown_options};
 ghost use Rattle.cmark_grammar.specs.Flanking.{is_unicode_white_space, is_unicode_punctuation, is_white_space_there, is_punctuation_there};
 ghost use Rattle.cmark_grammar.specs.Flanking as grammar;
 ghost use Rattle.ucd_category.specs.GeneralCategory.{general_category_eq};
@@ -12,7 +12,7 @@ ghost use Rattle.cmark_emphasis.specs.Ascii as ascii;
 ghost use Rattle.cmark_emphasis.specs.Shown.{shown_flanking};
 
 use bitflags::Flags;
-use cmark_text_parts::Options;
+use cmark_values::Options;
 use ucd_category::{GeneralCategory, GeneralCategoryGroup};
 
 /// Whether a delimiter run can open, and whether it can close.

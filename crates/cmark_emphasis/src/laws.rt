@@ -2,7 +2,7 @@
 
 ghost use Rattle.std.specs.Prelude.{◌≡◌, List, []};
 ghost use Rattle.cmark_grammar.specs.Emphasis.{IsEmphasis, Pair, Run, Sibling, StandFrom, agrees, places_taken};
-ghost use Rattle.cmark_grammar.specs.EmphasisModel.{pairs_of, spans_of};
+ghost use Rattle.cmark_inline_model.specs.EmphasisModel.{pairs_of, spans_of};
 ghost use Rattle.cmark_grammar.specs.Spans.{Spans, TakePlaces};
 ghost use Rattle.cmark_emphasis.specs.Classes.{IsClosing, IsLike};
 ghost use Rattle.cmark_emphasis.specs.Slots.{AreBalanced, read_slots, slots_of};
@@ -35,8 +35,8 @@ pub fn slots_are_balanced()
     ensures { (spans : Spans) → AreBalanced [] (slots_of spans) }
 {}
 
-/// Closing runs of one class agree with the same open runs. For `*`, and for `_`, a class is given by the length modulo 3 and by whether
-/// the run can also open. So if an open run does not agree with one closing run, it agrees with no run of the same class.
+/// An open run agrees with all closing runs of a class, or with none. For `*`, and for `_`, a class is given by the length modulo 3 and by
+/// whether the run can also open. So if an open run does not agree with one closing run, it agrees with no run of its class.
 pub fn a_class_agrees_alike()
     ensures { (opener first second : Run) → IsLike first second → IsClosing first → IsClosing second
         → agrees opener second ≡ agrees opener first }

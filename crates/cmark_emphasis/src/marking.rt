@@ -3,8 +3,8 @@
 ghost use Rattle.std.specs.Prelude.{◌≡◌, ◌+◌, ◌-◌, ◌<◌, ◌≤◌, List, [], ◌∷◌, length, map, OnOk};
 ghost use Rattle.cmark_grammar.specs.Spans.{span_width};
 ghost use Rattle.cmark_grammar.specs.Emphasis.{Sibling, StandFrom, places_taken, kinds_of, emphasis_kinds, tilde_kinds, equals_kinds};
-ghost use Rattle.cmark_grammar.specs.EmphasisModel.{pairs_of, spans_of};
-ghost use Rattle.cmark_grammar.specs.SpanEntries.{IsWithin, write};
+ghost use Rattle.cmark_inline_model.specs.EmphasisModel.{pairs_of, spans_of};
+ghost use Rattle.cmark_inline_model.specs.SpanEntries.{IsWithin, write};
 ghost use Rattle.cmark_emphasis.specs.Shown.{shown_kind, shown_pair};
 ghost use Rattle.cmark_emphasis.specs.Slots.{AreBalanced, ArePairs, closing, opening, slots_of};
 ghost use Rattle.cmark_emphasis.specs.Slots as model;
@@ -111,7 +111,7 @@ fn mark_pair(slots: &mut [Slot], pair: Pair)
     }
 }
 
-/// Makes the slots of `count` siblings with the spans of their pairs (CommonMark 6.2, rules 13 and 14): a pair becomes spans of width 2
+/// Makes the slots of `count` siblings with the spans of their pairs (CommonMark 6.2, rules 13 and 14). A pair becomes spans of width 2
 /// from the inside, and an odd byte on each side the outermost span. `pairs` are the pairs of the siblings' runs, as `pair_runs` gives
 /// them.
 ///

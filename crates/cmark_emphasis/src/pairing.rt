@@ -2,7 +2,7 @@
 
 ghost use Rattle.std.specs.Prelude.{◌≡◌, ◌&&◌, ◌++◌, ◌∷◌, ◌+◌, ◌-◌, ◌*◌, ◌^◌, ◌<◌, ◌≤◌, [], nat_lt, if◌then◌else◌, length, List, OnOk, IfOk, MatchOption, All, map};
 ghost use Rattle.cmark_grammar.specs.Emphasis.{Sibling, agrees, pair_of, runs_of};
-ghost use Rattle.cmark_grammar.specs.EmphasisModel.{pairs_of};
+ghost use Rattle.cmark_inline_model.specs.EmphasisModel.{pairs_of};
 ghost use Rattle.cmark_grammar.specs.Emphasis as grammar;
 ghost use Rattle.cmark_emphasis.specs.Shown.{shown_run, shown_pair, open_runs, IsPlaced};
 ghost use Rattle.cmark_emphasis.specs.Bottoms.{AreBottoms, active_runs};
@@ -25,7 +25,7 @@ fn keeps_rule_of_three(opener: Run, closer: Run) -> bool
     !either_can_both || opener.run_length % 3 + closer.run_length % 3 != 3
 }
 
-/// Whether the delimiter is a tilde or an equals sign. Only runs of the same length pair for these.
+/// Whether the delimiter is a tilde or an equals sign. Only runs of equal length pair for these.
 fn is_tilde_or_equals(delimiter: u8) -> bool
     ensures { result ≡ grammar.is_tilde_or_equals delimiter }
 {
@@ -236,7 +236,7 @@ fn pair_two(
 /// pairs.
 ///
 /// `examined` counts the open runs that searches examine, at most fifteen for each run. A search that finds nothing is not repeated for a
-/// run of the same class (`OpenersBottom`). A search that finds an open run takes all runs that it passed off the stack.
+/// run of its class (`OpenersBottom`). A search that finds an open run takes all runs that it passed off the stack.
 pub fn pair_runs(
     runs: &[Run],
     stack: &mut Vec<Run>,

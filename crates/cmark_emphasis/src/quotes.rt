@@ -3,7 +3,7 @@
 ghost use Rattle.std.specs.Prelude.{◌≡◌, ◌<◌, ◌++◌, List, ◌∷◌, [], length, map, OnOk, IfOk, IfSome};
 ghost use Rattle.cmark_grammar.specs.Quotes as grammar;
 ghost use Rattle.cmark_emphasis.specs.Shown.{shown_quote};
-ghost use Rattle.cmark_emphasis.specs.QuoteSteps.{IsBehind, double_after, double_character_after, single_after, turned};
+ghost use Rattle.cmark_emphasis.specs.QuoteSteps.{IsAfter, double_after, double_character_after, single_after, turned};
 
 use crate::flanking::side_of;
 use std::alloc::AllocError;
@@ -44,11 +44,11 @@ pub fn quote_of(double: bool, before: Option<char>, after: Option<char>) -> Quot
 {
     let left = side_of(before);
     let right = side_of(after);
-    let opens_behind_punctuation = double || !is_closing_bracket(before);
+    let opens_after_punctuation = double || !is_closing_bracket(before);
     Quote {
         double,
         opens: !right.white_space
-            && (left.white_space || left.punctuation && opens_behind_punctuation),
+            && (left.white_space || left.punctuation && opens_after_punctuation),
         closes: !left.white_space && (right.white_space || right.punctuation),
     }
 }
@@ -97,9 +97,9 @@ fn add_quote(
     opened: OpenQuotes,
     characters: &mut Vec<char>,
 ) -> Result<OpenQuotes, AllocError>
-    requires { (before : List grammar.Quote) × IsBehind before opened.single opened.double characters.old.items }
-    ensures { IfOk result (λ next. (before : List grammar.Quote) → IsBehind before opened.single opened.double characters.old.items
-        → IsBehind (shown_quote quote ∷ before) next.single next.double characters.new.items) }
+    requires { (before : List grammar.Quote) × IsAfter before opened.single opened.double characters.old.items }
+    ensures { IfOk result (λ next. (before : List grammar.Quote) → IsAfter before opened.single opened.double characters.old.items
+        → IsAfter (shown_quote quote ∷ before) next.single next.double characters.new.items) }
 {
     if quote.double {
         let double = add_double(quote, opened.double, characters)?;

@@ -2,7 +2,7 @@
 
 ghost use Rattle.std.specs.Prelude.{◌≡◌, ◌+◌, ◌*◌, ◌^◌, ◌<◌, ◌≤◌, All, List, [], length, map, OnOk};
 ghost use Rattle.cmark_grammar.specs.Emphasis.{Sibling, StandFrom, places_taken, runs_of};
-ghost use Rattle.cmark_grammar.specs.EmphasisModel.{spans_of};
+ghost use Rattle.cmark_inline_model.specs.EmphasisModel.{spans_of};
 ghost use Rattle.cmark_emphasis.specs.Counts.{IsKnown};
 ghost use Rattle.cmark_emphasis.specs.Least.{least_examined};
 ghost use Rattle.cmark_emphasis.specs.Shown.{shown_run};

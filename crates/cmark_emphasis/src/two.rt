@@ -2,7 +2,7 @@
 
 ghost use Rattle.std.specs.Prelude.{◌≡◌, ◌++◌, ◌∷◌, ◌+◌, ◌^◌, ◌<◌, ◌≤◌, if◌then◌else◌, true, false, [], is_some, IfOk, IfSome};
 ghost use Rattle.cmark_grammar.specs.Emphasis.{StandFrom};
-ghost use Rattle.cmark_grammar.specs.EmphasisModel.{spans_of};
+ghost use Rattle.cmark_inline_model.specs.EmphasisModel.{spans_of};
 ghost use Rattle.cmark_emphasis.specs.Least.{least_examined};
 ghost use Rattle.cmark_emphasis.specs.Shown.{shown_kind, shown_run};
 ghost use Rattle.cmark_emphasis.specs.Slots.{AreBalanced, closing, opening, slots_of};

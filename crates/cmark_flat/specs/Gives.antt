@@ -13,7 +13,7 @@ abbrev pub Fails : {Y : Type 0} → DecodeError → Option Y → Type 0
 Fails errors.NoMemory read = Unit {0}
 Fails errors.Malformed read = read ≡ None
 
--- the same for code that may be refused memory
+-- code that may be refused memory gives this value, or fails as the definition does
 abbrev pub Gives : {X Y : Type 0} → (X → Y) → Result X DecodeError → Option Y → Type 0
 Gives view (Ok x) read = read ≡ Some (view x)
 Gives view (Err e) read = Fails e read

@@ -1,3 +1,4 @@
+pub mod Appended
 pub mod Numbers
 pub mod Records
 pub mod Flat

@@ -5,7 +5,7 @@ ghost use Rattle.cmark_flat.specs.Flat.{alignment_number, code_number, end_datum
 ghost use Rattle.cmark_grammar.specs.LinkType.{WikiLink};
 ghost use Rattle.cmark_text.specs.Short.{shown_plain};
 ghost use Rattle.cmark_text.specs.Shown.{shown, shown_end, shown_tag};
-ghost use Rattle.cmark_text_parts.specs.Shown.{level_number, shown_alignment, shown_block_quote_kind, shown_code_block_kind, shown_link_type, shown_metadata_block_kind};
+ghost use Rattle.cmark_values.specs.Shown.{level_number, shown_alignment, shown_block_quote_kind, shown_code_block_kind, shown_link_type, shown_metadata_block_kind};
 
 use crate::numbers::*;
 use cmark_text::{

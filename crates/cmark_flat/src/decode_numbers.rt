@@ -4,7 +4,7 @@ ghost use Rattle.std.specs.Prelude.{◌≡◌, option_map};
 ghost use Rattle.cmark_flat.specs.Decode.{alignment_of, flag_of, level_of, link_of, metadata_of, plain_end, plain_tag, quote_of};
 ghost use Rattle.cmark_flat.specs.Gives.{Reads};
 ghost use Rattle.cmark_text.specs.Shown.{shown_end, shown_tag};
-ghost use Rattle.cmark_text_parts.specs.Shown.{level_number, shown_alignment, shown_block_quote_kind, shown_link_type, shown_metadata_block_kind};
+ghost use Rattle.cmark_values.specs.Shown.{level_number, shown_alignment, shown_block_quote_kind, shown_link_type, shown_metadata_block_kind};
 
 use crate::numbers::*;
 use cmark_text::{

@@ -1,6 +1,7 @@
 //! The records of link reference definitions.
 
-ghost use Rattle.std.specs.Prelude.{◌≡◌, ◌++◌, option_map, OnOk};
+ghost use Rattle.std.specs.Prelude.{option_map};
+ghost use Rattle.cmark_flat.specs.Appended.{AppendsOnOk};
 ghost use Rattle.cmark_flat.specs.Definitions.{definition_parts, definition_records, title_parts};
 ghost use Rattle.cmark_flat.specs.Records.{spelled};
 
@@ -19,7 +20,7 @@ pub fn append_definition(
     title: Option<&str>,
     range: &Range<usize>,
 ) -> Result<(), AllocError>
-    ensures { OnOk result (out.new.items ≡ out.old.items ++ spelled (definition_records (record {
+    ensures { AppendsOnOk out.old out.new result (spelled (definition_records (record {
       label = label.now;
       destination = destination.now;
       title = option_map (λ t. t.now) title.entry;
@@ -42,7 +43,8 @@ pub fn append_definition(
 
 /// Appends the title of a definition, if it has one.
 fn put_title(out: &mut Vec<u8>, title: Option<&str>) -> Result<(), AllocError>
-    ensures { OnOk result (out.new.items ≡ out.old.items ++ spelled (title_parts (option_map (λ t. t.now) title.entry))) }
+    ensures { AppendsOnOk out.old out.new result
+        (spelled (title_parts (option_map (λ t. t.now) title.entry))) }
 {
     match title {
         None => Ok(()),

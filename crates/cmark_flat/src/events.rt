@@ -9,7 +9,7 @@ ghost use Rattle.cmark_flat.specs.Records.{shown_record};
 ghost use Rattle.cmark_grammar.specs.Tag.{FootnoteDefinition};
 ghost use Rattle.cmark_text.specs.Ranged.{shown_ranged};
 ghost use Rattle.cmark_text.specs.Shown.{shown, shown_end, shown_tag};
-ghost use Rattle.cmark_text_parts.specs.Shown.{shown_alignment, shown_code_block_kind};
+ghost use Rattle.cmark_values.specs.Shown.{shown_alignment, shown_code_block_kind};
 
 use crate::decode_numbers::{
     alignment_of, flag_of, level_of, metadata_of, plain_end, plain_tag, quote_of,
@@ -35,7 +35,8 @@ pub fn decode(alloc: Global, bytes: &[u8]) -> Result<Vec<Ranged<'_>>, DecodeErro
 
 /// The events that records stand for.
 fn events_of<'a>(alloc: Global, records: &[Record<'a>]) -> Result<Vec<Ranged<'a>>, DecodeError>
-    ensures { Gives (λ v. map shown_ranged v.items) result (each ranged_of (groups (map shown_record records.now))) }
+    ensures { Gives (λ v. map shown_ranged v.items) result
+        (each ranged_of (groups (map shown_record records.now))) }
 {
     let mut events = Vec::new(alloc);
     let mut at = 0;
@@ -75,7 +76,8 @@ fn ranged_of<'a>(
     own: &Record<'a>,
     parts: &[Record<'a>],
 ) -> Result<Ranged<'a>, DecodeError>
-    ensures { Gives shown_ranged result (ranged_of (record { own = shown_record own.now; parts = map shown_record parts.now })) }
+    ensures { Gives shown_ranged result
+        (ranged_of (record { own = shown_record own.now; parts = map shown_record parts.now })) }
 {
     let event = event_of(alloc, own, parts)?;
     Ok(Ranged {
@@ -209,7 +211,8 @@ fn heading_of<'a>(
     own: &Record<'a>,
     parts: &[Record<'a>],
 ) -> Result<Tag<'a>, DecodeError>
-    ensures { Gives shown_tag result (heading_of (shown_record own.now) (map shown_record parts.now)) }
+    ensures { Gives shown_tag result
+        (heading_of (shown_record own.now) (map shown_record parts.now)) }
 {
     if !own.text.is_empty() {
         return Err(DecodeError::Malformed);
@@ -245,7 +248,8 @@ fn list_of<'a>(own: &Record<'a>, parts: &[Record<'a>]) -> Option<Tag<'a>>
 
 /// A link.
 fn link_of<'a>(own: &Record<'a>, parts: &[Record<'a>]) -> Option<Tag<'a>>
-    ensures { Reads shown_tag result (link_tag_of (shown_record own.now) (map shown_record parts.now)) }
+    ensures { Reads shown_tag result
+        (link_tag_of (shown_record own.now) (map shown_record parts.now)) }
 {
     let linked = linked_of(own, parts)?;
     Some(Tag::Link {
@@ -258,7 +262,8 @@ fn link_of<'a>(own: &Record<'a>, parts: &[Record<'a>]) -> Option<Tag<'a>>
 
 /// An image.
 fn image_of<'a>(own: &Record<'a>, parts: &[Record<'a>]) -> Option<Tag<'a>>
-    ensures { Reads shown_tag result (image_tag_of (shown_record own.now) (map shown_record parts.now)) }
+    ensures { Reads shown_tag result
+        (image_tag_of (shown_record own.now) (map shown_record parts.now)) }
 {
     let linked = linked_of(own, parts)?;
     Some(Tag::Image {
@@ -325,7 +330,8 @@ fn block_of<'a>(own: &Record<'a>) -> Option<Tag<'a>>
 
 /// A footnote definition.
 fn footnote_of<'a>(own: &Record<'a>) -> Option<Tag<'a>>
-    ensures { Reads shown_tag result (some_if (own.now.datum == no_data) (FootnoteDefinition own.now.text.now)) }
+    ensures { Reads shown_tag result
+        (some_if (own.now.datum == no_data) (FootnoteDefinition own.now.text.now)) }
 {
     if own.datum == NO_DATA {
         Some(Tag::FootnoteDefinition(CowStr::Borrowed(own.text)))

@@ -20,7 +20,7 @@ mod short;
 pub use definitions::append_definition;
 pub use error::DecodeError;
 pub use events::decode;
-pub use html::render;
+pub use html::{render, render_safe};
 pub use laws::{flat_definitions_are_decoded, flat_events_are_decoded, flat_replies_are_decoded};
 pub use put::{append_event, append_given};
 pub use questions::append_question;

@@ -5,7 +5,7 @@ ghost use Rattle.cmark_flat.specs.Decode.{attribute_at, attribute_of, attributes
 ghost use Rattle.cmark_flat.specs.Flat.{alignment_number};
 ghost use Rattle.cmark_flat.specs.Gives.{Gives, Reads};
 ghost use Rattle.cmark_flat.specs.Records.{shown_record};
-ghost use Rattle.cmark_text_parts.specs.Shown.{shown_attribute, shown_attributes, shown_linked, text_bytes};
+ghost use Rattle.cmark_values.specs.Shown.{shown_attribute, shown_attributes, shown_linked, text_bytes};
 
 use crate::decode_numbers::link_of;
 use crate::error::DecodeError;
@@ -58,7 +58,8 @@ fn attribute_of<'a>(
     name: &Record<'a>,
     value: &Record<'a>,
 ) -> Option<(CowStr<'a>, Option<CowStr<'a>>)>
-    ensures { Reads shown_attribute result (attribute_of (shown_record name.now) (shown_record value.now)) }
+    ensures { Reads shown_attribute result
+        (attribute_of (shown_record name.now) (shown_record value.now)) }
 {
     let name = part_text(ATTRIBUTE_PART, name)?;
     let value = value_of(value)?;
@@ -81,7 +82,8 @@ fn attributes_of<'a>(
     alloc: Global,
     parts: &[Record<'a>],
 ) -> Result<Vec<(CowStr<'a>, Option<CowStr<'a>>)>, DecodeError>
-    ensures { Gives (λ v. map shown_attribute v.items) result (attributes_of (map shown_record parts.now)) }
+    ensures { Gives (λ v. map shown_attribute v.items) result
+        (attributes_of (map shown_record parts.now)) }
 {
     let mut attributes = Vec::new(alloc);
     let mut at = 0;
@@ -100,7 +102,8 @@ fn classes_at<'a, 'b>(
     alloc: Global,
     parts: &'b [Record<'a>],
 ) -> Result<(Vec<CowStr<'a>>, &'b [Record<'a>]), DecodeError>
-    ensures { Gives (λ x. (map text_bytes x.0.items, map shown_record x.1.now)) result (classes_at (map shown_record parts.now)) }
+    ensures { Gives (λ x. (map text_bytes x.0.items, map shown_record x.1.now)) result
+        (classes_at (map shown_record parts.now)) }
 {
     let mut classes = Vec::new(alloc);
     let mut rest = parts;
@@ -119,7 +122,8 @@ fn classes_at<'a, 'b>(
 
 /// The id of a heading, if one comes first, and the records after it.
 fn id_at<'a, 'b>(parts: &'b [Record<'a>]) -> Option<(Option<CowStr<'a>>, &'b [Record<'a>])>
-    ensures { Reads (λ x. (option_map text_bytes x.0, map shown_record x.1.now)) result (id_at (map shown_record parts.now)) }
+    ensures { Reads (λ x. (option_map text_bytes x.0, map shown_record x.1.now)) result
+        (id_at (map shown_record parts.now)) }
 {
     let [first, after @ ..] = parts else {
         return Some((None, parts));
@@ -145,7 +149,8 @@ pub fn heading_parts_of<'a>(
     alloc: Global,
     parts: &[Record<'a>],
 ) -> Result<HeadingParts<'a>, DecodeError>
-    ensures { Gives (λ x. shown_attributes x.id x.classes.items x.attrs.items) result (heading_parts_of (map shown_record parts.now)) }
+    ensures { Gives (λ x. shown_attributes x.id x.classes.items x.attrs.items) result
+        (heading_parts_of (map shown_record parts.now)) }
 {
     let Some((id, rest)) = id_at(parts) else {
         return Err(DecodeError::Malformed);
@@ -166,7 +171,8 @@ pub struct Linked<'a> {
 
 /// The link or image of a record and its further records.
 pub fn linked_of<'a>(own: &Record<'a>, parts: &[Record<'a>]) -> Option<Linked<'a>>
-    ensures { Reads (λ x. shown_linked x.link_type x.dest_url x.title x.id) result (linked_of (shown_record own.now) (map shown_record parts.now)) }
+    ensures { Reads (λ x. shown_linked x.link_type x.dest_url x.title x.id) result
+        (linked_of (shown_record own.now) (map shown_record parts.now)) }
 {
     let [title, label] = parts else {
         return None;

@@ -1,12 +1,13 @@
 //! The records of events.
 
-ghost use Rattle.std.specs.Prelude.{◌≡◌, ◌++◌, length, map, option_map, OnOk};
+ghost use Rattle.std.specs.Prelude.{◌≡◌, ◌++◌, length, map, option_map};
 ghost use Rattle.std.specs.List.{flat_map};
+ghost use Rattle.cmark_flat.specs.Appended.{AppendsOnOk};
 ghost use Rattle.cmark_flat.specs.Flat.{alignment_number, attribute_parts, class_part, event_parts, event_record, event_text, first_part, id_part, info_text, part, records, tag_parts, tag_text};
 ghost use Rattle.cmark_flat.specs.Numbers.{label_part, title_part};
 ghost use Rattle.cmark_flat.specs.Records.{record_bytes, spelled};
 ghost use Rattle.cmark_text.specs.Shown.{shown, shown_tag};
-ghost use Rattle.cmark_text_parts.specs.Shown.{shown_alignment, shown_attribute, shown_attributes, shown_code_block_kind, text_bytes};
+ghost use Rattle.cmark_values.specs.Shown.{shown_alignment, shown_attribute, shown_attributes, shown_code_block_kind, text_bytes};
 
 use crate::codes;
 use crate::numbers::*;
@@ -21,8 +22,8 @@ pub fn append_event(
     event: &Event<'_>,
     range: &Range<usize>,
 ) -> Result<(), AllocError>
-    ensures { OnOk result (out.new.items ≡ out.old.items
-        ++ spelled (records (record { event = shown event.now; start = range.now.start; end = range.now.end }))) }
+    ensures { AppendsOnOk out.old out.new result (spelled (records
+        (record { event = shown event.now; start = range.now.start; end = range.now.end }))) }
 {
     put_record(out, event, range)?;
     match event {
@@ -38,8 +39,8 @@ pub fn append_given(
     event: Event<'_>,
     range: Range<usize>,
 ) -> Result<(), AllocError>
-    ensures { OnOk result (out.new.items ≡ out.old.items
-        ++ spelled (records (record { event = shown event.entry; start = range.start; end = range.end }))) }
+    ensures { AppendsOnOk out.old out.new result (spelled (records
+        (record { event = shown event.entry; start = range.start; end = range.end }))) }
 {
     let written = append_event(out, &event, &range);
     drop(event);
@@ -48,8 +49,8 @@ pub fn append_given(
 
 /// Appends the record of an event without its further records.
 fn put_record(out: &mut Vec<u8>, event: &Event<'_>, range: &Range<usize>) -> Result<(), AllocError>
-    ensures { OnOk result (out.new.items ≡ out.old.items
-        ++ record_bytes (event_record (record { event = shown event.now; start = range.now.start; end = range.now.end }))) }
+    ensures { AppendsOnOk out.old out.new result (record_bytes (event_record
+        (record { event = shown event.now; start = range.now.start; end = range.now.end }))) }
 {
     let mark = Mark {
         kind: codes::kind_number(event),
@@ -104,7 +105,7 @@ fn info_size(kind: &CodeBlockKind<'_>) -> usize
 
 /// Appends the text of an event.
 fn put_text(out: &mut Vec<u8>, event: &Event<'_>) -> Result<(), AllocError>
-    ensures { OnOk result (out.new.items ≡ out.old.items ++ event_text (shown event.now)) }
+    ensures { AppendsOnOk out.old out.new result (event_text (shown event.now)) }
 {
     match event {
         Event::Start(tag) => put_tag_text(out, tag),
@@ -121,7 +122,7 @@ fn put_text(out: &mut Vec<u8>, event: &Event<'_>) -> Result<(), AllocError>
 
 /// Appends the text of a tag.
 fn put_tag_text(out: &mut Vec<u8>, tag: &Tag<'_>) -> Result<(), AllocError>
-    ensures { OnOk result (out.new.items ≡ out.old.items ++ tag_text (shown_tag tag.now)) }
+    ensures { AppendsOnOk out.old out.new result (tag_text (shown_tag tag.now)) }
 {
     match tag {
         Tag::CodeBlock(kind) => put_info(out, kind),
@@ -135,7 +136,7 @@ fn put_tag_text(out: &mut Vec<u8>, tag: &Tag<'_>) -> Result<(), AllocError>
 
 /// Appends an info string.
 fn put_info(out: &mut Vec<u8>, kind: &CodeBlockKind<'_>) -> Result<(), AllocError>
-    ensures { OnOk result (out.new.items ≡ out.old.items ++ info_text (shown_code_block_kind kind.now)) }
+    ensures { AppendsOnOk out.old out.new result (info_text (shown_code_block_kind kind.now)) }
 {
     match kind {
         CodeBlockKind::Indented => Ok(()),
@@ -145,7 +146,8 @@ fn put_info(out: &mut Vec<u8>, kind: &CodeBlockKind<'_>) -> Result<(), AllocErro
 
 /// Appends a byte for each column of a table.
 fn put_alignments(out: &mut Vec<u8>, alignments: &[Alignment]) -> Result<(), AllocError>
-    ensures { OnOk result (out.new.items ≡ out.old.items ++ map alignment_number (map shown_alignment alignments.now)) }
+    ensures { AppendsOnOk out.old out.new result
+        (map alignment_number (map shown_alignment alignments.now)) }
 {
     for alignment in alignments {
         out.push(codes::alignment_number(*alignment))?;
@@ -155,7 +157,7 @@ fn put_alignments(out: &mut Vec<u8>, alignments: &[Alignment]) -> Result<(), All
 
 /// Appends a further record with a text.
 pub fn put_part(out: &mut Vec<u8>, tag: u8, text: &str) -> Result<(), AllocError>
-    ensures { OnOk result (out.new.items ≡ out.old.items ++ record_bytes (part tag text.now)) }
+    ensures { AppendsOnOk out.old out.new result (record_bytes (part tag text.now)) }
 {
     let record = Record {
         kind: FURTHER_KIND,
@@ -170,7 +172,7 @@ pub fn put_part(out: &mut Vec<u8>, tag: u8, text: &str) -> Result<(), AllocError
 
 /// Appends the further records of a start.
 pub fn put_parts(out: &mut Vec<u8>, tag: &Tag<'_>) -> Result<(), AllocError>
-    ensures { OnOk result (out.new.items ≡ out.old.items ++ spelled (tag_parts (shown_tag tag.now))) }
+    ensures { AppendsOnOk out.old out.new result (spelled (tag_parts (shown_tag tag.now))) }
 {
     match tag {
         Tag::Heading {
@@ -192,8 +194,9 @@ pub fn put_parts(out: &mut Vec<u8>, tag: &Tag<'_>) -> Result<(), AllocError>
 
 /// Appends the title and the label of a link or an image.
 fn put_linked(out: &mut Vec<u8>, title: &CowStr<'_>, id: &CowStr<'_>) -> Result<(), AllocError>
-    ensures { OnOk result (out.new.items ≡ out.old.items
-        ++ (record_bytes (part title_part (text_bytes title.now)) ++ record_bytes (part label_part (text_bytes id.now)))) }
+    ensures { AppendsOnOk out.old out.new result
+        (record_bytes (part title_part (text_bytes title.now))
+        ++ record_bytes (part label_part (text_bytes id.now))) }
 {
     put_part(out, TITLE_PART, title.as_str())?;
     put_part(out, LABEL_PART, id.as_str())
@@ -201,7 +204,7 @@ fn put_linked(out: &mut Vec<u8>, title: &CowStr<'_>, id: &CowStr<'_>) -> Result<
 
 /// Appends the first number of an ordered list.
 pub fn put_first(out: &mut Vec<u8>, first: Option<u64>) -> Result<(), AllocError>
-    ensures { OnOk result (out.new.items ≡ out.old.items ++ spelled (first_part first)) }
+    ensures { AppendsOnOk out.old out.new result (spelled (first_part first)) }
 {
     let Some(first) = first else {
         return Ok(());
@@ -219,7 +222,8 @@ pub fn put_first(out: &mut Vec<u8>, first: Option<u64>) -> Result<(), AllocError
 
 /// Appends the id of a heading, if it has one.
 fn put_id(out: &mut Vec<u8>, id: &Option<CowStr<'_>>) -> Result<(), AllocError>
-    ensures { OnOk result (out.new.items ≡ out.old.items ++ spelled (id_part (option_map text_bytes id.now))) }
+    ensures { AppendsOnOk out.old out.new result
+        (spelled (id_part (option_map text_bytes id.now))) }
 {
     match id {
         None => Ok(()),
@@ -229,7 +233,8 @@ fn put_id(out: &mut Vec<u8>, id: &Option<CowStr<'_>>) -> Result<(), AllocError>
 
 /// Appends the classes of a heading.
 fn put_classes(out: &mut Vec<u8>, classes: &[CowStr<'_>]) -> Result<(), AllocError>
-    ensures { OnOk result (out.new.items ≡ out.old.items ++ spelled (map class_part (map text_bytes classes.now))) }
+    ensures { AppendsOnOk out.old out.new result
+        (spelled (map class_part (map text_bytes classes.now))) }
 {
     for class in classes {
         put_part(out, CLASS_PART, class.as_str())?;
@@ -242,7 +247,8 @@ fn put_attributes(
     out: &mut Vec<u8>,
     attributes: &[(CowStr<'_>, Option<CowStr<'_>>)],
 ) -> Result<(), AllocError>
-    ensures { OnOk result (out.new.items ≡ out.old.items ++ spelled (flat_map attribute_parts (map shown_attribute attributes.now))) }
+    ensures { AppendsOnOk out.old out.new result
+        (spelled (flat_map attribute_parts (map shown_attribute attributes.now))) }
 {
     for attribute in attributes {
         put_attribute(out, attribute)?;
@@ -255,7 +261,8 @@ fn put_attribute(
     out: &mut Vec<u8>,
     attribute: &(CowStr<'_>, Option<CowStr<'_>>),
 ) -> Result<(), AllocError>
-    ensures { OnOk result (out.new.items ≡ out.old.items ++ spelled (attribute_parts (shown_attribute attribute.now))) }
+    ensures { AppendsOnOk out.old out.new result
+        (spelled (attribute_parts (shown_attribute attribute.now))) }
 {
     put_part(out, ATTRIBUTE_PART, attribute.0.as_str())?;
     match &attribute.1 {

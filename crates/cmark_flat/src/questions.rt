@@ -1,9 +1,9 @@
 //! The records of questions about links without a definition.
 
-ghost use Rattle.std.specs.Prelude.{◌≡◌, ◌++◌, OnOk};
+ghost use Rattle.cmark_flat.specs.Appended.{AppendsOnOk};
 ghost use Rattle.cmark_flat.specs.Questions.{question_record};
 ghost use Rattle.cmark_flat.specs.Records.{record_bytes};
-ghost use Rattle.cmark_text_parts.specs.Shown.{shown_link_type};
+ghost use Rattle.cmark_values.specs.Shown.{shown_link_type};
 
 use crate::codes::link_number;
 use crate::numbers::*;
@@ -20,7 +20,7 @@ pub fn append_question(
     label: &str,
     range: &Range<usize>,
 ) -> Result<(), AllocError>
-    ensures { OnOk result (out.new.items ≡ out.old.items ++ record_bytes (question_record (record {
+    ensures { AppendsOnOk out.old out.new result (record_bytes (question_record (record {
       start = range.now.start;
       end = range.now.end;
       link_type = shown_link_type link_type;

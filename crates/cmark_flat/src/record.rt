@@ -1,6 +1,7 @@
 //! Records as bytes.
 
-ghost use Rattle.std.specs.Prelude.{◌≡◌, ◌≤◌, ◌++◌, length, take, drop, OnOk};
+ghost use Rattle.std.specs.Prelude.{◌≡◌, ◌≤◌, length, take, drop};
+ghost use Rattle.cmark_flat.specs.Appended.{AppendsOnOk};
 ghost use Rattle.cmark_flat.specs.Records.{head, record_bytes, shown_record, wide};
 
 use std::alloc::AllocError;
@@ -27,7 +28,7 @@ pub struct Mark {
 /// Appends a number as eight bytes.
 #[tactic(auto, unfolding(crate::specs::Records::wide))]
 fn put_wide(out: &mut Vec<u8>, number: u64) -> Result<(), AllocError>
-    ensures { OnOk result (out.new.items ≡ out.old.items ++ wide number) }
+    ensures { AppendsOnOk out.old out.new result (wide number) }
 {
     out.extend_from_slice(&number.to_le_bytes())
 }
@@ -40,7 +41,8 @@ pub fn put_head(
     end: u64,
     size: usize,
 ) -> Result<(), AllocError>
-    ensures { OnOk result (out.new.items ≡ out.old.items ++ head mark.kind mark.tag mark.datum start end size) }
+    ensures { AppendsOnOk out.old out.new result
+        (head mark.kind mark.tag mark.datum start end size) }
 {
     out.extend_from_slice(&[mark.kind, mark.tag, mark.datum, 0, 0, 0, 0, 0])?;
     put_wide(out, start)?;
@@ -50,7 +52,7 @@ pub fn put_head(
 
 /// Appends a record.
 pub fn put(out: &mut Vec<u8>, given: Record<'_>) -> Result<(), AllocError>
-    ensures { OnOk result (out.new.items ≡ out.old.items ++ record_bytes (shown_record given.entry)) }
+    ensures { AppendsOnOk out.old out.new result (record_bytes (shown_record given.entry)) }
 {
     let mark = Mark {
         kind: given.kind,

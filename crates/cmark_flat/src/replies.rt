@@ -46,7 +46,8 @@ pub fn decode_replies(alloc: Global, bytes: &[u8]) -> Result<Vec<Reply<'_>>, Dec
 
 /// The replies that records stand for.
 fn replies_of<'a>(alloc: Global, records: &[Record<'a>]) -> Result<Vec<Reply<'a>>, DecodeError>
-    ensures { Gives (λ v. map shown_reply v.items) result (each reply_of (groups (map shown_record records.now))) }
+    ensures { Gives (λ v. map shown_reply v.items) result
+        (each reply_of (groups (map shown_record records.now))) }
 {
     let mut replies = Vec::new(alloc);
     let mut at = 0;
@@ -71,7 +72,8 @@ fn reply_at<'a>(records: &[Record<'a>]) -> Option<Reply<'a>>
 
 /// The reply of a record and its further records.
 fn reply_of<'a>(own: &Record<'a>, parts: &[Record<'a>]) -> Option<Reply<'a>>
-    ensures { Reads shown_reply result (reply_of (record { own = shown_record own.now; parts = map shown_record parts.now })) }
+    ensures { Reads shown_reply result
+        (reply_of (record { own = shown_record own.now; parts = map shown_record parts.now })) }
 {
     if own.kind != ANSWER_KIND || own.tag != NO_TAG {
         return None;
@@ -86,7 +88,8 @@ fn reply_of<'a>(own: &Record<'a>, parts: &[Record<'a>]) -> Option<Reply<'a>>
 
 /// The answer of a record and its further records.
 fn answer_of<'a>(own: &Record<'a>, parts: &[Record<'a>]) -> Option<Option<Answer<'a>>>
-    ensures { Reads shown_answer result (answer_of (shown_record own.now) (map shown_record parts.now)) }
+    ensures { Reads shown_answer result
+        (answer_of (shown_record own.now) (map shown_record parts.now)) }
 {
     match parts {
         [] if own.datum == NO && own.text.is_empty() => Some(None),

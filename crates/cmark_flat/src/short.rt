@@ -1,6 +1,7 @@
 //! The records of events that own nothing, without an `Event`.
 
-ghost use Rattle.std.specs.Prelude.{◌≡◌, ◌++◌, OnOk};
+ghost use Rattle.std.specs.Prelude.{◌≡◌};
+ghost use Rattle.cmark_flat.specs.Appended.{AppendsOnOk};
 ghost use Rattle.cmark_flat.specs.Flat.{event_datum, event_record, event_tag, event_text, kind_number, records, tag_parts};
 ghost use Rattle.cmark_flat.specs.Records.{record_bytes, spelled};
 ghost use Rattle.cmark_text.specs.Short.{ranged_short, shown_plain, shown_short};
@@ -21,7 +22,8 @@ pub fn append_short(
     start: usize,
     end: usize,
 ) -> Result<(), AllocError>
-    ensures { OnOk result (out.new.items ≡ out.old.items ++ spelled (records (ranged_short short.entry start end))) }
+    ensures { AppendsOnOk out.old out.new result
+        (spelled (records (ranged_short short.entry start end))) }
 {
     put_short(out, short, start, end)?;
     match short {
@@ -38,7 +40,8 @@ fn put_short(
     start: usize,
     end: usize,
 ) -> Result<(), AllocError>
-    ensures { OnOk result (out.new.items ≡ out.old.items ++ record_bytes (event_record (ranged_short short.entry start end))) }
+    ensures { AppendsOnOk out.old out.new result
+        (record_bytes (event_record (ranged_short short.entry start end))) }
 {
     let text = text_of(short);
     put_head(out, mark_of(short), start as u64, end as u64, text.len())?;
@@ -47,7 +50,7 @@ fn put_short(
 
 /// Appends the further records of a start.
 fn put_plain_parts(out: &mut Vec<u8>, tag: PlainTag) -> Result<(), AllocError>
-    ensures { OnOk result (out.new.items ≡ out.old.items ++ spelled (tag_parts (shown_plain tag))) }
+    ensures { AppendsOnOk out.old out.new result (spelled (tag_parts (shown_plain tag))) }
 {
     match tag {
         PlainTag::List(first) => put_first(out, first),

@@ -40,7 +40,7 @@ answer_found start end (r ∷ rs) = go (has_range start end r) (answer_found sta
     go true h = refl
     go false h = h
 
--- one reply more, behind the others
+-- one more reply, after the others
 pub found_push : (start end : ℕ) (rs : List Reply) (r : Reply) → found_at start end (rs ++ r ∷ []) ≡ first_or (found_at start end rs) (cond (has_range start end r) (Some r.answer) None)
 found_push start end [] r = refl
 found_push start end (s ∷ rs) r = go (has_range start end s) (found_push start end rs r)

@@ -4,7 +4,7 @@ use Rattle.cmark_flat.specs.Questions.{question_record}
 use Rattle.cmark_flat.specs.Records.{record_bytes}
 use Rattle.cmark_inline.specs.Decided.{shown_answer, shown_question}
 use Rattle.cmark_inline.specs.declared.callback.BrokenLink.{BrokenLink}
-use Rattle.cmark_text_parts.specs.declared.text.CowStr.{CowStr}
+use Rattle.cmark_values.specs.declared.text.CowStr.{CowStr}
 use Rattle.cmark_flat_links.specs.Table.{answer_in}
 use Rattle.cmark_flat_links.specs.declared.answering.Answering.{Answering}
 

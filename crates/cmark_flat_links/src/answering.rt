@@ -35,7 +35,8 @@ impl<'a> Answering<'a> {
 
     /// The records of the questions so far. Fails if memory was refused for one of them.
     pub fn asked(&self) -> Result<&[u8], AllocError>
-        ensures { IfOk result (λ records. (records.now ≡ self.now.asked.items) × (self.now.is_refused ≡ false)) }
+        ensures { IfOk result
+            (λ records. (records.now ≡ self.now.asked.items) × (self.now.is_refused ≡ false)) }
     {
         match self.is_refused {
             true => Err(AllocError),

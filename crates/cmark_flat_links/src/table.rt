@@ -19,7 +19,8 @@ pub struct AnswerTable<'a> {
 impl<'a> AnswerTable<'a> {
     /// The table of these replies. Fails if memory is refused.
     pub fn new(alloc: Global, replies: &[Reply<'a>]) -> Result<AnswerTable<'a>, AllocError>
-        ensures { IfOk result (λ table. (start end : ℕ) → answer_in table start end ≡ answer_at start end (map shown_reply replies.now)) }
+        ensures { IfOk result (λ table. (start end : ℕ) →
+            answer_in table start end ≡ answer_at start end (map shown_reply replies.now)) }
     {
         let mut answers = BTreeMap::new(alloc);
         for reply in replies {

@@ -1,5 +1,5 @@
 -- Examples of email addresses, and of the autolinks that they make (CommonMark 6.5), computed.
-use Rattle.std.specs.Prelude.{◌≡◌, ◌==◌, ◌&&◌, ◌||◌, not, ℕ, zero, suc, Bool, true, false, List, [], ◌∷◌, ◌++◌, codes, if◌then◌else◌, replicate, Option, Some, None}
+use Rattle.std.specs.Prelude.{◌≡◌, ℕ, zero, suc, true, false, List, [], ◌∷◌, ◌++◌, codes, if◌then◌else◌, replicate, None}
 use Rattle.std.specs.Str.{chars}
 use Rattle.std.proofs.Common.{refl}
 use lib.Utf8.{encode}
@@ -7,7 +7,7 @@ use Rattle.ucd_category.proofs.Computing.{ucd_category}
 use Rattle.cmark_grammar.specs.Autolinks.{autolink_in, is_email, is_local_byte}
 use Rattle.cmark_grammar.specs.Flanking.{is_unicode_white_space, is_unicode_punctuation}
 use Rattle.cmark_grammar.specs.InlineTokens.{token}
-use Rattle.cmark_grammar.specs.Items.{ItemKind, Plain, Own, Autolink, Html, Token}
+use Rattle.cmark_grammar.specs.Items.{Own, Autolink}
 use Rattle.cmark_grammar.specs.LinkType as link
 use Rattle.cmark_grammar.specs.Options.{Options, no_options}
 use Rattle.cmark_grammar.specs.Siblings.{address_type}

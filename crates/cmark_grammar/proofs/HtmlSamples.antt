@@ -93,8 +93,8 @@ open_image : html (image (codes "d") [] ∷ Text (codes "a") ∷ []) ≡ codes "
 open_image = refl
 
 -- no image is a line start
-block_behind_image : html (image (codes "d") [] ∷ Text (codes "a\n") ∷ End end.Image ∷ Rule ∷ []) ≡ codes "<img src=\"d\" alt=\"a\n\" />\n<hr />\n"
-block_behind_image = refl
+block_after_image : html (image (codes "d") [] ∷ Text (codes "a\n") ∷ End end.Image ∷ Rule ∷ []) ≡ codes "<img src=\"d\" alt=\"a\n\" />\n<hr />\n"
+block_after_image = refl
 
 abbrev pub cell : List ℕ → List Event
 cell text = Start tag.TableCell ∷ Text text ∷ End end.TableCell ∷ []

@@ -10,7 +10,7 @@ use Rattle.cmark_grammar.specs.BracketDecisions.{decide}
 use Rattle.cmark_grammar.specs.BracketStates.{Opener, State, Result, StaysText, Forms, Decision, Settled, Asks}
 use Rattle.cmark_grammar.specs.Entities.{basic_entity}
 use Rattle.cmark_grammar.specs.Flanking.{is_unicode_white_space, is_unicode_punctuation}
-use Rattle.cmark_grammar.specs.Formulas.{no_braces, context_of, braces_behind, inline_in}
+use Rattle.cmark_grammar.specs.Formulas.{no_braces, context_of, braces_after, inline_in}
 use Rattle.cmark_grammar.specs.InlineTokens.{token}
 use Rattle.cmark_grammar.specs.Items.{ItemKind, Plain, Own, Code, InlineMath, DisplayMath, Autolink, Html, OwnedHtml, SoftBreak, HardBreak, Bracket, Token, Stands}
 use Rattle.cmark_grammar.specs.LeafText.{Stretch, Leaf}
@@ -57,9 +57,9 @@ unfolding encode chars token ucd_category is_unicode_white_space is_unicode_punc
 plain_text = refl
 
 -- a text begins after a backslash that is removed
-behind_backslash : token (reading no_options (codes "\\*a")) (whole (codes "\\*a")) 0 ≡ stands Plain 1 3 3
+after_backslash : token (reading no_options (codes "\\*a")) (whole (codes "\\*a")) 0 ≡ stands Plain 1 3 3
 unfolding encode chars token ucd_category is_unicode_white_space is_unicode_punctuation
-behind_backslash = refl
+after_backslash = refl
 
 -- a line break removes the blanks after it, and its range is the line ending
 soft_break : token (reading no_options (codes "a \n  b")) (whole (codes "a \n  b")) 1 ≡ stands SoftBreak 2 3 5
@@ -131,19 +131,19 @@ copies : ℕ → ℕ → List ℕ
 copies zero b = []
 copies (suc n) b = b ∷ copies n b
 
-context_behind : List ℕ → ℕ
-context_behind bs = context_of (braces_behind false bs no_braces)
+context_after : List ℕ → ℕ
+context_after bs = context_of (braces_after false bs no_braces)
 
-contexts_of_256_braces : context_behind (copies 256 123) ≡ 255
-unfolding copies context_behind
+contexts_of_256_braces : context_after (copies 256 123) ≡ 255
+unfolding copies context_after
 contexts_of_256_braces = refl
 
-contexts_of_255_braces : context_behind (copies 255 123) ≡ 254
-unfolding copies context_behind
+contexts_of_255_braces : context_after (copies 255 123) ≡ 254
+unfolding copies context_after
 contexts_of_255_braces = refl
 
 -- so the dollar sign after 256 braces closes, and the one after 255 does not
-formula_of_256_braces : inline_in no_braces (97 ∷ (copies 256 123 ++ codes "b$c")) ≡ Some (record { bytes = 97 ∷ (copies 256 123 ++ codes "b"); behind = codes "c" })
+formula_of_256_braces : inline_in no_braces (97 ∷ (copies 256 123 ++ codes "b$c")) ≡ Some (record { bytes = 97 ∷ (copies 256 123 ++ codes "b"); following = codes "c" })
 unfolding copies
 formula_of_256_braces = refl
 
@@ -152,12 +152,12 @@ unfolding copies
 no_formula_of_255_braces = refl
 
 -- a closing brace outside of all begins a context
-outside_brace : context_behind (codes "}") ≡ 0
-unfolding context_behind
+outside_brace : context_after (codes "}") ≡ 0
+unfolding context_after
 outside_brace = refl
 
-escaped_braces : context_behind (codes "\\{\\\\{") ≡ 0
-unfolding context_behind
+escaped_braces : context_after (codes "\\{\\\\{") ≡ 0
+unfolding context_after
 escaped_braces = refl
 
 -- a display may be empty

@@ -69,9 +69,9 @@ decades : typographic (codes "Were you alive in the '70s?") ≡ codes "Were you 
 unfolding ucd_category is_unicode_white_space is_unicode_punctuation
 decades = refl
 
-behind_brackets : typographic (codes "[a]'s b' (\"c\")'d e'") ≡ codes "[a]’s b’ (“c”)’d e’"
+after_brackets : typographic (codes "[a]'s b' (\"c\")'d e'") ≡ codes "[a]’s b’ (“c”)’d e’"
 unfolding ucd_category is_unicode_white_space is_unicode_punctuation
-behind_brackets = refl
+after_brackets = refl
 
 both_can_both : typographic (codes "\"-\"-\"") ≡ codes "“-”-“"
 unfolding ucd_category is_unicode_white_space is_unicode_punctuation

@@ -2,9 +2,11 @@
 use Rattle.std.specs.Prelude.{◌≡◌, ◌∷◌, List, [], Bool, true, false, codes, Option, Some, None, map}
 use Rattle.std.proofs.Common.{refl}
 use Rattle.cmark_grammar.specs.Alignment.{Alignment, Unaligned, Left, Center, Right}
+use Rattle.cmark_grammar.specs.BlockDocument.{TableCell, Text, outline, node}
 use Rattle.cmark_grammar.specs.Options.{Options, no_options}
 use Rattle.cmark_grammar.specs.Rows.{Row, rows, lazy_row, is_blank_line}
 use Rattle.cmark_grammar.specs.TableRows.{cells_of, cells_start, count_missing, most_filled, count_rows, table_head, table_interrupts}
+use Rattle.cmark_grammar.specs.TableTokens.{cells_then}
 
 abbrev tables : Options
 tables = record no_options { tables = true }
@@ -81,11 +83,19 @@ lazy : head_in tables (map lazy_row (rows (codes "a|\n-|"))) ≡ None
 lazy = refl
 
 -- a paragraph is interrupted if the line begins with a pipe, indented by at most three columns
-in_front : interrupts_in (rows (codes " |b|\n|-|")) ≡ true
-in_front = refl
+preceding : interrupts_in (rows (codes " |b|\n|-|")) ≡ true
+preceding = refl
 
-none_in_front : interrupts_in (rows (codes "b|\n-|")) ≡ false
-none_in_front = refl
+none_preceding : interrupts_in (rows (codes "b|\n-|")) ≡ false
+none_preceding = refl
 
 far_in : interrupts_in (rows (codes "    |b|\n|-|")) ≡ false
 far_in = refl
+
+-- the cells of a row: those that are missing are filled in, and those past the last column are left out
+cells_filled_in : outline (cells_then (codes "a|b \n") 3 0 5 (codes "a" ∷ codes "b " ∷ [])) ≡
+    node TableCell 0 1 ∷ node (Text (codes "a")) 0 1 ∷ node TableCell 2 4 ∷ node (Text (codes "b")) 2 3 ∷ node TableCell 5 5 ∷ []
+cells_filled_in = refl
+
+cells_left_out : outline (cells_then (codes "a|b\n") 1 0 4 (codes "a" ∷ codes "b" ∷ [])) ≡ node TableCell 0 1 ∷ node (Text (codes "a")) 0 1 ∷ []
+cells_left_out = refl

@@ -1,48 +1,48 @@
 -- Examples of tags and of other inline HTML (CommonMark 6.5 and 6.6), computed: the bytes after them.
 use Rattle.std.specs.Prelude.{◌≡◌, ℕ, false, List, codes, Option, Some, None}
 use Rattle.std.proofs.Common.{refl}
-use Rattle.cmark_grammar.specs.Tags.{behind_tag, no_prefix}
+use Rattle.cmark_grammar.specs.Tags.{after_tag, no_prefix}
 use Rattle.cmark_grammar.specs.HtmlBlocks.{html_kind}
 use Rattle.cmark_grammar.specs.InlineHtml.{OwnedTag, Find, owned_tag_in, comment_find, processing_find}
 use Rattle.cmark_grammar.specs.Autolinks.{autolink_in}
 
-abbrev behind : List ℕ → Option (List ℕ)
-behind bs = behind_tag no_prefix bs
+abbrev following : List ℕ → Option (List ℕ)
+following bs = after_tag no_prefix bs
 
-open_tag : behind (codes "<bab><c2c>") ≡ Some (codes "<c2c>")
+open_tag : following (codes "<bab><c2c>") ≡ Some (codes "<c2c>")
 open_tag = refl
 
-empty_element : behind (codes "<a/><b2/>") ≡ Some (codes "<b2/>")
+empty_element : following (codes "<a/><b2/>") ≡ Some (codes "<b2/>")
 empty_element = refl
 
-white_space : behind (codes "<b2\ndata=\"foo\" >x") ≡ Some (codes "x")
+white_space : following (codes "<b2\ndata=\"foo\" >x") ≡ Some (codes "x")
 white_space = refl
 
-attributes : behind (codes "<a foo=\"bar\" bam = 'baz <em>\"</em>'\n_boolean zoop:33=zoop:33 />") ≡ Some (codes "")
+attributes : following (codes "<a foo=\"bar\" bam = 'baz <em>\"</em>'\n_boolean zoop:33=zoop:33 />") ≡ Some (codes "")
 attributes = refl
 
-illegal_name : behind (codes "<33>") ≡ None
+illegal_name : following (codes "<33>") ≡ None
 illegal_name = refl
 
-illegal_attribute : behind (codes "<a h*#ref=\"hi\">") ≡ None
+illegal_attribute : following (codes "<a h*#ref=\"hi\">") ≡ None
 illegal_attribute = refl
 
-illegal_value : behind (codes "<a href=hi'>") ≡ None
+illegal_value : following (codes "<a href=hi'>") ≡ None
 illegal_value = refl
 
-illegal_space : behind (codes "<bar/ >") ≡ None
+illegal_space : following (codes "<bar/ >") ≡ None
 illegal_space = refl
 
-missing_space : behind (codes "<a href='bar'title=title>") ≡ None
+missing_space : following (codes "<a href='bar'title=title>") ≡ None
 missing_space = refl
 
-closing_tag : behind (codes "</foo >x") ≡ Some (codes "x")
+closing_tag : following (codes "</foo >x") ≡ Some (codes "x")
 closing_tag = refl
 
-closing_with_attribute : behind (codes "</a href=\"foo\">") ≡ None
+closing_with_attribute : following (codes "</a href=\"foo\">") ≡ None
 closing_with_attribute = refl
 
-two_line_endings : behind (codes "<a\n\nb>") ≡ None
+two_line_endings : following (codes "<a\n\nb>") ≡ None
 two_line_endings = refl
 
 -- a tag over lines owns its bytes without the prefixes of its later lines

@@ -25,8 +25,8 @@ heading : task_in tasklists (line (codes "[ ] # a")) ≡ Some false
 heading = refl
 
 -- after an item's marker
-behind_bullet : task_in tasklists (without 2 (line (codes "- [x] a"))) ≡ Some true
-behind_bullet = refl
+after_bullet : task_in tasklists (without 2 (line (codes "- [x] a"))) ≡ Some true
+after_bullet = refl
 
 -- a tab separates, too
 tab : task_in tasklists (line (codes "[ ]\ta")) ≡ Some false

@@ -31,13 +31,13 @@ abbrev pub is_no_equals : ℕ → Bool
 is_no_equals b = not (b == 61)
 
 -- the bytes after `=`, if the bytes begin with it
-abbrev pub value_behind : List ℕ → Option (List ℕ)
-value_behind [] = None
-value_behind (b ∷ bs) = Some bs
+abbrev pub value_after : List ℕ → Option (List ℕ)
+value_after [] = None
+value_after (b ∷ bs) = Some bs
 
 -- a word with a `=` is a name and a value: the first `=` separates them. Another word is a name
 abbrev pub attribute_of : List ℕ → Attribute
-attribute_of bs = record { name = take_while is_no_equals bs; value = value_behind (drop (length (take_while is_no_equals bs)) bs) }
+attribute_of bs = record { name = take_while is_no_equals bs; value = value_after (drop (length (take_while is_no_equals bs)) bs) }
 
 -- another word: `#id` (the last one counts), `.class`, or an attribute. A word of one byte is ignored
 abbrev pub with_word : Attributes → List ℕ → Attributes

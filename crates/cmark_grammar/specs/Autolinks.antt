@@ -7,7 +7,7 @@ use Rattle.cmark_grammar.specs.Tags.{is_name_byte}
 
 -- the first `size` bytes, if the closer follows them, and the bytes after the closer
 abbrev pub closed_by : (closer size : ℕ) → List ℕ → Option Parsed
-closed_by closer size bs = if first_is (λ b. b == closer) (drop size bs) then Some (record { bytes = take size bs; behind = drop (suc size) bs }) else None
+closed_by closer size bs = if first_is (λ b. b == closer) (drop size bs) then Some (record { bytes = take size bs; following = drop (suc size) bs }) else None
 
 abbrev pub is_scheme_byte : ℕ → Bool
 is_scheme_byte b = is_alphanumeric b || ((b == 43) || ((b == 45) || (b == 46)))

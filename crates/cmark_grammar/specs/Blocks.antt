@@ -6,7 +6,7 @@ use Rattle.cmark_grammar.specs.Leaves.{underlines}
 use Rattle.cmark_grammar.specs.Containers.{Container, BlockQuote, Item, Footnote, ListDefinition, keeps, is_bare_start, bare_after, insides}
 use Rattle.cmark_grammar.specs.Openings.{Leaf, ThematicBreak, AtxHeading, IndentedCode, FencedCode, HtmlBlock, LinkDefinition, MetadataBlock, Blank, Nests, Takes, Plain, opens_at, texts, lazily, Table}
 use Rattle.cmark_grammar.specs.Options.{Options}
-use Rattle.cmark_grammar.specs.Places.{Place, Apart, BehindLazy, BehindTask, BehindTitle, allows_lazy, over_blank}
+use Rattle.cmark_grammar.specs.Places.{Place, Apart, AfterLazy, AfterTask, AfterTitle, allows_lazy, over_blank}
 
 -- the blocks of some lines, in their order. Each has its lines, without the prefixes of the containers around it; a container has the
 -- blocks inside it. List items are not yet gathered into lists
@@ -28,31 +28,31 @@ join (LeafBlock leaf first more after) other = LeafBlock leaf first more (join a
 join (ContainerBlock container first more inside after) other = ContainerBlock container first more inside (join after other)
 
 -- the place of the line directly after this leaf: after a link reference definition a lazy line may begin a paragraph
-abbrev pub behind_leaf : Leaf → Place
-behind_leaf ThematicBreak = Apart
-behind_leaf (AtxHeading level) = Apart
-behind_leaf IndentedCode = Apart
-behind_leaf (FencedCode fence) = Apart
-behind_leaf (HtmlBlock kind) = Apart
-behind_leaf (LinkDefinition definition) = BehindLazy
-behind_leaf (MetadataBlock kind) = Apart
-behind_leaf (Table alignments) = Apart
+abbrev pub after_leaf : Leaf → Place
+after_leaf ThematicBreak = Apart
+after_leaf (AtxHeading level) = Apart
+after_leaf IndentedCode = Apart
+after_leaf (FencedCode fence) = Apart
+after_leaf (HtmlBlock kind) = Apart
+after_leaf (LinkDefinition definition) = AfterLazy
+after_leaf (MetadataBlock kind) = Apart
+after_leaf (Table alignments) = Apart
 
 -- the place of the first line inside this container, or of the line after an alert's tag
 abbrev pub place_in : Container → Place
 place_in (BlockQuote None) = Apart
-place_in (BlockQuote (Some kind)) = BehindLazy
+place_in (BlockQuote (Some kind)) = AfterLazy
 place_in (Item delimiter number width None) = Apart
-place_in (Item delimiter number width (Some is_checked)) = BehindTask
+place_in (Item delimiter number width (Some is_checked)) = AfterTask
 place_in (Footnote label old size) = Apart
 place_in (ListDefinition width) = Apart
 
 -- the place of the line after this container: after a definition of a definition list another one may begin
-abbrev pub behind_container : Container → Place
-behind_container (BlockQuote alert) = Apart
-behind_container (Item delimiter number width task) = Apart
-behind_container (Footnote label old size) = Apart
-behind_container (ListDefinition width) = BehindTitle
+abbrev pub after_container : Container → Place
+after_container (BlockQuote alert) = Apart
+after_container (Item delimiter number width task) = Apart
+after_container (Footnote label old size) = Apart
+after_container (ListDefinition width) = AfterTitle
 
 -- whether a lazy line may follow these blocks. Their last line is in a paragraph, or is an alert's tag, or is in a leaf after which a lazy
 -- line may begin a paragraph. So: the value if there is no block
@@ -61,7 +61,7 @@ ends_lazily so Nil = so
 ends_lazily so (BlankLine line after) = ends_lazily false after
 ends_lazily so (Paragraph first more after) = ends_lazily true after
 ends_lazily so (SetextHeading level first more underline after) = ends_lazily false after
-ends_lazily so (LeafBlock leaf first more after) = ends_lazily (allows_lazy (behind_leaf leaf)) after
+ends_lazily so (LeafBlock leaf first more after) = ends_lazily (allows_lazy (after_leaf leaf)) after
 ends_lazily so (ContainerBlock container first more inside after) = ends_lazily (ends_lazily (allows_lazy (place_in container)) inside) after
 
 -- a property of the next line, if there is one
@@ -146,8 +146,8 @@ module _ (options : Options) where
   abbrev pub Body : Place → List Row → Blocks → Type 0
   Body place all Nil = all ≡ []
   Body place all (BlankLine line after) = HasBlankLine (λ rest. Body (over_blank place) rest after) place all line
-  Body place all (Paragraph first more after) = HasParagraph (λ rest. Body BehindTitle rest after) place all first more
+  Body place all (Paragraph first more after) = HasParagraph (λ rest. Body AfterTitle rest after) place all first more
   Body place all (SetextHeading level first more underline after) = HasSetextHeading (λ rest. Body Apart rest after) place all level first more underline
-  Body place all (LeafBlock leaf first more after) = HasLeaf (λ rest. Body (behind_leaf leaf) rest after) place all leaf first more
+  Body place all (LeafBlock leaf first more after) = HasLeaf (λ rest. Body (after_leaf leaf) rest after) place all leaf first more
   Body place all (ContainerBlock k first more inside after) =
-      HasContainer (λ lines. Body (place_in k) lines inside) (λ rest. Body (behind_container k) rest after) place all k first more inside
+      HasContainer (λ lines. Body (place_in k) lines inside) (λ rest. Body (after_container k) rest after) place all k first more inside

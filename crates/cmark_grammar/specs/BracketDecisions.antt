@@ -11,9 +11,9 @@ use Rattle.cmark_grammar.specs.LeafText.{Leaf}
 use Rattle.cmark_grammar.specs.Letters.{first_is}
 use Rattle.cmark_grammar.specs.Lines.{is_content}
 use Rattle.cmark_grammar.specs.LinkDefinitions.{Parsed}
-use Rattle.cmark_grammar.specs.LinkTails.{LinkTail, link_tail_in, behind_collapsed, is_bracketed_label, reference_label_in}
+use Rattle.cmark_grammar.specs.LinkTails.{LinkTail, link_tail_in, after_collapsed, is_bracketed_label, reference_label_in}
 use Rattle.cmark_grammar.specs.LinkType.{LinkType, Inline, Reference, Collapsed, Shortcut, to_unknown}
-use Rattle.cmark_grammar.specs.OpenBrackets.{Taken, nearest, used_up, doubled, undoubled, tried, inactive, behind_link, dropped}
+use Rattle.cmark_grammar.specs.OpenBrackets.{Taken, nearest, used_up, doubled, undoubled, tried, inactive, after_link, dropped}
 use Rattle.cmark_grammar.specs.Parts.{Formed, Linking, Footnote, Wiki}
 use Rattle.cmark_grammar.specs.Questions.{Question}
 use Rattle.cmark_grammar.specs.Readers.{Reader}
@@ -45,20 +45,20 @@ abbrev pub name_in : List ℕ → List ℕ
 name_in [] = []
 name_in (b ∷ bs) = if b == 124 then [] else b ∷ name_in bs
 
-abbrev pub behind_pipe : (at : ℕ) → List ℕ → Option ℕ
-behind_pipe at [] = None
-behind_pipe at (b ∷ bs) = if b == 124 then Some (suc at) else behind_pipe (suc at) bs
+abbrev pub after_pipe : (at : ℕ) → List ℕ → Option ℕ
+after_pipe at [] = None
+after_pipe at (b ∷ bs) = if b == 124 then Some (suc at) else after_pipe (suc at) bs
 
 module _ (reader : Reader) (leaf : Leaf) where
-  abbrev pub behind : ℕ → List ℕ
-  behind at = from reader leaf at
+  abbrev pub following : ℕ → List ℕ
+  following at = from reader leaf at
 
   abbrev pub place : List ℕ → ℕ
   place rest = place_of reader leaf rest
 
   -- the leaf's bytes between two places
   abbrev pub between : (start end : ℕ) → List ℕ
-  between start end = take (length (behind start) - length (behind end)) (behind start)
+  between start end = take (length (following start) - length (following end)) (following start)
 
   abbrev pub stays : Bracket → State → Outcome
   stays closer s = record { result = StaysText; after = moved closer.end s }
@@ -70,7 +70,7 @@ module _ (reader : Reader) (leaf : Leaf) where
 
   -- a link, which contains no other link, or an image
   abbrev pub links : Taken → Linked → (end resume : ℕ) → State → Outcome
-  links taken linked end resume s = forms taken (Linking (record { linked = linked; end = end })) resume (behind_link taken.opener.bracket.is_image) s
+  links taken linked end resume s = forms taken (Linking (record { linked = linked; end = end })) resume (after_link taken.opener.bracket.is_image) s
 
   -- ## Inline links
 
@@ -80,7 +80,7 @@ module _ (reader : Reader) (leaf : Leaf) where
 
   -- an inline link (CommonMark 6.3), with the destination and the title in parentheses
   abbrev pub inline_link : LinkTail → Taken → State → Outcome
-  inline_link tail taken s = links taken (linked Inline (tail_destination tail) []) (place tail.behind) (place tail.behind) s
+  inline_link tail taken s = links taken (linked Inline (tail_destination tail) []) (place tail.following) (place tail.following) s
 
   -- ## References
 
@@ -142,7 +142,7 @@ module _ (reader : Reader) (leaf : Leaf) where
   -- collapsed or shortcut reference
 
   abbrev pub as_label : List ℕ → List ℕ
-  as_label bytes = (as_in_cell leaf.is_cell (record { bytes = bytes; behind = [] })).bytes
+  as_label bytes = (as_in_cell leaf.is_cell (record { bytes = bytes; following = [] })).bytes
 
   abbrev pub collapsed_or_shortcut : (label : List ℕ) → (end : ℕ) → Option (List ℕ) → Named
   collapsed_or_shortcut label end None = record { label = label; link_type = Shortcut; end = end; resume = end }
@@ -152,13 +152,13 @@ module _ (reader : Reader) (leaf : Leaf) where
   abbrev pub by_own_label : (label : List ℕ) → Taken → Bracket → State → Decision
   by_own_label label taken closer s =
       if is_footnote_label label then footnote_reference (as_label (drop 1 label)) taken closer s
-      else if is_bracketed_label label then refers (collapsed_or_shortcut (as_label label) closer.end (behind_collapsed (behind closer.end))) taken closer s
+      else if is_bracketed_label label then refers (collapsed_or_shortcut (as_label label) closer.end (after_collapsed (following closer.end))) taken closer s
       else Settled (stays closer s)
 
   -- the bracket that closes the label of a full reference forms no reference by the text between its brackets
   abbrev pub full_reference : Parsed → Taken → Bracket → State → Decision
   full_reference found taken closer s =
-      let end = place found.behind in
+      let end = place found.following in
       refers (record { label = as_label found.bytes; link_type = Reference; end = end; resume = end }) taken closer (record s { label_close = Some (end - 1) })
 
   abbrev pub reference_or : Option Parsed → Taken → Bracket → State → Decision
@@ -174,13 +174,13 @@ module _ (reader : Reader) (leaf : Leaf) where
   -- an inline link, if the parentheses are there, else a reference (CommonMark 6.3)
   abbrev pub link_or : Option LinkTail → Taken → Bracket → State → Decision
   link_or (Some tail) taken closer s = Settled (inline_link tail taken s)
-  link_or None taken closer s = reference_or (unless_footnote (reference_label_in (behind closer.end))) taken closer s
+  link_or None taken closer s = reference_or (unless_footnote (reference_label_in (following closer.end))) taken closer s
 
   -- without an opening bracket, or with an inactive one, the closing bracket is a text (CommonMark 6.3)
   abbrev pub with_taken : Option Taken → Bracket → State → Decision
   with_taken None closer s = Settled (stays closer s)
   with_taken (Some taken) closer s =
-      if taken.opener.is_inactive then Settled (stays closer s) else link_or (link_tail_in (behind closer.end)) taken closer s
+      if taken.opener.is_inactive then Settled (stays closer s) else link_or (link_tail_in (following closer.end)) taken closer s
 
   -- ## Wikilinks (this profile's own)
 
@@ -191,7 +191,7 @@ module _ (reader : Reader) (leaf : Leaf) where
   -- a wikilink makes the brackets before it inactive, and no longer doubled
   abbrev pub wikilink : (first : Taken) → Bracket → State → Outcome
   wikilink first closer s =
-      forms first (Wiki (name_in (wiki_text first closer)) (behind_pipe (suc first.opener.bracket.end) (wiki_text first closer)) (suc closer.end)) (suc closer.end)
+      forms first (Wiki (name_in (wiki_text first closer)) (after_pipe (suc first.opener.bracket.end) (wiki_text first closer)) (suc closer.end)) (suc closer.end)
       (λ os. map undoubled (map inactive os)) s
 
   -- the doubled bracket is tried: it must be active, and the name must not be empty
@@ -206,7 +206,7 @@ module _ (reader : Reader) (leaf : Leaf) where
   -- doubled one first
   abbrev pub taking : Option Taken → Bracket → State → Decision
   taking taken closer s =
-      if reader.options.wikilinks && first_is (λ b. b == 93) (behind closer.end) then wikilink_or (doubled s.openers) taken closer s
+      if reader.options.wikilinks && first_is (λ b. b == 93) (following closer.end) then wikilink_or (doubled s.openers) taken closer s
       else with_taken taken closer s
 
   -- the decision about a closing bracket

@@ -1,7 +1,7 @@
 -- Code spans (CommonMark 6.1).
 use Rattle.std.specs.Prelude.{ℕ, ◌-◌, Bool, false, ◌==◌, ◌&&◌, not, nat_lt, if◌then◌else◌, List, [], ◌∷◌, ◌++◌, codes, length, drop, get_or, count_by, Option, Some, None, option_map}
 use Rattle.std.specs.List.{prefix_len}
-use Rattle.cmark_grammar.specs.Letters.{behind_all}
+use Rattle.cmark_grammar.specs.Letters.{after_while}
 use Rattle.cmark_grammar.specs.Lines.{carriage_return, ends_line}
 use Rattle.cmark_grammar.specs.LinkDefinitions.{Parsed, put}
 use Rattle.cmark_grammar.specs.Tokens.{slice}
@@ -18,16 +18,16 @@ backticks bs = prefix_len is_backtick bs
 abbrev pub up_to_run : (size : ℕ) → (goes_on : Bool) → List ℕ → Option Parsed
 up_to_run size goes_on [] = None
 up_to_run size goes_on (b ∷ bs) =
-    if is_backtick b && (not goes_on && (backticks (b ∷ bs) == size)) then Some (record { bytes = []; behind = b ∷ bs })
+    if is_backtick b && (not goes_on && (backticks (b ∷ bs) == size)) then Some (record { bytes = []; following = b ∷ bs })
     else put b (up_to_run size (is_backtick b) bs)
 
-abbrev pub behind_run : (size : ℕ) → Parsed → Parsed
-behind_run size found = record { bytes = found.bytes; behind = drop size found.behind }
+abbrev pub after_run : (size : ℕ) → Parsed → Parsed
+after_run size found = record { bytes = found.bytes; following = drop size found.following }
 
--- the content of a code span whose opening run is at the beginning, and the bytes after its closing run, which has the same length.
+-- the content of a code span whose opening run is at the beginning, and the bytes after its closing run, which has an equal length.
 -- Example: "``a`b`` c" has the content "a`b"
 abbrev pub code_in : List ℕ → Option Parsed
-code_in bs = if backticks bs == 0 then None else option_map (behind_run (backticks bs)) (up_to_run (backticks bs) false (behind_all is_backtick bs))
+code_in bs = if backticks bs == 0 then None else option_map (after_run (backticks bs)) (up_to_run (backticks bs) false (after_while is_backtick bs))
 
 -- the bytes with `mark` in place of each line ending: a line feed, a carriage return, or both in this order
 abbrev pub with_line_ends : (mark : List ℕ) → List ℕ → List ℕ

@@ -8,7 +8,7 @@ use Rattle.cmark_grammar.specs.Alerts.{alert_in}
 use Rattle.cmark_grammar.specs.Footnotes.{Footnotes, Off, Gfm, Old, footnotes_in, footnote_in, marker_columns}
 use Rattle.cmark_grammar.specs.LinkDefinitions.{Parsed}
 use Rattle.cmark_grammar.specs.Options.{Options}
-use Rattle.cmark_grammar.specs.TaskItems.{task_in, behind_box}
+use Rattle.cmark_grammar.specs.TaskItems.{task_in, after_box}
 
 -- the kinds of containers:
 --
@@ -57,8 +57,8 @@ marker_of [] = None
 marker_of (b ∷ bs) = if is_bullet b then Some (record { delimiter = b; number = None; size = 1 }) else delimited (digits (b ∷ bs)) (drop (length (digits (b ∷ bs))) (b ∷ bs))
 
 -- the columns after a marker of this size
-abbrev pub behind_marker : ℕ → Row → List Column
-behind_marker size r = drop (indent_of r + size) r.columns
+abbrev pub after_marker : ℕ → Row → List Column
+after_marker size r = drop (indent_of r + size) r.columns
 
 -- five or more blank columns after the marker count as one, and so does a blank rest of the line (CommonMark 5.2)
 abbrev pub padding : List Column → ℕ
@@ -66,7 +66,7 @@ padding cs = if is_bare (without_indent cs) || nat_le 5 (indent cs) then 1 else 
 
 -- the width of an item's prefix: the indent, the marker, and the blanks after it that count (CommonMark 5.2). Example: 3 for ` - a`
 abbrev pub width_with : ℕ → Row → ℕ
-width_with size r = indent_of r + (size + padding (behind_marker size r))
+width_with size r = indent_of r + (size + padding (after_marker size r))
 
 -- the list item that a line begins (CommonMark 5.2): a marker, and then a blank or the line's end, on a line that is not a thematic break.
 -- Example: `1. a`
@@ -135,7 +135,7 @@ is_alert (ListDefinition width) = false
 
 -- the indent, the marker of a footnote definition, and all blanks after it
 abbrev pub footnote_width : (size : ℕ) → Row → ℕ
-footnote_width size r = indent_of r + (size + indent (behind_marker size r))
+footnote_width size r = indent_of r + (size + indent (after_marker size r))
 
 -- the number of columns of the first line that a container's marker takes, with the blanks that belong to it and an item's task marker
 abbrev pub marker_width : Container → Row → ℕ
@@ -147,7 +147,7 @@ marker_width (ListDefinition width) r = width
 -- the number of columns of the first line that the container's marker takes, with an item's task marker
 abbrev pub width_of : Container → Row → ℕ
 width_of (BlockQuote alert) r = block_quote_width r
-width_of (Item delimiter number width task) r = behind_box task width
+width_of (Item delimiter number width task) r = after_box task width
 width_of (Footnote label old size) r = footnote_width size r
 width_of (ListDefinition width) r = width
 

@@ -3,7 +3,7 @@ use Rattle.std.specs.Prelude.{ℕ, Bool, true, false, ◌&&◌, not, nat_le, if�
 use Rattle.cmark_grammar.specs.Rows.{Row, indent_of, words_of}
 use Rattle.cmark_grammar.specs.Containers.{Container, BlockQuote, Item, Footnote, ListDefinition, begins_with, width_with}
 use Rattle.cmark_grammar.specs.Options.{Options}
-use Rattle.cmark_grammar.specs.Places.{Place, is_behind_title}
+use Rattle.cmark_grammar.specs.Places.{Place, is_after_title}
 
 -- the width of the prefix that a definition's later lines have, if the line begins with the marker `:`. It is the indent, the marker and
 -- the blanks after it, as for a list item, but no blank is required. Example: 2 for `: text`, 1 for `:text`
@@ -25,7 +25,7 @@ begins_definition options r = is_marker (definition_marker options r)
 
 -- a definition begins only after a paragraph or another definition
 abbrev pub definition_at : Options → Place → Row → Option ℕ
-definition_at options place r = if is_behind_title place then definition_marker options r else None
+definition_at options place r = if is_after_title place then definition_marker options r else None
 
 abbrev pub is_definition : Container → Bool
 is_definition (BlockQuote alert) = false

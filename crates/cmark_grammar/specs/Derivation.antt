@@ -11,13 +11,12 @@ use Rattle.cmark_grammar.specs.Metadata.{ends_metadata}
 use Rattle.cmark_grammar.specs.Containers.{BlockQuote as BlockQuotePrefix, Item, Footnote, ListDefinition}
 use Rattle.cmark_grammar.specs.Openings.{Leaf, ThematicBreak as ThematicBreakLeaf, AtxHeading as AtxHeadingLeaf, IndentedCode as IndentedCodeLeaf, FencedCode as FencedCodeLeaf, HtmlBlock as HtmlBlockLeaf, LinkDefinition as LinkDefinitionLeaf, MetadataBlock as MetadataBlockLeaf, Table as TableLeaf}
 use Rattle.cmark_grammar.specs.Blocks.{Blocks, Nil as NoBlocks, BlankLine, Paragraph as ParagraphBlock, SetextHeading, LeafBlock, ContainerBlock, Body}
-use Rattle.cmark_grammar.specs.BlocksModel.{blocks}
-use Rattle.cmark_grammar.specs.Lists.{ListBefore, definition_delimiter, is_title, tight_behind, title_tight_behind, goes_on}
+use Rattle.cmark_grammar.specs.Lists.{ListBefore, definition_delimiter, is_title, tight_after, title_tight_after, goes_on}
 use Rattle.cmark_grammar.specs.Tokens.{resolved, title_lines, paragraph_tokens, heading_tokens, heading_attributes, code_tokens, lines_before, fenced_lines, html_tokens, code_columns}
 use Rattle.cmark_grammar.specs.BlockDocument.{Reference, BlockKind, Paragraph, TightParagraph, Heading, ThematicBreak, IndentedCode, FencedCode, HtmlBlock, LinkDefinition, MetadataBlock, BlockQuote, BlockList, ListItem, TaskMarker, FootnoteDefinition, DefinitionList, DefinitionListTitle, DefinitionListDefinition, BlockNode, BlockDocument, Nil, Node, node, Table}
 use Rattle.cmark_grammar.specs.SetextAttributes.{content_of, setext_attributes, setext_tokens}
 use Rattle.cmark_grammar.specs.TableTokens.{table_tokens}
-use Rattle.cmark_grammar.specs.TaskItems.{behind_box}
+use Rattle.cmark_grammar.specs.TaskItems.{after_box}
 
 -- the end of the last of these lines, without its line ending
 abbrev pub last_content_end : Row → List Row → ℕ
@@ -88,7 +87,7 @@ document_of text options lookup direct list NoBlocks = Nil
 document_of text options lookup direct list (BlankLine line after) = document_of text options lookup direct list after
 document_of text options lookup direct list (ParagraphBlock first more after) =
     if is_title after then
-    (let tight = title_tight_behind list after in
+    (let tight = title_tight_after list after in
     item_then true (DefinitionList tight) (node DefinitionListTitle (start_of first) (last_line_end first more)) (paragraph_tokens text first more)
     (document_of text options lookup direct (Some (record { delimiter = definition_delimiter; tight = tight })) after))
     else Node (node (paragraph_kind direct) (start_of first) (last_line_end first more)) (paragraph_tokens text first more) (document_of text options lookup direct None after)
@@ -100,12 +99,12 @@ document_of text options lookup direct list (ContainerBlock (BlockQuotePrefix al
 document_of text options lookup direct list (ContainerBlock (Footnote label old size) first more inside after) =
     Node (node (FootnoteDefinition (normal_form label)) (start_of first) (last_line_end first more)) (document_of text options lookup false None inside) (document_of text options lookup direct None after)
 document_of text options lookup direct list (ContainerBlock (Item delimiter number width task) first more inside after) =
-    let tight = tight_behind list delimiter inside after in
+    let tight = tight_after list delimiter inside after in
     item_then (goes_on delimiter after) (list_kind delimiter number tight) (node ListItem (begin_of first) (last_line_end first more))
-    (task_then task (begin_of (without width first)) (begin_of (without (behind_box task width) first)) (document_of text options lookup tight None inside))
+    (task_then task (begin_of (without width first)) (begin_of (without (after_box task width) first)) (document_of text options lookup tight None inside))
     (document_of text options lookup direct (Some (record { delimiter = delimiter; tight = tight })) after)
 document_of text options lookup direct list (ContainerBlock (ListDefinition width) first more inside after) =
-    let tight = tight_behind list definition_delimiter inside after in
+    let tight = tight_after list definition_delimiter inside after in
     item_then (goes_on definition_delimiter after) (DefinitionList tight) (node DefinitionListDefinition (begin_of first) (last_line_end first more))
     (document_of text options lookup tight None inside)
     (document_of text options lookup direct (Some (record { delimiter = definition_delimiter; tight = tight })) after)
@@ -114,7 +113,3 @@ document_of text options lookup direct list (ContainerBlock (ListDefinition widt
 abbrev pub Derives : List ℕ → Options → Lookup → BlockDocument → Type 0
 Derives text options lookup document =
     (structure : Blocks) × (Body options Apart (rows text) structure) × (document ≡ document_of text options lookup false None structure)
-
--- the model's document
-abbrev pub document : List ℕ → Options → Lookup → BlockDocument
-document text options lookup = document_of text options lookup false None (blocks options text)

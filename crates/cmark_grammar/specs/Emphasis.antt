@@ -57,7 +57,7 @@ keeps_rule_of_three opener closer =
     not (can_both opener || can_both closer)
     || (not ((opener.run_length + closer.run_length) % 3 == 0) || ((opener.run_length % 3 == 0) && (closer.run_length % 3 == 0)))
 
--- for `~` and `=` both runs have the same length (GFM 6.5, and this profile's own)
+-- for `~` and `=` both runs have equal lengths (GFM 6.5, and this profile's own)
 abbrev pub is_tilde_or_equals : ℕ → Bool
 is_tilde_or_equals delimiter = (delimiter == 126) || (delimiter == 61)
 

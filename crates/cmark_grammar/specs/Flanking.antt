@@ -31,7 +31,7 @@ is_left_flanking before after =
     not (is_white_space_there after)
     && (not (is_punctuation_there after) || (is_white_space_there before || is_punctuation_there before))
 
--- right-flanking (CommonMark 6.2): the same with the two sides exchanged
+-- right-flanking (CommonMark 6.2): left-flanking with the two sides exchanged
 abbrev pub is_right_flanking : (before after : Option ℕ) → Bool
 is_right_flanking before after =
     not (is_white_space_there before)

@@ -27,22 +27,22 @@ do_interrupt Gfm = true
 do_interrupt Old = false
 
 -- a colon follows the label
-abbrev pub colon_behind : (label : List ℕ) → List ℕ → Option Parsed
-colon_behind label [] = None
-colon_behind label (b ∷ bs) = if b == 58 then Some (record { bytes = label; behind = bs }) else None
+abbrev pub colon_after : (label : List ℕ) → List ℕ → Option Parsed
+colon_after label [] = None
+colon_after label (b ∷ bs) = if b == 58 then Some (record { bytes = label; following = bs }) else None
 
 abbrev pub label_then_colon : Option Parsed → Option Parsed
 label_then_colon None = None
-label_then_colon (Some found) = colon_behind found.bytes found.behind
+label_then_colon (Some found) = colon_after found.bytes found.following
 
-abbrev pub behind_caret : List ℕ → Option Parsed
-behind_caret [] = None
-behind_caret (b ∷ bs) = if b == 94 then label_then_colon (label_if (up_to false 93 91 false bs)) else None
+abbrev pub after_caret : List ℕ → Option Parsed
+after_caret [] = None
+after_caret (b ∷ bs) = if b == 94 then label_then_colon (label_if (up_to false 93 91 false bs)) else None
 
 -- the label of the marker at the beginning of these bytes, and the bytes after the marker. Example: the label of `[^a]: b` is `a`
 abbrev pub footnote_in : List ℕ → Option Parsed
 footnote_in [] = None
-footnote_in (b ∷ bs) = if b == 91 then behind_caret bs else None
+footnote_in (b ∷ bs) = if b == 91 then after_caret bs else None
 
 -- the number of columns that the first `n` bytes have
 abbrev pub columns_over : ℕ → List Column → ℕ
@@ -59,13 +59,13 @@ is_label_found None = false
 is_label_found (Some found) = true
 
 -- a label that begins with `^` and has more bytes is not the label of a link
-abbrev pub goes_on_behind_caret : List ℕ → Bool
-goes_on_behind_caret [] = true
-goes_on_behind_caret (b ∷ bs) = not (b == 93)
+abbrev pub goes_on_after_caret : List ℕ → Bool
+goes_on_after_caret [] = true
+goes_on_after_caret (b ∷ bs) = not (b == 93)
 
 abbrev pub caret_goes_on : List ℕ → Bool
 caret_goes_on [] = false
-caret_goes_on (b ∷ bs) = (b == 94) && goes_on_behind_caret bs
+caret_goes_on (b ∷ bs) = (b == 94) && goes_on_after_caret bs
 
 abbrev pub is_footnote_label : List ℕ → Bool
 is_footnote_label [] = false

@@ -33,13 +33,13 @@ left_to [] braces = record { entered = []; outermost = braces.next % 256; next =
 left_to (c ∷ cs) braces = record { entered = cs; outermost = braces.outermost; next = braces.next }
 
 -- the braces after another byte, unless a backslash escapes it
-abbrev pub behind_byte : (escaped : Bool) → ℕ → Braces → Braces
-behind_byte true b braces = braces
-behind_byte false b braces = if b == 123 then entered braces else if b == 125 then left_to braces.entered braces else braces
+abbrev pub after_byte : (escaped : Bool) → ℕ → Braces → Braces
+after_byte true b braces = braces
+after_byte false b braces = if b == 123 then entered braces else if b == 125 then left_to braces.entered braces else braces
 
-abbrev pub braces_behind : (escaped : Bool) → List ℕ → Braces → Braces
-braces_behind escaped [] braces = braces
-braces_behind escaped (b ∷ bs) braces = braces_behind (escapes_next escaped b) bs (behind_byte escaped b braces)
+abbrev pub braces_after : (escaped : Bool) → List ℕ → Braces → Braces
+braces_after escaped [] braces = braces
+braces_after escaped (b ∷ bs) braces = braces_after (escapes_next escaped b) bs (after_byte escaped b braces)
 
 -- The next unescaped dollar sign of the same context decides. For an inline formula it closes if the byte before it is not white space. For
 -- a display formula it closes if a second dollar sign follows. Else there is no formula. `last` and the braces are those before these bytes
@@ -51,8 +51,8 @@ abbrev pub formula_to : (is_display : Bool) → (context : ℕ) → (escaped : B
 formula_to is_display context escaped last braces [] = None
 formula_to is_display context escaped last braces (b ∷ bs) =
     if not escaped && (is_dollar b && (context_of braces == context))
-    then (if closes_formula is_display last bs then Some (record { bytes = []; behind = drop (if is_display then 1 else 0) bs }) else None)
-    else put b (formula_to is_display context (escapes_next escaped b) b (behind_byte escaped b braces) bs)
+    then (if closes_formula is_display last bs then Some (record { bytes = []; following = drop (if is_display then 1 else 0) bs }) else None)
+    else put b (formula_to is_display context (escapes_next escaped b) b (after_byte escaped b braces) bs)
 
 -- the formula after one dollar sign and these braces, up to the dollar sign that closes it. It begins with a byte that is not white space,
 -- so it is not empty. Example: `$a + b$`

@@ -1,5 +1,5 @@
--- The theorem in words: the output of the renderer is the HTML of the reading of the text, and the written grammar gives each text exactly
--- one reading for the same answers to its questions.
+-- The theorem in words: the output of the renderer is the HTML of the reading of the text. The written grammar gives each text exactly one
+-- reading for each list of answers to its questions.
 --
 -- A reading is a list of events with their ranges. It depends on the text, the options, the entity names, the reference expansion limit and
 -- the answers of the callback (`IsReading`). The HTML of events is `html`.
@@ -35,6 +35,6 @@ pub record IsHtmlWithin (limit : ℕ) (text : List ℕ) (options : Options) (loo
   pub reading : IsReading text (profile_within limit options lookup false) [] events
   pub output_is : output ≡ html (events_of events)
 
--- the same within the usual limit
+-- the output is the HTML of the reading of the text within the usual limit, without a callback
 abbrev pub IsHtmlOf : (text : List ℕ) → Options → Lookup → (output : List ℕ) → Type 0
 IsHtmlOf text options lookup output = IsHtmlWithin (usual_limit text) text options lookup output

@@ -161,7 +161,7 @@ cell_end true = codes "</th>"
 cell_end false = codes "</td>"
 
 -- a footnote is written with the number of its name, in digits. Names are numbered from 1 in order of appearance, references and
--- definitions alike. Two names are the same if their bytes are
+-- definitions alike. Two names are equal if their bytes are
 abbrev pub footnote_number : List (List ℕ) → List ℕ → ℕ
 footnote_number names name = position_or_len (pointwise nat_eq name) names + 1
 

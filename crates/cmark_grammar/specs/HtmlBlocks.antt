@@ -3,7 +3,7 @@ use Rattle.std.specs.Prelude.{ℕ, Bool, false, ◌==◌, ◌&&◌, ◌||◌, no
 use Rattle.cmark_grammar.specs.Columns.{bytes_of}
 use Rattle.cmark_grammar.specs.Rows.{Row, is_blank_line, words_of}
 use Rattle.cmark_grammar.specs.Leaves.{Continuation, GoesOn, Closes, Stops, counted, are_blank, is_parted}
-use Rattle.cmark_grammar.specs.Tags.{is_name_byte, behind_tag_start, no_prefix}
+use Rattle.cmark_grammar.specs.Tags.{is_name_byte, after_tag_start, no_prefix}
 pub use Rattle.cmark_grammar.specs.Letters.{lower, is_letter, is_number, is_alphanumeric, starts, first_is}
 
 abbrev pub holds : (word bs : List ℕ) → Bool
@@ -30,23 +30,23 @@ block_names =
     ∷ codes "title" ∷ codes "tr" ∷ codes "track" ∷ codes "ul" ∷ []
 
 -- the bytes of a tag after `<` or `</`
-abbrev pub behind_slash : List ℕ → List ℕ
-behind_slash [] = []
-behind_slash (b ∷ bs) = if b == 47 then bs else b ∷ bs
+abbrev pub after_slash : List ℕ → List ℕ
+after_slash [] = []
+after_slash (b ∷ bs) = if b == 47 then bs else b ∷ bs
 
 abbrev pub name_in : List ℕ → List ℕ
 name_in bs = take_while is_alphanumeric bs
 
-abbrev pub behind_name : List ℕ → List ℕ
-behind_name bs = drop (length (name_in bs)) bs
+abbrev pub after_name : List ℕ → List ℕ
+after_name bs = drop (length (name_in bs)) bs
 
 -- kind 1: the beginning of an opening tag whose content is taken literally, such as `<script`
 abbrev pub begins_raw : List ℕ → Bool
-begins_raw bs = is_among (name_in bs) raw_names && (is_parted (behind_name bs) || first_is (λ b. b == 62) (behind_name bs))
+begins_raw bs = is_among (name_in bs) raw_names && (is_parted (after_name bs) || first_is (λ b. b == 62) (after_name bs))
 
 -- kind 6: the beginning of a tag with a block's name, such as `<div`
 abbrev pub begins_block : List ℕ → Bool
-begins_block bs = is_among (name_in bs) block_names && (is_parted (behind_name bs) || (first_is (λ b. b == 62) (behind_name bs) || starts (codes "/>") (behind_name bs)))
+begins_block bs = is_among (name_in bs) block_names && (is_parted (after_name bs) || (first_is (λ b. b == 62) (after_name bs) || starts (codes "/>") (after_name bs)))
 
 -- only spaces and tabs after a part that was read
 abbrev pub ends_in_blanks : Option (List ℕ) → Bool
@@ -55,24 +55,24 @@ ends_in_blanks (Some rest) = are_blank rest
 
 -- kind 7: one complete opening or closing tag and then only blanks; its name is not a name of kind 1
 abbrev pub is_lone_tag : List ℕ → Bool
-is_lone_tag bs = ends_in_blanks (behind_tag_start no_prefix bs) && not (is_among (map lower (take_while is_name_byte (behind_slash bs))) raw_names)
+is_lone_tag bs = ends_in_blanks (after_tag_start no_prefix bs) && not (is_among (map lower (take_while is_name_byte (after_slash bs))) raw_names)
 
 -- the kind of an HTML block that begins with `<` and these bytes
-abbrev pub kind_behind : List ℕ → Option ℕ
-kind_behind bs =
+abbrev pub kind_after : List ℕ → Option ℕ
+kind_after bs =
     if begins_raw (map lower bs) then Some 1
     else if starts (codes "!--") bs then Some 2
     else if starts (codes "?") bs then Some 3
     else if starts (codes "![CDATA[") bs then Some 5
     else if starts (codes "!") bs && first_is is_letter (drop 1 bs) then Some 4
-    else if begins_block (map lower (behind_slash bs)) then Some 6
+    else if begins_block (map lower (after_slash bs)) then Some 6
     else if is_lone_tag bs then Some 7
     else None
 
 -- the kind of the HTML block that a line begins, if it begins one (CommonMark 4.6)
 abbrev pub html_kind : List ℕ → Option ℕ
 html_kind [] = None
-html_kind (b ∷ bs) = if b == 60 then kind_behind bs else None
+html_kind (b ∷ bs) = if b == 60 then kind_after bs else None
 
 -- kinds 1 to 5 end with a line that contains their end
 abbrev pub holds_end : ℕ → List ℕ → Bool

@@ -1,10 +1,10 @@
 -- Inline HTML (CommonMark 6.6). Examples: `<!-- a -->`, `<?a?>`, `<a b>`.
-use Rattle.cmark_grammar.specs.Letters.{is_letter, starts, behind_if, behind_start, behind_first}
+use Rattle.cmark_grammar.specs.Letters.{is_letter, starts, after_if, after_start_of, after_first_of}
 use Rattle.std.specs.Prelude.{ℕ, zero, suc, ◌-◌, Bool, ◌==◌, ◌||◌, if◌then◌else◌, List, [], ◌∷◌, length, drop, take, min, codes, Option, Some, None, option_map}
 use Rattle.std.specs.Option.{option_or}
 use Rattle.std.specs.List.{list_any}
 use Rattle.cmark_grammar.specs.Lines.{line_feed, carriage_return}
-use Rattle.cmark_grammar.specs.Tags.{prefix_behind, behind_tag, no_prefix}
+use Rattle.cmark_grammar.specs.Tags.{prefix_after, after_tag, no_prefix}
 
 -- a tag: its end, and the text that it owns if it spans several lines: its bytes without the lines' prefixes
 pub record OwnedTag : Type 0 where
@@ -19,7 +19,7 @@ module _ (prefix : List ℕ → ℕ) where
   abbrev pub without_prefixes : (size skip : ℕ) → List ℕ → List ℕ
   without_prefixes zero skip bs = []
   without_prefixes (suc size) skip [] = []
-  without_prefixes (suc size) zero (b ∷ bs) = b ∷ without_prefixes size (prefix_behind prefix b bs) bs
+  without_prefixes (suc size) zero (b ∷ bs) = b ∷ without_prefixes size (prefix_after prefix b bs) bs
   without_prefixes (suc size) (suc skip) (b ∷ bs) = without_prefixes size skip bs
 
   abbrev pub owned_tag : (size : ℕ) → List ℕ → OwnedTag
@@ -27,24 +27,24 @@ module _ (prefix : List ℕ → ℕ) where
 
   -- the tag at the beginning of these bytes
   abbrev pub owned_tag_in : List ℕ → Option OwnedTag
-  owned_tag_in bs = option_map (λ rest. owned_tag (length bs - length rest) bs) (behind_tag prefix bs)
+  owned_tag_in bs = option_map (λ rest. owned_tag (length bs - length rest) bs) (after_tag prefix bs)
 
 -- the bytes after a comment, from its `<!--` on: `>` or `->` closes it at once, else the first `-->` does
-abbrev pub behind_comment : List ℕ → Option (List ℕ)
-behind_comment bs = option_or (behind_start (codes ">") bs) (option_or (behind_start (codes "->") bs) (behind_first (codes "-->") bs))
+abbrev pub after_comment : List ℕ → Option (List ℕ)
+after_comment bs = option_or (after_start_of (codes ">") bs) (option_or (after_start_of (codes "->") bs) (after_first_of (codes "-->") bs))
 
 -- the bytes after a declaration, from its `<!` on: a letter begins it, and the first `>` closes it
 abbrev pub declaration_in : List ℕ → Option (Option (List ℕ))
-declaration_in bs = option_map (behind_first (codes ">")) (behind_if is_letter bs)
+declaration_in bs = option_map (after_first_of (codes ">")) (after_if is_letter bs)
 
 -- the bytes after a CDATA section, from its `<!` on
 abbrev pub cdata_in : List ℕ → Option (Option (List ℕ))
-cdata_in bs = option_map (behind_first (codes "]]>")) (behind_start (codes "[CDATA[") bs)
+cdata_in bs = option_map (after_first_of (codes "]]>")) (after_start_of (codes "[CDATA[") bs)
 
 -- the construct that `<!` opens, if any: a comment, a declaration or a CDATA section. The result is the bytes after its first closer, if it
 -- has one
 abbrev pub opened_in : List ℕ → Option (Option (List ℕ))
-opened_in bs = option_or (option_map behind_comment (behind_start (codes "--") bs)) (option_or (declaration_in bs) (cdata_in bs))
+opened_in bs = option_or (option_map after_comment (after_start_of (codes "--") bs)) (option_or (declaration_in bs) (cdata_in bs))
 
 -- the result of a search from a place of the text: the end, if a closer was found, and the number of bytes passed. Without a closer all
 -- bytes are passed; if nothing opens, at most seven
@@ -63,24 +63,24 @@ comment_find bytes at = find_with bytes at (opened_in (drop at bytes))
 
 -- the search from the place after `<?`: the first `?>` ends a processing instruction
 abbrev pub processing_find : (bytes : List ℕ) → (at : ℕ) → Find
-processing_find bytes at = find_with bytes at (Some (behind_first (codes "?>") (drop at bytes)))
+processing_find bytes at = find_with bytes at (Some (after_first_of (codes "?>") (drop at bytes)))
 
 -- the bytes after inline HTML that opened, if it is closed
-abbrev pub behind_opened : Option (Option (List ℕ)) → Option (List ℕ)
-behind_opened None = None
-behind_opened (Some closed) = closed
+abbrev pub after_opened : Option (Option (List ℕ)) → Option (List ℕ)
+after_opened None = None
+after_opened (Some closed) = closed
 
 -- the bytes after the inline HTML at the beginning: a comment, a declaration, a CDATA section, a processing instruction, or an open or
 -- closing tag
-abbrev pub behind_inline_html : List ℕ → Option (List ℕ)
-behind_inline_html bs =
-    if starts (codes "<!") bs then behind_opened (opened_in (drop 2 bs))
-    else if starts (codes "<?") bs then behind_first (codes "?>") (drop 2 bs)
-    else behind_tag no_prefix bs
+abbrev pub after_inline_html : List ℕ → Option (List ℕ)
+after_inline_html bs =
+    if starts (codes "<!") bs then after_opened (opened_in (drop 2 bs))
+    else if starts (codes "<?") bs then after_first_of (codes "?>") (drop 2 bs)
+    else after_tag no_prefix bs
 
 -- the bytes after a comment, a declaration, a CDATA section or a processing instruction at the beginning
-abbrev pub behind_markup : List ℕ → Option (List ℕ)
-behind_markup bs =
-    if starts (codes "<!") bs then behind_opened (opened_in (drop 2 bs))
-    else if starts (codes "<?") bs then behind_first (codes "?>") (drop 2 bs)
+abbrev pub after_markup : List ℕ → Option (List ℕ)
+after_markup bs =
+    if starts (codes "<!") bs then after_opened (opened_in (drop 2 bs))
+    else if starts (codes "<?") bs then after_first_of (codes "?>") (drop 2 bs)
     else None

@@ -6,18 +6,18 @@ use Rattle.cmark_grammar.specs.CodeSpans.{is_backtick, backticks, code_in, code_
 use Rattle.cmark_grammar.specs.Columns.{is_blank_byte}
 use Rattle.cmark_grammar.specs.Dashes.{dashes_of, dash_text}
 use Rattle.cmark_grammar.specs.Flanking.{Flanking, flanking, is_run_delimiter}
-use Rattle.cmark_grammar.specs.Formulas.{is_dollar, Braces, no_braces, braces_behind, inline_in, display_in}
-use Rattle.cmark_grammar.specs.InlineHtml.{behind_markup, takes_lines}
+use Rattle.cmark_grammar.specs.Formulas.{is_dollar, Braces, no_braces, braces_after, inline_in, display_in}
+use Rattle.cmark_grammar.specs.InlineHtml.{after_markup, takes_lines}
 use Rattle.cmark_grammar.specs.Items.{ItemKind, Plain, Own, Written, Quoted, Delimiters, Code, InlineMath, DisplayMath, Autolink, Html, OwnedHtml, SoftBreak, HardBreak, Bracket, Token, Stands, Opens, Closes, Ends}
 use Rattle.cmark_grammar.specs.LabelsOverLines.{piped}
 use Rattle.cmark_grammar.specs.LeafText.{Leaf, bytes_from, bytes_before, place_with, end_of}
 use Rattle.cmark_grammar.specs.Letters.{first_is, starts}
 use Rattle.cmark_grammar.specs.LineBreaks.{LineBreak, backslash_break_in, blank_break_in}
 use Rattle.cmark_grammar.specs.Lines.{is_content}
-use Rattle.cmark_grammar.specs.LinkDefinitions.{Parsed, behind_blanks}
+use Rattle.cmark_grammar.specs.LinkDefinitions.{Parsed, after_leading_blanks}
 use Rattle.cmark_grammar.specs.Quotes.{quote_beside}
 use Rattle.cmark_grammar.specs.Readers.{Reader}
-use Rattle.cmark_grammar.specs.Tags.{behind_tag, no_prefix}
+use Rattle.cmark_grammar.specs.Tags.{after_tag, no_prefix}
 use Rattle.cmark_grammar.specs.Tokens.{Entity, entity_in, is_punctuation, slice}
 
 -- an item after which reading resumes at its end
@@ -70,7 +70,7 @@ module _ (reader : Reader) (leaf : Leaf) where
   line_begins at = first_is (λ b. not (is_content b)) (reverse (before at))
 
   abbrev pub read_on : ℕ → ℕ
-  read_on at = place_of (if line_begins at then behind_blanks (from at) else from at)
+  read_on at = place_of (if line_begins at then after_leading_blanks (from at) else from at)
 
   -- a line break (CommonMark 6.7 and 6.8)
   abbrev pub break_to : (at : ℕ) → LineBreak → (end : ℕ) → Token
@@ -78,11 +78,11 @@ module _ (reader : Reader) (leaf : Leaf) where
 
   abbrev pub break_or : (at : ℕ) → Option LineBreak → Token → Token
   break_or at None other = other
-  break_or at (Some found) other = break_to at found (at + size_to at found.behind)
+  break_or at (Some found) other = break_to at found (at + size_to at found.following)
 
   -- a run of backticks: a code span (CommonMark 6.1), or a text
   abbrev pub code_or : (at run_length : ℕ) → Option Parsed → Token
-  code_or at run_length (Some found) = item_at (Code (code_text (as_in leaf.is_cell found.bytes))) at (place_of found.behind)
+  code_or at run_length (Some found) = item_at (Code (code_text (as_in leaf.is_cell found.bytes))) at (place_of found.following)
   code_or at run_length None = item_at Own at (at + run_length)
 
   -- the first backtick of a run is escaped: it is a text if the rest of the run opens a code span; else the whole run is a text
@@ -105,7 +105,7 @@ module _ (reader : Reader) (leaf : Leaf) where
 
   -- an autolink (CommonMark 6.5)
   abbrev pub autolink_or : (at : ℕ) → Option Parsed → Token → Token
-  autolink_or at (Some found) other = item_at (Autolink found.bytes) at (place_of found.behind)
+  autolink_or at (Some found) other = item_at (Autolink found.bytes) at (place_of found.following)
   autolink_or at None other = other
 
   -- a tag (CommonMark 6.6), whose text is without the prefixes of its lines, or a text
@@ -132,7 +132,7 @@ module _ (reader : Reader) (leaf : Leaf) where
   abbrev pub less_than : (at : ℕ) → List ℕ → Token
   less_than at bs =
       if first_is (λ c. c == 92) bs then item_at Plain at (suc at)
-      else autolink_or at (autolink_in reader.options.email_autolinks bs) (markup_or at (behind_markup (source_from at)) (tag_or_text at (behind_tag no_prefix (from at))))
+      else autolink_or at (autolink_in reader.options.email_autolinks bs) (markup_or at (after_markup (source_from at)) (tag_or_text at (after_tag no_prefix (from at))))
 
   -- a delimiter run (CommonMark 6.2), or literal bytes
   abbrev pub run_or : (at delimiter run_length : ℕ) → Flanking → Token
@@ -147,7 +147,7 @@ module _ (reader : Reader) (leaf : Leaf) where
 
   -- a formula, or a dollar sign that is a text (this profile's own)
   abbrev pub formula_or : (List ℕ → ItemKind) → (at : ℕ) → Option Parsed → Token
-  formula_or kind at (Some found) = item_at (kind (as_in leaf.is_cell found.bytes)) at (place_of found.behind)
+  formula_or kind at (Some found) = item_at (kind (as_in leaf.is_cell found.bytes)) at (place_of found.following)
   formula_or kind at None = item_at Own at (suc at)
 
   abbrev pub dollar : (at : ℕ) → List ℕ → Braces → Token
@@ -185,7 +185,7 @@ module _ (reader : Reader) (leaf : Leaf) where
       else if b == 91 then Opens (bracket false at (suc at))
       else if b == 93 then Closes (bracket false at (suc at))
       else if is_run_delimiter b then run_at at b (prefix_len (λ c. c == b) (b ∷ bs))
-      else if reader.options.math && is_dollar b then dollar at bs (braces_behind false (before at) no_braces)
+      else if reader.options.math && is_dollar b then dollar at bs (braces_after false (before at) no_braces)
       else if reader.options.smart_punctuation then smart_or at b
       else item_at Plain at (suc at)
 

@@ -26,7 +26,7 @@ abbrev pub with_literal_pipes : List ℕ → List ℕ
 with_literal_pipes = literal_pipes_from false
 
 abbrev pub as_in_cell : (is_in_table : Bool) → Parsed → Parsed
-as_in_cell is_in_table found = if is_in_table then record { bytes = with_literal_pipes found.bytes; behind = found.behind } else found
+as_in_cell is_in_table found = if is_in_table then record { bytes = with_literal_pipes found.bytes; following = found.following } else found
 
 module _ (prefix : List ℕ → Option ℕ) where
   -- the number of prefix bytes after this byte; `None` if the label ends there

@@ -23,22 +23,22 @@ first_is p [] = false
 first_is p (b ∷ bs) = p b
 
 -- the bytes after the first ones that all pass the test
-abbrev pub behind_all : (ℕ → Bool) → List ℕ → List ℕ
-behind_all p bs = drop (prefix_len p bs) bs
+abbrev pub after_while : (ℕ → Bool) → List ℕ → List ℕ
+after_while p bs = drop (prefix_len p bs) bs
 
 -- the bytes after this prefix, if they begin with it
-abbrev pub behind_start : (prefix bs : List ℕ) → Option (List ℕ)
-behind_start prefix bs = if starts prefix bs then Some (drop (length prefix) bs) else None
+abbrev pub after_start_of : (prefix bs : List ℕ) → Option (List ℕ)
+after_start_of prefix bs = if starts prefix bs then Some (drop (length prefix) bs) else None
 
 -- the bytes after the first occurrence of the closer
-abbrev pub behind_first : (closer : List ℕ) → List ℕ → Option (List ℕ)
-behind_first closer [] = None
-behind_first closer (b ∷ bs) = if starts closer (b ∷ bs) then Some (drop (length closer) (b ∷ bs)) else behind_first closer bs
+abbrev pub after_first_of : (closer : List ℕ) → List ℕ → Option (List ℕ)
+after_first_of closer [] = None
+after_first_of closer (b ∷ bs) = if starts closer (b ∷ bs) then Some (drop (length closer) (b ∷ bs)) else after_first_of closer bs
 
 -- the bytes after the first one, if it passes the test
-abbrev pub behind_if : (ℕ → Bool) → List ℕ → Option (List ℕ)
-behind_if p [] = None
-behind_if p (b ∷ bs) = if p b then Some bs else None
+abbrev pub after_if : (ℕ → Bool) → List ℕ → Option (List ℕ)
+after_if p [] = None
+after_if p (b ∷ bs) = if p b then Some bs else None
 
 -- a further part is read after a part that was there
 abbrev pub and_then : {A B : Type 0} → Option A → (A → Option B) → Option B

@@ -1,4 +1,4 @@
--- The grammar, in reading order. Chapters 1 to 12 are the definitions that the theorem rests on; docs/GRAMMAR.md has the same chapters.
+-- The grammar, in reading order. Chapters 1 to 12 are the definitions that the theorem rests on; docs/GRAMMAR.md has these chapters too.
 -- Sections are those of CommonMark 0.31.2 or, if it is named, of GFM.
 
 -- 1. The theorem, and the conditions under which a text is read
@@ -96,19 +96,3 @@ pub mod SetextAttributes
 pub mod Formulas
 pub mod Quotes
 pub mod Dashes
--- Words of the laws and of contracts. The theorem does not rest on them.
-pub mod SpecialBytes
-pub mod Balance
-pub mod Ranges
-pub mod LeafSpans
-pub mod Tightness
-pub mod TableShape
-pub mod MetadataPlaces
-pub mod Merge
--- Models that proofs use
-pub mod BlocksModel
-pub mod BlocksByLine
-pub mod DrawnDocument
-pub mod EmphasisModel
-pub mod SiblingsModel
-pub mod SpanEntries

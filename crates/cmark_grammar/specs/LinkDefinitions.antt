@@ -4,16 +4,16 @@ use Rattle.std.specs.Char.{is_ascii_whitespace}
 use Rattle.cmark_grammar.specs.Columns.{is_blank_byte, bytes_of}
 use Rattle.cmark_grammar.specs.Rows.{Row, words_of}
 use Rattle.cmark_grammar.specs.Leaves.{is_empty}
-use Rattle.cmark_grammar.specs.Tags.{behind_ending}
+use Rattle.cmark_grammar.specs.Tags.{after_ending}
 
 -- the part that was read, and the bytes after it
 pub record Parsed : Type 0 where
   pub bytes : List ℕ
-  pub behind : List ℕ
+  pub following : List ℕ
 
 abbrev pub put : ℕ → Option Parsed → Option Parsed
 put b None = None
-put b (Some found) = Some (record { bytes = b ∷ found.bytes; behind = found.behind })
+put b (Some found) = Some (record { bytes = b ∷ found.bytes; following = found.following })
 
 -- this byte escapes the next one: it is a backslash that is not escaped itself
 abbrev pub escapes_next : (escaped : Bool) → ℕ → Bool
@@ -23,7 +23,7 @@ escapes_next escaped b = not escaped && (b == 92)
 -- unless it is allowed
 abbrev pub up_to_byte : (escaped : Bool) → (closer refused : ℕ) → (over_lines : Bool) → (b : ℕ) → List ℕ → Option Parsed → Option Parsed
 up_to_byte escaped closer refused over_lines b bs found =
-    if not escaped && (b == closer) then Some (record { bytes = []; behind = bs })
+    if not escaped && (b == closer) then Some (record { bytes = []; following = bs })
     else if (not escaped && (b == refused)) || (not over_lines && ((b == 10) || (b == 13))) then None
     else put b found
 
@@ -58,13 +58,13 @@ depth_after escaped depth b = if escaped then depth else if b == 40 then suc dep
 
 abbrev pub bare_byte : (escaped : Bool) → (depth b : ℕ) → List ℕ → Option Parsed → Option Parsed
 bare_byte escaped depth b bs found =
-    if ends_bare b || (not escaped && ((b == 41) && (depth == 0))) then (if depth == 0 then Some (record { bytes = []; behind = b ∷ bs }) else None)
+    if ends_bare b || (not escaped && ((b == 41) && (depth == 0))) then (if depth == 0 then Some (record { bytes = []; following = b ∷ bs }) else None)
     else if not escaped && ((b == 40) && nat_le 32 depth) then None
     else put b found
 
 -- a bare destination (CommonMark 6.3). Depth: the number of open parentheses
 abbrev pub bare_in : (escaped : Bool) → (depth : ℕ) → List ℕ → Option Parsed
-bare_in escaped depth [] = if depth == 0 then Some (record { bytes = []; behind = [] }) else None
+bare_in escaped depth [] = if depth == 0 then Some (record { bytes = []; following = [] }) else None
 bare_in escaped depth (b ∷ bs) = bare_byte escaped depth b bs (bare_in (escapes_next escaped b) (depth_after escaped depth b) bs)
 
 abbrev pub nonempty : Option Parsed → Option Parsed
@@ -84,17 +84,17 @@ title_in (b ∷ bs) =
     else if b == 40 then up_to false 41 40 true bs
     else None
 
-abbrev pub behind_blanks : List ℕ → List ℕ
-behind_blanks bs = drop (length (take_while is_blank_byte bs)) bs
+abbrev pub after_leading_blanks : List ℕ → List ℕ
+after_leading_blanks bs = drop (length (take_while is_blank_byte bs)) bs
 
 -- the bytes after the blanks of the next line, if a line ends here
-abbrev pub behind_next_line : (here : List ℕ) → Option (List ℕ) → List ℕ
-behind_next_line here None = here
-behind_next_line here (Some line) = behind_blanks line
+abbrev pub after_next_line : (here : List ℕ) → Option (List ℕ) → List ℕ
+after_next_line here None = here
+after_next_line here (Some line) = after_leading_blanks line
 
 -- the bytes after blanks with at most one line ending: a line feed, a carriage return, or both in this order
-abbrev pub behind_separator : List ℕ → List ℕ
-behind_separator bs = behind_next_line (behind_blanks bs) (behind_ending (behind_blanks bs))
+abbrev pub after_separator : List ℕ → List ℕ
+after_separator bs = after_next_line (after_leading_blanks bs) (after_ending (after_leading_blanks bs))
 
 -- the rest of the line is blank
 abbrev pub at_end : List ℕ → Bool
@@ -102,7 +102,7 @@ at_end [] = true
 at_end (b ∷ bs) = (b == 10) || (b == 13)
 
 abbrev pub is_line_done : List ℕ → Bool
-is_line_done bs = at_end (behind_blanks bs)
+is_line_done bs = at_end (after_leading_blanks bs)
 
 -- a definition as written: the bytes of its label, of its destination, and of its title, if it has one
 pub record Definition : Type 0 where
@@ -113,35 +113,35 @@ pub record Definition : Type 0 where
 -- a definition, and the bytes after it
 pub record Defined : Type 0 where
   pub definition : Definition
-  pub behind : List ℕ
+  pub following : List ℕ
 
 abbrev pub defined : (label destination : List ℕ) → Option (List ℕ) → List ℕ → Defined
-defined label destination title behind = record { definition = record { label = label; destination = destination; title = title }; behind = behind }
+defined label destination title following = record { definition = record { label = label; destination = destination; title = title }; following = following }
 
 -- without a title the rest of the line after the destination must be blank
 abbrev pub untitled : (label : List ℕ) → Parsed → Option Defined
-untitled label destination = if is_line_done destination.behind then Some (defined label destination.bytes None destination.behind) else None
+untitled label destination = if is_line_done destination.following then Some (defined label destination.bytes None destination.following) else None
 
 -- a title counts only if white space separates it from the destination and the rest of its line is blank; else the definition ends before
 -- the title
 abbrev pub titled : (label : List ℕ) → Parsed → Option Parsed → Option Defined
 titled label destination None = untitled label destination
 titled label destination (Some title) =
-    if nat_lt (length (behind_separator destination.behind)) (length destination.behind) && is_line_done title.behind
-    then Some (defined label destination.bytes (Some title.bytes) title.behind)
+    if nat_lt (length (after_separator destination.following)) (length destination.following) && is_line_done title.following
+    then Some (defined label destination.bytes (Some title.bytes) title.following)
     else untitled label destination
 
 abbrev pub with_destination : (label : List ℕ) → Option Parsed → Option Defined
 with_destination label None = None
-with_destination label (Some destination) = titled label destination (title_in (behind_separator destination.behind))
+with_destination label (Some destination) = titled label destination (title_in (after_separator destination.following))
 
-abbrev pub behind_colon : Parsed → List ℕ → Option Defined
-behind_colon label [] = None
-behind_colon label (b ∷ bs) = if b == 58 then with_destination label.bytes (destination_in (behind_separator bs)) else None
+abbrev pub after_colon : Parsed → List ℕ → Option Defined
+after_colon label [] = None
+after_colon label (b ∷ bs) = if b == 58 then with_destination label.bytes (destination_in (after_separator bs)) else None
 
 abbrev pub with_label : Option Parsed → Option Defined
 with_label None = None
-with_label (Some label) = behind_colon label label.behind
+with_label (Some label) = after_colon label label.following
 
 -- the definition at the beginning of these bytes. Example: `[label]: /url "title"`
 abbrev pub definition_in : List ℕ → Option Defined

@@ -53,17 +53,17 @@ is_line Other = true
 is_line (ItemWith m) = true
 
 -- the line before the next one, after a blank line
-abbrev pub behind_blank : Before → Before
-behind_blank Marker = Other
-behind_blank Other = Other
-behind_blank (ItemWith m) = ItemWith m
+abbrev pub after_blank : Before → Before
+after_blank Marker = Other
+after_blank Other = Other
+after_blank (ItemWith m) = ItemWith m
 
 -- whether a blank line separates two of these blocks. The items of one list are one block, and so are titles with their definitions. Blank:
 -- a blank line comes directly before. No blank line before the first block counts: an item begins with at most one blank line, the rest of
 -- its marker's line (CommonMark 5.2), and so does a definition
 abbrev pub parted : Before → (blank : Bool) → Blocks → Bool
 parted before blank Nil = false
-parted before blank (BlankLine line after) = parted (behind_blank before) (is_line before) after
+parted before blank (BlankLine line after) = parted (after_blank before) (is_line before) after
 parted before blank (Paragraph first more after) =
     if is_title after then (blank && not (is_list_of definition_delimiter before)) || parted (ItemWith definition_delimiter) false after else blank || parted Other false after
 parted before blank (SetextHeading level first more underline after) = blank || parted Other false after
@@ -117,11 +117,11 @@ pub record ListBefore : Type 0 where
   pub tight : Bool
 
 -- an item is as tight as the list that it continues, or else as the list that it begins
-abbrev pub tight_behind : Option ListBefore → (delimiter : ℕ) → (inside after : Blocks) → Bool
-tight_behind None delimiter inside after = is_tight delimiter inside after
-tight_behind (Some before) delimiter inside after = if before.delimiter == delimiter then before.tight else is_tight delimiter inside after
+abbrev pub tight_after : Option ListBefore → (delimiter : ℕ) → (inside after : Blocks) → Bool
+tight_after None delimiter inside after = is_tight delimiter inside after
+tight_after (Some before) delimiter inside after = if before.delimiter == delimiter then before.tight else is_tight delimiter inside after
 
 -- a title is as tight as the list that it continues, or else as the list that it begins
-abbrev pub title_tight_behind : Option ListBefore → (after : Blocks) → Bool
-title_tight_behind None after = not (loose_from definition_delimiter false after)
-title_tight_behind (Some before) after = if before.delimiter == definition_delimiter then before.tight else not (loose_from definition_delimiter false after)
+abbrev pub title_tight_after : Option ListBefore → (after : Blocks) → Bool
+title_tight_after None after = not (loose_from definition_delimiter false after)
+title_tight_after (Some before) after = if before.delimiter == definition_delimiter then before.tight else not (loose_from definition_delimiter false after)

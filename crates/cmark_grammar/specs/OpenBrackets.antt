@@ -26,14 +26,14 @@ used_up (o ∷ os) = if o.stands then record o { stands = false } ∷ os else o 
 abbrev pub touches : (second first : Opener) → Bool
 touches second first = not second.bracket.is_image && (second.bracket.start == first.bracket.end)
 
-abbrev pub doubled_behind : (second : Opener) → List Opener → Option Taken
-doubled_behind second [] = None
-doubled_behind second (first ∷ os) =
-    if first.doubles && touches second first then Some (record { nearer = 1; opener = first }) else one_nearer (doubled_behind first os)
+abbrev pub doubled_after : (second : Opener) → List Opener → Option Taken
+doubled_after second [] = None
+doubled_after second (first ∷ os) =
+    if first.doubles && touches second first then Some (record { nearer = 1; opener = first }) else one_nearer (doubled_after first os)
 
 abbrev pub doubled : List Opener → Option Taken
 doubled [] = None
-doubled (o ∷ os) = doubled_behind o os
+doubled (o ∷ os) = doubled_after o os
 
 -- the opening bracket after `nearer` nearer ones was tried
 abbrev pub undoubled : Opener → Opener
@@ -48,9 +48,9 @@ tried (suc nearer) (o ∷ os) = o ∷ tried nearer os
 abbrev pub inactive : Opener → Opener
 inactive o = record o { is_inactive = o.is_inactive || not o.bracket.is_image }
 
-abbrev pub behind_link : (is_image : Bool) → List Opener → List Opener
-behind_link true os = os
-behind_link false os = map inactive os
+abbrev pub after_link : (is_image : Bool) → List Opener → List Opener
+after_link true os = os
+after_link false os = map inactive os
 
 abbrev pub dropped : Opener → Opener
 dropped o = record o { stands = false }

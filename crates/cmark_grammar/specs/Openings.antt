@@ -12,7 +12,7 @@ use Rattle.cmark_grammar.specs.Footnotes.{Footnotes, footnotes_in, are_read, do_
 use Rattle.cmark_grammar.specs.Metadata.{metadata_kind, holds_metadata, metadata_continuation}
 use Rattle.cmark_grammar.specs.MetadataBlockKind.{MetadataBlockKind}
 use Rattle.cmark_grammar.specs.Options.{Options}
-use Rattle.cmark_grammar.specs.Places.{Place, is_behind_task}
+use Rattle.cmark_grammar.specs.Places.{Place, is_after_task}
 use Rattle.cmark_grammar.specs.TableRows.{count_rows as count_rows_until, most_filled, table_head, table_interrupts}
 
 -- a leaf block other than a paragraph
@@ -91,7 +91,7 @@ put_if true r rs = r ∷ rs
 put_if false r rs = []
 
 abbrev pub defined_if : (lines : ℕ) → Option Defined → Opening
-defined_if lines (Some found) = Takes (LinkDefinition found.definition) (lines - line_ends found.behind)
+defined_if lines (Some found) = Takes (LinkDefinition found.definition) (lines - line_ends found.following)
 defined_if lines None = Plain
 
 abbrev pub break_if : Bool → Opening
@@ -108,7 +108,7 @@ metadata_begun None ahead = Plain
 metadata_begun (Some kind) ahead = if holds_metadata kind ahead then Takes (MetadataBlock kind) (counted (metadata_continuation kind) ahead) else Plain
 
 module _ (options : Options) where
-  -- whether a line interrupts a paragraph that is in the same container or inside further ones (CommonMark 4.8)
+  -- whether a line interrupts a paragraph that is in its container or inside further ones (CommonMark 4.8)
   abbrev pub interrupts : (same : Bool) → Row → List Row → Bool
   interrupts same r ahead =
       is_blank_line r || (footnote_interrupts (footnotes_in options) r || (nat_le (indent_of r) 3 && (is_block_quote r || (item_interrupts same r (item_of r) || (is_thematic_break (words_of r)
@@ -180,4 +180,4 @@ definition_or None other = other
 module _ (options : Options) where
   -- the opening of a line at a place, with these lines ahead
   abbrev pub opens_at : Place → Row → List Row → Opening
-  opens_at place r ahead = if is_behind_task place && not r.lazy then text_begun r else definition_or (definition_at options place r) (opens options r ahead)
+  opens_at place r ahead = if is_after_task place && not r.lazy then text_begun r else definition_or (definition_at options place r) (opens options r ahead)

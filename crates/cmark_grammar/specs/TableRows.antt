@@ -66,7 +66,7 @@ delimited_ahead columns [] = None
 delimited_ahead columns (s ∷ ahead) = if nat_le (indent_of s) 3 then with_columns columns (delimiter_row (words_of s)) else None
 
 -- the alignments of the columns of the table that begins with this line, if tables are read. The line contains a pipe that separates cells,
--- and the next line is a delimiter row with the same number of cells. A line that lacks a prefix begins no table
+-- and the next line is a delimiter row with as many cells. A line that lacks a prefix begins no table
 abbrev pub table_head : Options → Row → List Row → Option (List Alignment)
 table_head options r ahead =
     if options.tables && (not r.lazy && holds_pipe (words_of r)) then delimited_ahead (count_cells r) ahead else None

@@ -15,7 +15,7 @@ abbrev pub hyphen : ℕ
 hyphen = 45
 
 -- the alignment by a colon before the hyphens and one after them
-abbrev pub aligned : (before behind : Bool) → Alignment
+abbrev pub aligned : (before following : Bool) → Alignment
 aligned true true = Center
 aligned true false = Left
 aligned false true = Right

@@ -9,6 +9,6 @@ abbrev pub task_in : Options → Row → Option Bool
 task_in options r = if options.tasklists && (indent_of r == 0) then task_of (words_of r) else None
 
 -- the width of an item's marker with the three columns of its task marker, if it has one
-abbrev pub behind_box : Option Bool → (width : ℕ) → ℕ
-behind_box None width = width
-behind_box (Some is_checked) width = width + 3
+abbrev pub after_box : Option Bool → (width : ℕ) → ℕ
+after_box None width = width
+after_box (Some is_checked) width = width + 3

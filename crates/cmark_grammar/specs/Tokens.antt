@@ -41,9 +41,9 @@ abbrev pub value_of : (base : ℕ) → List ℕ → ℕ
 value_of base ds = fold (λ n d. n * base + digit_of d) 0 ds
 
 -- 1 to `most` digits and a semicolon
-abbrev pub numeric : (base most size : ℕ) → (digits behind : List ℕ) → Option Entity
-numeric base most size digits behind =
-    if nat_lt 0 (length digits) && (nat_le (length digits) most && first_is (λ b. b == 59) behind)
+abbrev pub numeric : (base most size : ℕ) → (digits following : List ℕ) → Option Entity
+numeric base most size digits following =
+    if nat_lt 0 (length digits) && (nat_le (length digits) most && first_is (λ b. b == 59) following)
     then Some (record { bytes = character (value_of base digits); size = length digits + size }) else None
 
 -- 1 to 6 hexadecimal digits and a semicolon (CommonMark 2.5)
@@ -58,8 +58,8 @@ abbrev pub numeric_in : List ℕ → Option Entity
 numeric_in bs = if first_is (λ b. (b == 120) || (b == 88)) bs then hexadecimal_in (drop 1 bs) else decimal_in bs
 
 -- a name that the look-up knows, and a semicolon
-abbrev pub named : Lookup → (name behind : List ℕ) → Option Entity
-named lookup name behind = if not (is_empty name) && first_is (λ b. b == 59) behind then entity_if (lookup name) (length name + 2) else None
+abbrev pub named : Lookup → (name following : List ℕ) → Option Entity
+named lookup name following = if not (is_empty name) && first_is (λ b. b == 59) following then entity_if (lookup name) (length name + 2) else None
 
 -- a name of letters and digits, and a semicolon (CommonMark 2.5)
 abbrev pub named_in : Lookup → List ℕ → Option Entity
@@ -95,10 +95,10 @@ is_escape EscapesNext = true
 is_escape (Begins entity) = false
 
 -- the number of further bytes that it takes
-abbrev pub size_behind : Does → ℕ
-size_behind Stands = 0
-size_behind EscapesNext = 0
-size_behind (Begins entity) = entity.size - 1
+abbrev pub size_after : Does → ℕ
+size_after Stands = 0
+size_after EscapesNext = 0
+size_after (Begins entity) = entity.size - 1
 
 -- the bytes that it gives, before others
 abbrev pub add_bytes : Does → ℕ → List ℕ → List ℕ
@@ -110,7 +110,7 @@ abbrev pub resolved_from : Lookup → (escaped : Bool) → (skip : ℕ) → List
 resolved_from lookup escaped skip [] = []
 resolved_from lookup escaped (suc skip) (b ∷ bs) = resolved_from lookup false skip bs
 resolved_from lookup escaped zero (b ∷ bs) =
-    let what = does lookup escaped b bs in add_bytes what b (resolved_from lookup (is_escape what) (size_behind what) bs)
+    let what = does lookup escaped b bs in add_bytes what b (resolved_from lookup (is_escape what) (size_after what) bs)
 
 -- bytes with escapes and entities resolved (info strings, destinations and titles): a backslash before punctuation is removed, and an
 -- entity becomes its text
@@ -119,11 +119,11 @@ resolved lookup bs = resolved_from lookup false 0 bs
 
 -- the lines of a title: each line ending becomes a line feed, and the blanks after it are removed (this profile's own). In_front: only
 -- blanks were read since the last line ending
-abbrev pub title_lines : (in_front : Bool) → List ℕ → List ℕ
-title_lines in_front [] = []
-title_lines in_front (b ∷ bs) =
+abbrev pub title_lines : (preceding : Bool) → List ℕ → List ℕ
+title_lines preceding [] = []
+title_lines preceding (b ∷ bs) =
     if ends_line b bs then line_feed ∷ title_lines true bs
-    else if in_front && is_blank_byte b then title_lines true bs
+    else if preceding && is_blank_byte b then title_lines true bs
     else if b == carriage_return then title_lines false bs
     else b ∷ title_lines false bs
 
@@ -190,12 +190,12 @@ without_closing cs =
     then without_trailing_blanks (drop_end is_hash cs) else cs
 
 -- the columns after a heading's opening sequence and the blanks there
-abbrev pub behind_hashes : (level : ℕ) → Row → List Column
-behind_hashes level r = without_indent (drop level (without_indent r.columns))
+abbrev pub after_hashes : (level : ℕ) → Row → List Column
+after_hashes level r = without_indent (drop level (without_indent r.columns))
 
 -- the columns of a heading after its opening sequence, without the spaces and tabs at both ends
 abbrev pub content_columns : (level : ℕ) → Row → List Column
-content_columns level r = without_trailing_blanks (behind_hashes level r)
+content_columns level r = without_trailing_blanks (after_hashes level r)
 
 -- attributes are removed first, if they are read (this profile's own)
 abbrev pub without_attributes : (attributes : Bool) → List Column → List Column
@@ -214,7 +214,7 @@ heading_columns attributes level r = without_closing (without_attributes attribu
 -- the text of a heading as one node, or none if it is empty
 abbrev pub heading_tokens : List ℕ → (attributes : Bool) → (level : ℕ) → Row → BlockDocument
 heading_tokens text attributes level r =
-    let start = first_place r.content_end (behind_hashes level r) in stretch_then text start (end_place start (heading_columns attributes level r)) Nil
+    let start = first_place r.content_end (after_hashes level r) in stretch_then text start (end_place start (heading_columns attributes level r)) Nil
 
 -- the attributes of a heading
 abbrev pub heading_attributes : (attributes : Bool) → (level : ℕ) → Row → Attributes
@@ -250,8 +250,8 @@ merge p [] = p ∷ []
 merge p (q ∷ ps) = if touches p q then record { owned = false; bytes = p.bytes ++ q.bytes; start = p.start; end = q.end } ∷ ps else p ∷ q ∷ ps
 
 abbrev pub merge_all : List Piece → List Piece → List Piece
-merge_all [] behind = behind
-merge_all (p ∷ ps) behind = merge p (merge_all ps behind)
+merge_all [] following = following
+merge_all (p ∷ ps) following = merge p (merge_all ps following)
 
 -- a line of code without at most `most` columns of indent
 abbrev pub code_columns : (most : ℕ) → Row → List Column

@@ -4,9 +4,9 @@ use Rattle.std.proofs.lemmas.List.{take_more, take_all, take-append-drop}
 use Rattle.std.proofs.lemmas.Grind.{flat_map-append}
 use Rattle.cmark_grammar.specs.Escapes.{escaped_html, escaped_href}
 use Rattle.cmark_grammar.specs.Html.{fresh_line, digit, language_start, title_attribute, further_classes, other_attribute, other_attributes}
-use Rattle.cmark_text_parts.specs.declared.text.CowStr.{CowStr}
+use Rattle.cmark_values.specs.declared.text.CowStr.{CowStr}
 use Rattle.cmark_text.specs.Appended.{AppendsFront}
-use Rattle.cmark_text_parts.specs.Shown.{text_bytes, shown_attribute}
+use Rattle.cmark_values.specs.Shown.{text_bytes, shown_attribute}
 use Rattle.cmark_html.specs.declared.parts.Part.{Part}
 use Rattle.cmark_html.specs.Parts.{part_bytes, joined, heading_start}
 
@@ -31,6 +31,10 @@ front_all old new bs e = (bs, [], sym (append-nil bs), e)
 -- two parts, then a beginning of a third
 pub front_third : (old mid mid' new a b d : List ℕ) → mid ≡ old ++ a → mid' ≡ mid ++ b → AppendsFront mid' new d → AppendsFront old new (a ++ (b ++ d))
 front_third old mid mid' new a b d e e' h = front_after old mid new a (b ++ d) e (front_after mid mid' new b d e' h)
+
+-- two parts, then all of a third
+pub all_third : (old mid mid' new a b d : List ℕ) → mid ≡ old ++ a → mid' ≡ mid ++ b → new ≡ mid' ++ d → new ≡ old ++ (a ++ (b ++ d))
+all_third old mid mid' new a b d e e' e'' = e'' ∙ ap (λ l. l ++ d) e' ∙ ap (λ l. (l ++ b) ++ d) e ∙ append_assoc (old ++ a) b d ∙ append_assoc old a (b ++ d)
 
 -- a part, then a beginning of the second of two further parts
 pub front_second : (old mid new a b d : List ℕ) → mid ≡ old ++ a → AppendsFront mid new b → AppendsFront old new (a ++ (b ++ d))

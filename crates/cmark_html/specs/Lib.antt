@@ -1,5 +1,6 @@
 pub mod Names
 pub mod Parts
+pub mod Pauses
 pub mod Pushed
-pub mod Writer
 pub mod Starts
+pub mod Writer

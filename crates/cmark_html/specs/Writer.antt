@@ -2,7 +2,7 @@
 use Rattle.std.specs.Prelude.{ℕ, Bool, List, map, option_map}
 use Rattle.std.specs.Cow.{cow_str_bytes}
 use Rattle.cmark_grammar.specs.Html as html
-use Rattle.cmark_text_parts.specs.Shown.{text_bytes, shown_alignment}
+use Rattle.cmark_values.specs.Shown.{text_bytes, shown_alignment}
 use Rattle.cmark_html.specs.declared.names.FootnoteNames.{FootnoteNames}
 use Rattle.cmark_html.specs.Names.{names_of}
 use Rattle.cmark_html.specs.declared.state.OpenImage.{OpenImage}

@@ -1,10 +1,10 @@
 //! The pieces of ends.
 
-ghost use Rattle.std.specs.Prelude.{◌≡◌, ◌++◌, OnOk, OnErr, string_bytes};
+ghost use Rattle.std.specs.Prelude.{◌≡◌};
 ghost use Rattle.cmark_grammar.specs.Html.{end_piece, heading_end, line_start_after_end};
-ghost use Rattle.cmark_text.specs.Appended.{AppendsFront};
+ghost use Rattle.cmark_text.specs.Appended.{Writes};
 ghost use Rattle.cmark_text.specs.Shown.{shown_end};
-ghost use Rattle.cmark_text_parts.specs.Shown.{level_number};
+ghost use Rattle.cmark_values.specs.Shown.{level_number};
 
 use crate::parts::append;
 use crate::table::cell_end_text;
@@ -59,8 +59,7 @@ fn heading_end_text(level: HeadingLevel) -> &'static str
 /// Appends the HTML of an end, in the head of a table or elsewhere.
 #[inline(always)]
 pub fn append_end(out: &mut String, in_head: bool, tag: TagEnd) -> Result<(), AllocError>
-    ensures ok { OnOk result (string_bytes out.new ≡ string_bytes out.old ++ end_piece in_head (shown_end tag)) }
-    ensures err { OnErr result (AppendsFront (string_bytes out.old) (string_bytes out.new) (end_piece in_head (shown_end tag))) }
+    ensures { Writes out.old out.new result (end_piece in_head (shown_end tag)) }
 {
     // Most ends are those of paragraphs, whose text has a length that is known here.
     if let TagEnd::Paragraph = tag {

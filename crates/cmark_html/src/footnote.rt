@@ -1,10 +1,10 @@
 //! The HTML of footnotes.
 
-ghost use Rattle.std.specs.Prelude.{◌≡◌, ◌++◌, OnOk, OnErr, string_bytes};
+ghost use Rattle.std.specs.Prelude.{◌++◌};
 ghost use Rattle.std.specs.Fmt.{decimal};
 ghost use Rattle.cmark_grammar.specs.Html.{alt_footnote_reference, footnote_number, footnote_reference, footnote_start, fresh_line};
-ghost use Rattle.cmark_text.specs.Appended.{AppendsFront};
-ghost use Rattle.cmark_text_parts.specs.Shown.{text_bytes};
+ghost use Rattle.cmark_text.specs.Appended.{Writes};
+ghost use Rattle.cmark_values.specs.Shown.{text_bytes};
 ghost use Rattle.cmark_html.specs.Writer.{shown_names};
 
 use crate::names::FootnoteNames;
@@ -20,8 +20,8 @@ fn append_footnote_start<'x>(
     name: &'x str,
     digits: &'x str,
 ) -> Result<(), AllocError>
-    ensures ok { OnOk result (string_bytes out.new ≡ string_bytes out.old ++ (fresh_line line_start ++ footnote_start name.now digits.now)) }
-    ensures err { OnErr result (AppendsFront (string_bytes out.old) (string_bytes out.new) (fresh_line line_start ++ footnote_start name.now digits.now)) }
+    ensures { Writes out.old out.new result
+        (fresh_line line_start ++ footnote_start name.now digits.now) }
 {
     append_parts(
         out,
@@ -42,8 +42,7 @@ fn append_footnote_reference<'x>(
     name: &'x str,
     digits: &'x str,
 ) -> Result<(), AllocError>
-    ensures ok { OnOk result (string_bytes out.new ≡ string_bytes out.old ++ footnote_reference name.now digits.now) }
-    ensures err { OnErr result (AppendsFront (string_bytes out.old) (string_bytes out.new) (footnote_reference name.now digits.now)) }
+    ensures { Writes out.old out.new result (footnote_reference name.now digits.now) }
 {
     append_parts(
         out,
@@ -59,8 +58,7 @@ fn append_footnote_reference<'x>(
 
 /// Appends a reference to a footnote in an alternative text. `digits` is the footnote's number.
 pub fn append_alt_reference(out: &mut String, digits: &str) -> Result<(), AllocError>
-    ensures ok { OnOk result (string_bytes out.new ≡ string_bytes out.old ++ alt_footnote_reference digits.now) }
-    ensures err { OnErr result (AppendsFront (string_bytes out.old) (string_bytes out.new) (alt_footnote_reference digits.now)) }
+    ensures { Writes out.old out.new result (alt_footnote_reference digits.now) }
 {
     append_around(out, "[", Part::Raw(digits), "]")
 }
@@ -73,8 +71,9 @@ pub fn append_numbered_start<'a>(
     names: &FootnoteNames<'a>,
     name: &CowStr<'a>,
 ) -> Result<(), AllocError>
-    ensures ok { OnOk result (string_bytes out.new ≡ string_bytes out.old ++ (fresh_line line_start ++ footnote_start (text_bytes name.now) (decimal (footnote_number (shown_names names.now) (text_bytes name.now))))) }
-    ensures err { OnErr result (AppendsFront (string_bytes out.old) (string_bytes out.new) (fresh_line line_start ++ footnote_start (text_bytes name.now) (decimal (footnote_number (shown_names names.now) (text_bytes name.now))))) }
+    ensures { let number = footnote_number (shown_names names.now) (text_bytes name.now) in
+        Writes out.old out.new result
+        (fresh_line line_start ++ footnote_start (text_bytes name.now) (decimal number)) }
 {
     let mut buffer = Buffer::new();
     let digits = buffer.format(names.number(name));
@@ -88,8 +87,8 @@ pub fn append_numbered_reference<'a>(
     names: &FootnoteNames<'a>,
     name: &CowStr<'a>,
 ) -> Result<(), AllocError>
-    ensures ok { OnOk result (string_bytes out.new ≡ string_bytes out.old ++ footnote_reference (text_bytes name.now) (decimal (footnote_number (shown_names names.now) (text_bytes name.now)))) }
-    ensures err { OnErr result (AppendsFront (string_bytes out.old) (string_bytes out.new) (footnote_reference (text_bytes name.now) (decimal (footnote_number (shown_names names.now) (text_bytes name.now))))) }
+    ensures { let number = footnote_number (shown_names names.now) (text_bytes name.now) in
+        Writes out.old out.new result (footnote_reference (text_bytes name.now) (decimal number)) }
 {
     let mut buffer = Buffer::new();
     let digits = buffer.format(names.number(name));

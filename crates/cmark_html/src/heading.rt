@@ -1,10 +1,10 @@
 //! The start of a heading with its attributes.
 
-ghost use Rattle.std.specs.Prelude.{◌≡◌, ◌∷◌, [], ◌++◌, OnOk, OnErr, codes, map, option_map, string_bytes};
+ghost use Rattle.std.specs.Prelude.{◌≡◌, ◌∷◌, [], ◌++◌, codes, map, option_map};
 ghost use Rattle.cmark_grammar.specs.Escapes.{escaped_html};
 ghost use Rattle.cmark_grammar.specs.Html.{fresh_line, digit, heading_attributes, id_attribute, class_attribute, further_classes, other_attribute, other_attributes};
-ghost use Rattle.cmark_text.specs.Appended.{AppendsFront};
-ghost use Rattle.cmark_text_parts.specs.Shown.{shown_attributes, shown_attribute, level_number, text_bytes};
+ghost use Rattle.cmark_text.specs.Appended.{Writes};
+ghost use Rattle.cmark_values.specs.Shown.{shown_attributes, shown_attribute, level_number, text_bytes};
 ghost use Rattle.cmark_html.specs.Parts.{class_start};
 
 use crate::parts::{Part, append, append_parts, new_line};
@@ -20,8 +20,9 @@ pub fn append_heading(
     classes: &Vec<CowStr<'_>>,
     attrs: &Vec<(CowStr<'_>, Option<CowStr<'_>>)>,
 ) -> Result<(), AllocError>
-    ensures ok { OnOk result (string_bytes out.new ≡ string_bytes out.old ++ (fresh_line line_start ++ (codes "<h" ++ (digit (level_number level) ∷ (heading_attributes (shown_attributes id.now classes.now.items attrs.now.items) ++ codes ">"))))) }
-    ensures err { OnErr result (AppendsFront (string_bytes out.old) (string_bytes out.new) (fresh_line line_start ++ (codes "<h" ++ (digit (level_number level) ∷ (heading_attributes (shown_attributes id.now classes.now.items attrs.now.items) ++ codes ">"))))) }
+    ensures { let attributes = shown_attributes id.now classes.now.items attrs.now.items in
+        Writes out.old out.new result (fresh_line line_start ++ (codes "<h"
+        ++ (digit (level_number level) ∷ (heading_attributes attributes ++ codes ">")))) }
 {
     append_parts(
         out,
@@ -55,8 +56,8 @@ fn append_attributes(
     classes: &Vec<CowStr<'_>>,
     attrs: &Vec<(CowStr<'_>, Option<CowStr<'_>>)>,
 ) -> Result<(), AllocError>
-    ensures ok { OnOk result (string_bytes out.new ≡ string_bytes out.old ++ heading_attributes (shown_attributes id.now classes.now.items attrs.now.items)) }
-    ensures err { OnErr result (AppendsFront (string_bytes out.old) (string_bytes out.new) (heading_attributes (shown_attributes id.now classes.now.items attrs.now.items))) }
+    ensures { let attributes = shown_attributes id.now classes.now.items attrs.now.items in
+        Writes out.old out.new result (heading_attributes attributes) }
 {
     append_id(out, id)?;
     append_classes(out, classes.as_slice())?;
@@ -65,8 +66,7 @@ fn append_attributes(
 
 /// Appends the anchor of a heading, if it has one.
 fn append_id(out: &mut String, id: &Option<CowStr<'_>>) -> Result<(), AllocError>
-    ensures ok { OnOk result (string_bytes out.new ≡ string_bytes out.old ++ id_attribute (option_map text_bytes id.now)) }
-    ensures err { OnErr result (AppendsFront (string_bytes out.old) (string_bytes out.new) (id_attribute (option_map text_bytes id.now))) }
+    ensures { Writes out.old out.new result (id_attribute (option_map text_bytes id.now)) }
 {
     match id {
         Some(id) => append_parts(
@@ -84,8 +84,7 @@ fn append_id(out: &mut String, id: &Option<CowStr<'_>>) -> Result<(), AllocError
 
 /// Appends the classes of a heading, if it has any.
 fn append_classes(out: &mut String, classes: &[CowStr<'_>]) -> Result<(), AllocError>
-    ensures ok { OnOk result (string_bytes out.new ≡ string_bytes out.old ++ class_attribute (map text_bytes classes.now)) }
-    ensures err { OnErr result (AppendsFront (string_bytes out.old) (string_bytes out.new) (class_attribute (map text_bytes classes.now))) }
+    ensures { Writes out.old out.new result (class_attribute (map text_bytes classes.now)) }
 {
     match classes.split_first() {
         Some((first, others)) => append_class_list(out, first.as_str(), others),
@@ -95,8 +94,8 @@ fn append_classes(out: &mut String, classes: &[CowStr<'_>]) -> Result<(), AllocE
 
 /// Appends the attribute of one class or more.
 fn append_class_list(out: &mut String, first: &str, others: &[CowStr<'_>]) -> Result<(), AllocError>
-    ensures ok { OnOk result (string_bytes out.new ≡ string_bytes out.old ++ (class_start first.now ++ (further_classes (map text_bytes others.now) ++ codes "\""))) }
-    ensures err { OnErr result (AppendsFront (string_bytes out.old) (string_bytes out.new) (class_start first.now ++ (further_classes (map text_bytes others.now) ++ codes "\""))) }
+    ensures { Writes out.old out.new result
+        (class_start first.now ++ (further_classes (map text_bytes others.now) ++ codes "\"")) }
 {
     append_parts(out, &[Part::Raw(" class=\""), Part::Value(first)])?;
     append_further_classes(out, others)?;
@@ -105,8 +104,7 @@ fn append_class_list(out: &mut String, first: &str, others: &[CowStr<'_>]) -> Re
 
 /// Appends names of classes, each with a space before it.
 fn append_further_classes(out: &mut String, names: &[CowStr<'_>]) -> Result<(), AllocError>
-    ensures ok { OnOk result (string_bytes out.new ≡ string_bytes out.old ++ further_classes (map text_bytes names.now)) }
-    ensures err { OnErr result (AppendsFront (string_bytes out.old) (string_bytes out.new) (further_classes (map text_bytes names.now))) }
+    ensures { Writes out.old out.new result (further_classes (map text_bytes names.now)) }
 {
     for name in names {
         append_parts(out, &[Part::Raw(" "), Part::Value(name.as_str())])?;
@@ -119,8 +117,7 @@ fn append_others(
     out: &mut String,
     attrs: &[(CowStr<'_>, Option<CowStr<'_>>)],
 ) -> Result<(), AllocError>
-    ensures ok { OnOk result (string_bytes out.new ≡ string_bytes out.old ++ other_attributes (map shown_attribute attrs.now)) }
-    ensures err { OnErr result (AppendsFront (string_bytes out.old) (string_bytes out.new) (other_attributes (map shown_attribute attrs.now))) }
+    ensures { Writes out.old out.new result (other_attributes (map shown_attribute attrs.now)) }
 {
     for attribute in attrs {
         append_other(out, attribute)?;
@@ -133,8 +130,7 @@ fn append_other(
     out: &mut String,
     attribute: &(CowStr<'_>, Option<CowStr<'_>>),
 ) -> Result<(), AllocError>
-    ensures ok { OnOk result (string_bytes out.new ≡ string_bytes out.old ++ other_attribute (shown_attribute attribute.now)) }
-    ensures err { OnErr result (AppendsFront (string_bytes out.old) (string_bytes out.new) (other_attribute (shown_attribute attribute.now))) }
+    ensures { Writes out.old out.new result (other_attribute (shown_attribute attribute.now)) }
 {
     let value = match &attribute.1 {
         Some(value) => value.as_str(),

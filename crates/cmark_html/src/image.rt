@@ -1,8 +1,8 @@
 //! Images, with their alternative texts.
 
-ghost use Rattle.std.specs.Prelude.{◌≡◌, ◌++◌, ◌==◌, if◌then◌else◌, [], IfOk, OnOk, OnErr, Some, None, option_map, string_bytes};
+ghost use Rattle.std.specs.Prelude.{◌≡◌, ◌==◌, if◌then◌else◌, [], IfOk, Some, None, option_map};
 ghost use Rattle.cmark_grammar.specs.Html.{image_start, image_end, alt_text, alt_task_list_marker, piece_inside, deeper, less_deep, still_open};
-ghost use Rattle.cmark_text.specs.Appended.{AppendsFront};
+ghost use Rattle.cmark_text.specs.Appended.{Writes};
 ghost use Rattle.cmark_text.specs.Shown.{shown};
 ghost use Rattle.cmark_html.specs.Writer.{shown_image, shown_names};
 
@@ -17,8 +17,7 @@ use std::alloc::AllocError;
 
 /// Appends an image up to its alternative text.
 pub fn append_image_start(out: &mut String, dest_url: &str) -> Result<(), AllocError>
-    ensures ok { OnOk result (string_bytes out.new ≡ string_bytes out.old ++ image_start dest_url.now) }
-    ensures err { OnErr result (AppendsFront (string_bytes out.old) (string_bytes out.new) (image_start dest_url.now)) }
+    ensures { Writes out.old out.new result (image_start dest_url.now) }
 {
     append_parts(
         out,
@@ -32,8 +31,7 @@ pub fn append_image_start(out: &mut String, dest_url: &str) -> Result<(), AllocE
 
 /// Appends the part of an image that follows its alternative text.
 pub fn append_image_end(out: &mut String, title: &str) -> Result<(), AllocError>
-    ensures ok { OnOk result (string_bytes out.new ≡ string_bytes out.old ++ image_end title.now) }
-    ensures err { OnErr result (AppendsFront (string_bytes out.old) (string_bytes out.new) (image_end title.now)) }
+    ensures { Writes out.old out.new result (image_end title.now) }
 {
     if title.is_empty() {
         return append(out, "\" />");
@@ -59,9 +57,10 @@ pub fn write_inside<'a>(
     names: &FootnoteNames<'a>,
     event: &Event<'a>,
 ) -> Result<Option<OpenImage<'a>>, AllocError>
-    ensures ok { OnOk result (string_bytes out.new ≡ string_bytes out.old ++ piece_inside (shown_names names.now) (shown_image image.entry) (shown event.now)) }
-    ensures state { IfOk result (λ next. option_map shown_image next ≡ still_open (shown_image image.entry) (shown event.now)) }
-    ensures err { OnErr result (AppendsFront (string_bytes out.old) (string_bytes out.new) (piece_inside (shown_names names.now) (shown_image image.entry) (shown event.now))) }
+    ensures writes { Writes out.old out.new result
+        (piece_inside (shown_names names.now) (shown_image image.entry) (shown event.now)) }
+    ensures state { IfOk result
+        (λ next. option_map shown_image next ≡ still_open (shown_image image.entry) (shown event.now)) }
 {
     match event {
         Event::Start(_) => Ok(Some(deepen(image)?)),
@@ -91,9 +90,11 @@ fn write_end_inside<'a>(
     out: &mut String,
     image: OpenImage<'a>,
 ) -> Result<Option<OpenImage<'a>>, AllocError>
-    ensures ok { OnOk result (string_bytes out.new ≡ string_bytes out.old ++ (if (shown_image image.entry).depth == 0 then image_end (shown_image image.entry).title else [])) }
-    ensures state { IfOk result (λ next. option_map shown_image next ≡ (if (shown_image image.entry).depth == 0 then None else Some (less_deep (shown_image image.entry)))) }
-    ensures err { OnErr result (AppendsFront (string_bytes out.old) (string_bytes out.new) (if (shown_image image.entry).depth == 0 then image_end (shown_image image.entry).title else [])) }
+    ensures writes { let before = shown_image image.entry in
+        Writes out.old out.new result (if before.depth == 0 then image_end before.title else []) }
+    ensures state { let before = shown_image image.entry in
+        let after = if before.depth == 0 then None else Some (less_deep before) in
+        IfOk result (λ next. option_map shown_image next ≡ after) }
 {
     if image.depth == 0 {
         append_image_end(out, image.title.as_str())?;
@@ -111,8 +112,7 @@ fn append_alt_text<'a>(
     names: &FootnoteNames<'a>,
     event: &Event<'a>,
 ) -> Result<(), AllocError>
-    ensures ok { OnOk result (string_bytes out.new ≡ string_bytes out.old ++ alt_text (shown_names names.now) (shown event.now)) }
-    ensures err { OnErr result (AppendsFront (string_bytes out.old) (string_bytes out.new) (alt_text (shown_names names.now) (shown event.now))) }
+    ensures { Writes out.old out.new result (alt_text (shown_names names.now) (shown event.now)) }
 {
     match event {
         Event::Start(_) | Event::End(_) | Event::Html(_) => Ok(()),

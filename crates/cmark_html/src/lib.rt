@@ -15,6 +15,7 @@ mod heading;
 mod image;
 mod names;
 mod parts;
+mod pause;
 mod short;
 mod start;
 mod state;
@@ -22,6 +23,7 @@ mod table;
 mod writer;
 
 pub use crate::names::FootnoteNames;
+pub use crate::pause::Pause;
 pub use crate::short::{write_link, write_short};
 pub use crate::state::Writer;
 pub use crate::writer::{finish, write_event};
@@ -30,7 +32,7 @@ use std::alloc::AllocError;
 
 /// Appends the HTML of all events that the iterator gives. The iterator has to end. An image that the events leave open is closed.
 ///
-/// An error item, or refused memory, ends the call with that error; the string then holds its old text and a beginning of the HTML of the
+/// An error item, or refused memory, ends the call with that error. The string then holds its old text and a beginning of the HTML of the
 /// events given so far. The iterator is not called again after its `None` or after an error item.
 ///
 /// A block gets a line feed before it unless this call last wrote one; the string's old text does not count. The error for refused memory
@@ -48,7 +50,8 @@ pub fn push_html<'a, I: Iterator<Item = Result<Event<'a>, AllocError>>>(
     requires ends { IsFinite (I.remaining iter) }
     ensures ok { OnOk result ((events : List Event) × Drains I.next_gives iter (map Ok events)
         × (string_bytes out.new ≡ string_bytes out.old ++ html (map shown events))) }
-    ensures err { OnErr result (Stops I.next_gives iter (string_bytes out.old) (string_bytes out.new)) }
+    ensures err { OnErr result
+        (Stops I.next_gives iter (string_bytes out.old) (string_bytes out.new)) }
 {
     let mut iter = iter;
     push_lent(out, &mut iter)
@@ -62,9 +65,11 @@ fn push_lent<'a, I: Iterator<Item = Result<Event<'a>, AllocError>>>(
 ) -> Result<(), AllocError>
     requires can { I.can_next iter.old }
     requires ends { IsFinite (I.remaining iter.old) }
-    ensures ok { OnOk result ((events : List Event) × YieldsThen I.next_gives iter.old (map Ok events) None iter.new
+    ensures ok { OnOk result ((events : List Event)
+        × YieldsThen I.next_gives iter.old (map Ok events) None iter.new
         × (string_bytes out.new ≡ string_bytes out.old ++ html (map shown events))) }
-    ensures err { OnErr result (StopsAt I.next_gives iter.old iter.new (string_bytes out.old) (string_bytes out.new)) }
+    ensures err { OnErr result
+        (StopsAt I.next_gives iter.old iter.new (string_bytes out.old) (string_bytes out.new)) }
 {
     let mut writer = Writer::new(*out.allocator());
     push_from(out, &mut writer, iter)
@@ -80,9 +85,11 @@ fn push_from<'a, I: Iterator<Item = Result<Event<'a>, AllocError>>>(
     requires begins { writing writer.old ≡ at_line_start }
     requires can { I.can_next iter.old }
     requires ends { IsFinite (I.remaining iter.old) }
-    ensures ok { OnOk result ((events : List Event) × YieldsThen I.next_gives iter.old (map Ok events) None iter.new
+    ensures ok { OnOk result ((events : List Event)
+        × YieldsThen I.next_gives iter.old (map Ok events) None iter.new
         × (string_bytes out.new ≡ string_bytes out.old ++ html (map shown events))) }
-    ensures err { OnErr result (StopsAt I.next_gives iter.old iter.new (string_bytes out.old) (string_bytes out.new)) }
+    ensures err { OnErr result
+        (StopsAt I.next_gives iter.old iter.new (string_bytes out.old) (string_bytes out.new)) }
 {
     while let Some(event) = iter.next() {
         write_event(out, writer, event?)?;

@@ -24,9 +24,9 @@ pub struct FootnoteNames<'a> {
 }
 
 impl<'a> FootnoteNames<'a> {
-    ghost use Rattle.std.specs.Prelude.{◌≡◌, [], OnOk};
+    ghost use Rattle.std.specs.Prelude.{◌≡◌, ◌↔◌, [], IsTrue, OnOk};
     ghost use Rattle.cmark_grammar.specs.Html.{footnote_number, named};
-    ghost use Rattle.cmark_text_parts.specs.Shown.{text_bytes};
+    ghost use Rattle.cmark_values.specs.Shown.{text_bytes};
     ghost use Rattle.cmark_html.specs.Writer.{shown_names};
 
     /// A list without names.
@@ -37,6 +37,13 @@ impl<'a> FootnoteNames<'a> {
             numbers: BTreeMap::new(alloc),
             alloc,
         }
+    }
+
+    /// Whether no footnote has a number.
+    pub fn is_empty(&self) -> bool
+        ensures { IsTrue result ↔ (shown_names self.now ≡ []) }
+    {
+        self.numbers.is_empty()
     }
 
     /// The number of a footnote, counted from 1. A name without a number gets the next one.
@@ -52,7 +59,8 @@ impl<'a> FootnoteNames<'a> {
 
     /// Gives the name the next number, if it has none.
     pub fn add(&mut self, name: CowStr<'a>) -> Result<(), AllocError>
-        ensures { OnOk result (shown_names self.new ≡ named (shown_names self.old) (text_bytes name.entry)) }
+        ensures { OnOk result
+            (shown_names self.new ≡ named (shown_names self.old) (text_bytes name.entry)) }
     {
         if self.numbers.contains_key(name.as_str()) {
             drop(name);

@@ -1,8 +1,8 @@
 //! The parts of which the HTML of an event is composed.
 
-ghost use Rattle.std.specs.Prelude.{◌≡◌, ◌++◌, OnOk, OnErr, string_bytes};
+ghost use Rattle.std.specs.Prelude.{◌≡◌, ◌++◌};
 ghost use Rattle.cmark_grammar.specs.Html.{fresh_line};
-ghost use Rattle.cmark_text.specs.Appended.{AppendsFront};
+ghost use Rattle.cmark_text.specs.Appended.{Writes};
 ghost use Rattle.cmark_html.specs.Parts.{part_bytes, joined};
 
 use cmark_text::escape::{escape_href, escape_html, escape_html_body_text};
@@ -30,8 +30,7 @@ pub fn new_line(line_start: bool) -> &'static str
 
 /// Appends a part.
 fn append_part(out: &mut String, part: Part<'_>) -> Result<(), AllocError>
-    ensures ok { OnOk result (string_bytes out.new ≡ string_bytes out.old ++ part_bytes part.entry) }
-    ensures err { OnErr result (AppendsFront (string_bytes out.old) (string_bytes out.new) (part_bytes part.entry)) }
+    ensures { Writes out.old out.new result (part_bytes part.entry) }
 {
     match part {
         Part::Raw(text) => append(out, text),
@@ -44,8 +43,7 @@ fn append_part(out: &mut String, part: Part<'_>) -> Result<(), AllocError>
 /// Appends a text as it is.
 #[inline(always)]
 pub fn append(out: &mut String, text: &str) -> Result<(), AllocError>
-    ensures ok { OnOk result (string_bytes out.new ≡ string_bytes out.old ++ text.now) }
-    ensures err { OnErr result (AppendsFront (string_bytes out.old) (string_bytes out.new) text.now) }
+    ensures { Writes out.old out.new result text.now }
 {
     out.push_str(text)
 }
@@ -53,8 +51,7 @@ pub fn append(out: &mut String, text: &str) -> Result<(), AllocError>
 /// Appends a text on a line of its own: after a line feed, unless the writer is at a line start.
 #[inline(never)]
 pub fn append_on_line(out: &mut String, line_start: bool, text: &str) -> Result<(), AllocError>
-    ensures ok { OnOk result (string_bytes out.new ≡ string_bytes out.old ++ (fresh_line line_start ++ text.now)) }
-    ensures err { OnErr result (AppendsFront (string_bytes out.old) (string_bytes out.new) (fresh_line line_start ++ text.now)) }
+    ensures { Writes out.old out.new result (fresh_line line_start ++ text.now) }
 {
     if line_start {
         return append(out, text);
@@ -65,8 +62,7 @@ pub fn append_on_line(out: &mut String, line_start: bool, text: &str) -> Result<
 
 /// Appends parts, one after the other.
 pub fn append_parts(out: &mut String, parts: &[Part<'_>]) -> Result<(), AllocError>
-    ensures ok { OnOk result (string_bytes out.new ≡ string_bytes out.old ++ joined parts.now) }
-    ensures err { OnErr result (AppendsFront (string_bytes out.old) (string_bytes out.new) (joined parts.now)) }
+    ensures { Writes out.old out.new result (joined parts.now) }
 {
     for part in parts {
         append_part(out, *part)?;
@@ -80,10 +76,10 @@ pub fn append_around<'x>(
     out: &mut String,
     before: &'x str,
     part: Part<'x>,
-    behind: &'x str,
+    following: &'x str,
 ) -> Result<(), AllocError>
-    ensures ok { OnOk result (string_bytes out.new ≡ string_bytes out.old ++ (before.now ++ (part_bytes part.entry ++ behind.now))) }
-    ensures err { OnErr result (AppendsFront (string_bytes out.old) (string_bytes out.new) (before.now ++ (part_bytes part.entry ++ behind.now))) }
+    ensures { Writes out.old out.new result
+        (before.now ++ (part_bytes part.entry ++ following.now)) }
 {
-    append_parts(out, &[Part::Raw(before), part, Part::Raw(behind)])
+    append_parts(out, &[Part::Raw(before), part, Part::Raw(following)])
 }

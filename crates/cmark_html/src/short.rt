@@ -1,14 +1,14 @@
 //! The HTML of what is written without an `Event`: events that own nothing, and the start of a link.
 
-ghost use Rattle.std.specs.Prelude.{◌≡◌, ◌++◌, true, OnOk, OnErr, None, codes, string_bytes};
+ghost use Rattle.std.specs.Prelude.{◌≡◌, true, OnOk, None, codes};
 ghost use Rattle.cmark_grammar.specs.Event.{Code, End, Html, Start, Text};
 ghost use Rattle.cmark_grammar.specs.Html.{piece_outside, moved_outside};
 ghost use Rattle.cmark_grammar.specs.Tag as grammar_tag;
-ghost use Rattle.cmark_text.specs.Appended.{AppendsFront};
+ghost use Rattle.cmark_text.specs.Appended.{Writes};
 ghost use Rattle.cmark_text.specs.Excerpt.{excerpt_bytes};
 ghost use Rattle.cmark_text.specs.Short.{shown_plain, shown_short};
 ghost use Rattle.cmark_text.specs.Shown.{shown_end};
-ghost use Rattle.cmark_text_parts.specs.Shown.{shown_link_type};
+ghost use Rattle.cmark_values.specs.Shown.{shown_link_type};
 ghost use Rattle.cmark_html.specs.Parts.{linked};
 ghost use Rattle.cmark_html.specs.Writer.{at_start, writing};
 
@@ -30,9 +30,10 @@ pub fn write_short<'a>(
     short: Short<'a>,
 ) -> Result<(), AllocError>
     requires outside { writer.old.image ≡ None }
-    ensures ok { OnOk result (string_bytes out.new ≡ string_bytes out.old ++ piece_outside (writing writer.old) (shown_short short.entry)) }
-    ensures state { OnOk result (writing writer.new ≡ moved_outside (writing writer.old) (shown_short short.entry)) }
-    ensures err { OnErr result (AppendsFront (string_bytes out.old) (string_bytes out.new) (piece_outside (writing writer.old) (shown_short short.entry))) }
+    ensures writes { Writes out.old out.new result
+        (piece_outside (writing writer.old) (shown_short short.entry)) }
+    ensures state { OnOk result
+        (writing writer.new ≡ moved_outside (writing writer.old) (shown_short short.entry)) }
 {
     match short {
         Short::Text(text) => write_text(out, writer, text),
@@ -64,9 +65,12 @@ pub fn write_link(
     title: &str,
 ) -> Result<(), AllocError>
     requires outside { writer.old.image ≡ None }
-    ensures ok { OnOk result (string_bytes out.new ≡ string_bytes out.old ++ piece_outside (writing writer.old) (Start (grammar_tag.Link (linked (shown_link_type link_type) dest_url.now title.now)))) }
-    ensures state { OnOk result (writing writer.new ≡ moved_outside (writing writer.old) (Start (grammar_tag.Link (linked (shown_link_type link_type) dest_url.now title.now)))) }
-    ensures err { OnErr result (AppendsFront (string_bytes out.old) (string_bytes out.new) (piece_outside (writing writer.old) (Start (grammar_tag.Link (linked (shown_link_type link_type) dest_url.now title.now))))) }
+    ensures writes { let link = linked (shown_link_type link_type) dest_url.now title.now in
+        Writes out.old out.new result
+        (piece_outside (writing writer.old) (Start (grammar_tag.Link link))) }
+    ensures state { let link = linked (shown_link_type link_type) dest_url.now title.now in
+        OnOk result
+        (writing writer.new ≡ moved_outside (writing writer.old) (Start (grammar_tag.Link link))) }
 {
     append_link(out, link_type, dest_url, title)?;
     writer.line_start = false;
@@ -81,9 +85,10 @@ fn write_text(
     text: Excerpt<'_>,
 ) -> Result<(), AllocError>
     requires { writer.old.image ≡ None }
-    ensures ok { OnOk result (string_bytes out.new ≡ string_bytes out.old ++ piece_outside (writing writer.old) (Text (excerpt_bytes text.entry))) }
-    ensures state { OnOk result (writing writer.new ≡ moved_outside (writing writer.old) (Text (excerpt_bytes text.entry))) }
-    ensures err { OnErr result (AppendsFront (string_bytes out.old) (string_bytes out.new) (piece_outside (writing writer.old) (Text (excerpt_bytes text.entry)))) }
+    ensures writes { Writes out.old out.new result
+        (piece_outside (writing writer.old) (Text (excerpt_bytes text.entry))) }
+    ensures state { OnOk result
+        (writing writer.new ≡ moved_outside (writing writer.old) (Text (excerpt_bytes text.entry))) }
 {
     if writer.in_metadata {
         return Ok(());
@@ -97,9 +102,10 @@ fn write_text(
 #[inline(always)]
 fn write_code(out: &mut String, writer: &mut Writer<'_>, text: &str) -> Result<(), AllocError>
     requires { writer.old.image ≡ None }
-    ensures ok { OnOk result (string_bytes out.new ≡ string_bytes out.old ++ piece_outside (writing writer.old) (Code text.now)) }
-    ensures state { OnOk result (writing writer.new ≡ moved_outside (writing writer.old) (Code text.now)) }
-    ensures err { OnErr result (AppendsFront (string_bytes out.old) (string_bytes out.new) (piece_outside (writing writer.old) (Code text.now))) }
+    ensures writes { Writes out.old out.new result
+        (piece_outside (writing writer.old) (Code text.now)) }
+    ensures state { OnOk result
+        (writing writer.new ≡ moved_outside (writing writer.old) (Code text.now)) }
 {
     append(out, "<code>")?;
     escape_html_body_text(out, text)?;
@@ -112,9 +118,10 @@ fn write_code(out: &mut String, writer: &mut Writer<'_>, text: &str) -> Result<(
 #[inline(always)]
 fn write_html(out: &mut String, writer: &mut Writer<'_>, text: &str) -> Result<(), AllocError>
     requires { writer.old.image ≡ None }
-    ensures ok { OnOk result (string_bytes out.new ≡ string_bytes out.old ++ piece_outside (writing writer.old) (Html text.now)) }
-    ensures state { OnOk result (writing writer.new ≡ moved_outside (writing writer.old) (Html text.now)) }
-    ensures err { OnErr result (AppendsFront (string_bytes out.old) (string_bytes out.new) (piece_outside (writing writer.old) (Html text.now))) }
+    ensures writes { Writes out.old out.new result
+        (piece_outside (writing writer.old) (Html text.now)) }
+    ensures state { OnOk result
+        (writing writer.new ≡ moved_outside (writing writer.old) (Html text.now)) }
 {
     append(out, text)?;
     writer.line_start = line_start_after_html(writer.line_start, text);
@@ -124,9 +131,8 @@ fn write_html(out: &mut String, writer: &mut Writer<'_>, text: &str) -> Result<(
 /// Appends a text that ends a line.
 #[inline(always)]
 fn write_line(out: &mut String, writer: &mut Writer<'_>, text: &str) -> Result<(), AllocError>
-    ensures ok { OnOk result (string_bytes out.new ≡ string_bytes out.old ++ text.now) }
+    ensures writes { Writes out.old out.new result text.now }
     ensures state { OnOk result (writing writer.new ≡ at_start true (writing writer.old)) }
-    ensures err { OnErr result (AppendsFront (string_bytes out.old) (string_bytes out.new) text.now) }
 {
     append(out, text)?;
     writer.line_start = true;
@@ -137,9 +143,10 @@ fn write_line(out: &mut String, writer: &mut Writer<'_>, text: &str) -> Result<(
 #[inline(always)]
 fn write_start(out: &mut String, writer: &mut Writer<'_>, tag: PlainTag) -> Result<(), AllocError>
     requires { writer.old.image ≡ None }
-    ensures ok { OnOk result (string_bytes out.new ≡ string_bytes out.old ++ piece_outside (writing writer.old) (Start (shown_plain tag))) }
-    ensures state { OnOk result (writing writer.new ≡ moved_outside (writing writer.old) (Start (shown_plain tag))) }
-    ensures err { OnErr result (AppendsFront (string_bytes out.old) (string_bytes out.new) (piece_outside (writing writer.old) (Start (shown_plain tag)))) }
+    ensures writes { Writes out.old out.new result
+        (piece_outside (writing writer.old) (Start (shown_plain tag))) }
+    ensures state { OnOk result
+        (writing writer.new ≡ moved_outside (writing writer.old) (Start (shown_plain tag))) }
 {
     append_plain_start(out, writer, tag)?;
     writer.line_start = line_start_after_plain(writer.line_start, tag);
@@ -159,9 +166,10 @@ fn write_start(out: &mut String, writer: &mut Writer<'_>, tag: PlainTag) -> Resu
 #[inline(always)]
 fn write_end(out: &mut String, writer: &mut Writer<'_>, tag: TagEnd) -> Result<(), AllocError>
     requires { writer.old.image ≡ None }
-    ensures ok { OnOk result (string_bytes out.new ≡ string_bytes out.old ++ piece_outside (writing writer.old) (End (shown_end tag))) }
-    ensures state { OnOk result (writing writer.new ≡ moved_outside (writing writer.old) (End (shown_end tag))) }
-    ensures err { OnErr result (AppendsFront (string_bytes out.old) (string_bytes out.new) (piece_outside (writing writer.old) (End (shown_end tag)))) }
+    ensures writes { Writes out.old out.new result
+        (piece_outside (writing writer.old) (End (shown_end tag))) }
+    ensures state { OnOk result
+        (writing writer.new ≡ moved_outside (writing writer.old) (End (shown_end tag))) }
 {
     append_end(out, writer.table.in_head, tag)?;
     writer.line_start = line_start_after_end(writer.line_start, tag);

@@ -1,11 +1,11 @@
 //! The HTML of starts.
 
-ghost use Rattle.std.specs.Prelude.{◌≡◌, ◌++◌, ◌∷◌, [], OnOk, OnErr, codes, option_map, string_bytes, take_while};
+ghost use Rattle.std.specs.Prelude.{◌≡◌, ◌++◌, ◌∷◌, codes, option_map, take_while};
 ghost use Rattle.cmark_grammar.specs.Html.{Writing, digit, start_piece, line_start_after_start, block_quote_start, code_block_start, fresh_line, is_within_word, language_start, list_start, link_start, scheme, title_attribute};
-ghost use Rattle.cmark_text.specs.Appended.{AppendsFront};
+ghost use Rattle.cmark_text.specs.Appended.{Writes};
 ghost use Rattle.cmark_text.specs.Short.{shown_plain};
 ghost use Rattle.cmark_text.specs.Shown.{shown_tag};
-ghost use Rattle.cmark_text_parts.specs.Shown.{level_number, shown_block_quote_kind, shown_code_block_kind, shown_link_type};
+ghost use Rattle.cmark_values.specs.Shown.{level_number, shown_block_quote_kind, shown_code_block_kind, shown_link_type};
 ghost use Rattle.cmark_html.specs.Parts.{linked};
 ghost use Rattle.cmark_html.specs.Starts.{started};
 ghost use Rattle.cmark_html.specs.Writer.{writing};
@@ -27,8 +27,7 @@ pub fn append_start<'a>(
     writer: &Writer<'a>,
     tag: &Tag<'a>,
 ) -> Result<(), AllocError>
-    ensures ok { OnOk result (string_bytes out.new ≡ string_bytes out.old ++ start_piece (writing writer.now) (shown_tag tag.now)) }
-    ensures err { OnErr result (AppendsFront (string_bytes out.old) (string_bytes out.new) (start_piece (writing writer.now) (shown_tag tag.now))) }
+    ensures { Writes out.old out.new result (start_piece (writing writer.now) (shown_tag tag.now)) }
 {
     if let Some(plain) = tag.plain() {
         return append_plain_start(out, writer, plain);
@@ -107,8 +106,7 @@ pub fn append_plain_start(
     writer: &Writer<'_>,
     tag: PlainTag,
 ) -> Result<(), AllocError>
-    ensures ok { OnOk result (string_bytes out.new ≡ string_bytes out.old ++ start_piece (writing writer.now) (shown_plain tag)) }
-    ensures err { OnErr result (AppendsFront (string_bytes out.old) (string_bytes out.new) (start_piece (writing writer.now) (shown_plain tag))) }
+    ensures { Writes out.old out.new result (start_piece (writing writer.now) (shown_plain tag)) }
 {
     let line_start = writer.line_start;
     // Most starts are those of paragraphs, whose text has a length that is known here.
@@ -196,8 +194,8 @@ fn append_code_block(
     line_start: bool,
     kind: &CodeBlockKind<'_>,
 ) -> Result<(), AllocError>
-    ensures ok { OnOk result (string_bytes out.new ≡ string_bytes out.old ++ (fresh_line line_start ++ code_block_start (shown_code_block_kind kind.now))) }
-    ensures err { OnErr result (AppendsFront (string_bytes out.old) (string_bytes out.new) (fresh_line line_start ++ code_block_start (shown_code_block_kind kind.now))) }
+    ensures { Writes out.old out.new result
+        (fresh_line line_start ++ code_block_start (shown_code_block_kind kind.now)) }
 {
     match kind {
         CodeBlockKind::Indented => append_on_line(out, line_start, "<pre><code>"),
@@ -207,8 +205,7 @@ fn append_code_block(
 
 /// Appends the start of a fenced code block in this language, which may be empty.
 fn append_fenced(out: &mut String, line_start: bool, language: &str) -> Result<(), AllocError>
-    ensures ok { OnOk result (string_bytes out.new ≡ string_bytes out.old ++ (fresh_line line_start ++ language_start language.now)) }
-    ensures err { OnErr result (AppendsFront (string_bytes out.old) (string_bytes out.new) (fresh_line line_start ++ language_start language.now)) }
+    ensures { Writes out.old out.new result (fresh_line line_start ++ language_start language.now) }
 {
     if language.is_empty() {
         return append_on_line(out, line_start, "<pre><code>");
@@ -237,8 +234,7 @@ fn first_word(text: &str) -> &str
 /// Appends the start of a list, with its first number if that is not 1 (CommonMark 5.3).
 #[inline(never)]
 fn append_list(out: &mut String, line_start: bool, first: Option<u64>) -> Result<(), AllocError>
-    ensures ok { OnOk result (string_bytes out.new ≡ string_bytes out.old ++ (fresh_line line_start ++ list_start first)) }
-    ensures err { OnErr result (AppendsFront (string_bytes out.old) (string_bytes out.new) (fresh_line line_start ++ list_start first)) }
+    ensures { Writes out.old out.new result (fresh_line line_start ++ list_start first) }
 {
     let Some(number) = first else {
         return append_on_line(out, line_start, "<ul>\n");
@@ -252,8 +248,8 @@ fn append_list(out: &mut String, line_start: bool, first: Option<u64>) -> Result
 
 /// Appends the start of a list whose first number is not 1. `digits` is that number.
 fn append_numbered(out: &mut String, line_start: bool, digits: &str) -> Result<(), AllocError>
-    ensures ok { OnOk result (string_bytes out.new ≡ string_bytes out.old ++ (fresh_line line_start ++ (codes "<ol start=\"" ++ (digits.now ++ codes "\">\n")))) }
-    ensures err { OnErr result (AppendsFront (string_bytes out.old) (string_bytes out.new) (fresh_line line_start ++ (codes "<ol start=\"" ++ (digits.now ++ codes "\">\n")))) }
+    ensures { Writes out.old out.new result
+        (fresh_line line_start ++ (codes "<ol start=\"" ++ (digits.now ++ codes "\">\n"))) }
 {
     append_parts(
         out,
@@ -274,8 +270,8 @@ pub fn append_link(
     dest_url: &str,
     title: &str,
 ) -> Result<(), AllocError>
-    ensures ok { OnOk result (string_bytes out.new ≡ string_bytes out.old ++ link_start (linked (shown_link_type link_type) dest_url.now title.now)) }
-    ensures err { OnErr result (AppendsFront (string_bytes out.old) (string_bytes out.new) (link_start (linked (shown_link_type link_type) dest_url.now title.now))) }
+    ensures { Writes out.old out.new result
+        (link_start (linked (shown_link_type link_type) dest_url.now title.now)) }
 {
     append(out, link_front(link_type))?;
     escape_href(out, dest_url)?;
@@ -284,8 +280,8 @@ pub fn append_link(
 
 /// Appends the part of a link's start that follows its destination.
 fn append_link_title(out: &mut String, title: &str) -> Result<(), AllocError>
-    ensures ok { OnOk result (string_bytes out.new ≡ string_bytes out.old ++ (codes "\"" ++ (title_attribute title.now ++ codes ">"))) }
-    ensures err { OnErr result (AppendsFront (string_bytes out.old) (string_bytes out.new) (codes "\"" ++ (title_attribute title.now ++ codes ">"))) }
+    ensures { Writes out.old out.new result
+        (codes "\"" ++ (title_attribute title.now ++ codes ">")) }
 {
     if title.is_empty() {
         return append(out, "\">");

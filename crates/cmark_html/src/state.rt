@@ -50,7 +50,8 @@ impl<'a> Writer<'a> {
     /// A writer that continues the HTML of earlier blocks. `line_start` says whether this HTML ends a line; `names` are the names of its
     /// footnotes. No image, table or metadata block is open.
     pub fn continuing(alloc: Global, line_start: bool, names: FootnoteNames<'a>) -> Writer<'a>
-        ensures { writing result ≡ at_start line_start (with_names (shown_names names.entry) at_line_start) }
+        ensures { let named = with_names (shown_names names.entry) at_line_start in
+            writing result ≡ at_start line_start named }
     {
         Writer {
             line_start,

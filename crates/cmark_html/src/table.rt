@@ -1,11 +1,11 @@
 //! Tables: the names and alignments of their cells.
 
-ghost use Rattle.std.specs.Prelude.{◌≡◌, ◌++◌, codes, OnOk, OnErr, IfOk, option_map, string_bytes};
+ghost use Rattle.std.specs.Prelude.{◌≡◌, ◌++◌, ◌↔◌, codes, OnOk, IfOk, IsTrue, option_map};
 ghost use Rattle.std.specs.List.{slice_get};
 ghost use Rattle.cmark_grammar.specs.Html.{alignment_style, cell_tag, cell_start, cell_end, no_table, table_after_end};
-ghost use Rattle.cmark_text.specs.Appended.{AppendsFront};
+ghost use Rattle.cmark_text.specs.Appended.{Writes};
 ghost use Rattle.cmark_text.specs.Shown.{shown_end};
-ghost use Rattle.cmark_text_parts.specs.Shown.{shown_alignment};
+ghost use Rattle.cmark_values.specs.Shown.{shown_alignment};
 ghost use Rattle.cmark_html.specs.Writer.{shown_table};
 
 use crate::parts::append;
@@ -35,17 +35,37 @@ impl TableState {
         }
     }
 
+    /// Whether this is the state before the first table.
+    pub fn is_new(&self) -> bool
+        ensures { IsTrue result ↔ (shown_table self.now ≡ no_table) }
+    {
+        self.in_head && self.alignments.is_empty() && self.column == 0
+    }
+
+    /// This state in a value of its own. Fails only if memory is refused.
+    pub fn clone(&self, alloc: Global) -> Result<TableState, AllocError>
+        ensures { IfOk result (λ copy. shown_table copy ≡ shown_table self.now) }
+    {
+        let mut alignments = Vec::new(alloc);
+        alignments.extend_from_slice(self.alignments.as_slice())?;
+        Ok(TableState {
+            in_head: self.in_head,
+            alignments,
+            column: self.column,
+        })
+    }
+
     /// The alignment of the next cell; `None` past the last column.
     fn alignment(&self) -> Option<Alignment>
-        ensures { option_map shown_alignment result ≡ slice_get (shown_table self.now).alignments (shown_table self.now).column }
+        ensures { let table = shown_table self.now in
+            option_map shown_alignment result ≡ slice_get table.alignments table.column }
     {
         self.alignments.get(self.column).copied()
     }
 
     /// Appends the start of a cell.
     pub fn append_cell_start(&self, out: &mut String) -> Result<(), AllocError>
-        ensures ok { OnOk result (string_bytes out.new ≡ string_bytes out.old ++ cell_start (shown_table self.now)) }
-        ensures err { OnErr result (AppendsFront (string_bytes out.old) (string_bytes out.new) (cell_start (shown_table self.now))) }
+        ensures { Writes out.old out.new result (cell_start (shown_table self.now)) }
     {
         append(out, cell_start_text(self.in_head, self.alignment()))
     }
@@ -54,7 +74,8 @@ impl TableState {
     ///
     /// If more than `usize::MAX` cells of a row have ended, the error is the one for refused memory.
     pub fn end(&mut self, tag: TagEnd) -> Result<(), AllocError>
-        ensures { OnOk result (shown_table self.new ≡ table_after_end (shown_table self.old) (shown_end tag)) }
+        ensures { OnOk result
+            (shown_table self.new ≡ table_after_end (shown_table self.old) (shown_end tag)) }
     {
         match tag {
             TagEnd::TableHead => self.in_head = false,
@@ -72,7 +93,8 @@ impl TableState {
 
 /// The start of a cell with this alignment.
 fn cell_start_text(in_head: bool, alignment: Option<Alignment>) -> &'static str
-    ensures { result.now ≡ cell_tag in_head ++ (alignment_style (option_map shown_alignment alignment) ++ codes ">") }
+    ensures { let style = alignment_style (option_map shown_alignment alignment) in
+        result.now ≡ cell_tag in_head ++ (style ++ codes ">") }
 {
     match (in_head, alignment) {
         (true, None | Some(Alignment::None)) => "<th>",

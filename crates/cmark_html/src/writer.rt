@@ -1,12 +1,12 @@
 //! The HTML of events.
 
-ghost use Rattle.std.specs.Prelude.{◌≡◌, ◌++◌, true, IfOk, OnOk, OnErr, None, codes, is_err, is_some, option_map, string_bytes};
+ghost use Rattle.std.specs.Prelude.{◌≡◌, true, IfOk, OnOk, None, codes, is_err, is_some, option_map};
 ghost use Rattle.cmark_grammar.specs.Escapes.{escaped_body_text, escaped_html};
 ghost use Rattle.cmark_grammar.specs.Event.{End, SoftBreak, Start, Text};
 ghost use Rattle.cmark_grammar.specs.Html.{piece, piece_outside, moved, moved_outside, metadata_after, table_after, table_after_start, names_after, names_after_start, names_after_inside, opened_by, opened_image, last_piece, line_start_after, line_start_after_html, ends_in_line_feed, task_list_marker};
 ghost use Rattle.cmark_grammar.specs.Tag.{Paragraph};
 ghost use Rattle.cmark_grammar.specs.TagEnd.{Paragraph as ParagraphEnd};
-ghost use Rattle.cmark_text.specs.Appended.{AppendsFront};
+ghost use Rattle.cmark_text.specs.Appended.{Writes};
 ghost use Rattle.cmark_text.specs.Shown.{shown, shown_tag};
 ghost use Rattle.cmark_html.specs.Writer.{shown_image, shown_names, shown_table, with_names, writing};
 
@@ -29,9 +29,10 @@ pub fn write_event<'a>(
     writer: &mut Writer<'a>,
     event: Event<'a>,
 ) -> Result<(), AllocError>
-    ensures ok { OnOk result (string_bytes out.new ≡ string_bytes out.old ++ piece (writing writer.old) (shown event.entry)) }
-    ensures state { OnOk result (writing writer.new ≡ moved (writing writer.old) (shown event.entry)) }
-    ensures err { OnErr result (AppendsFront (string_bytes out.old) (string_bytes out.new) (piece (writing writer.old) (shown event.entry))) }
+    ensures writes { Writes out.old out.new result
+        (piece (writing writer.old) (shown event.entry)) }
+    ensures state { OnOk result
+        (writing writer.new ≡ moved (writing writer.old) (shown event.entry)) }
 {
     if writer.image.is_none() {
         write_outside(out, writer, event)
@@ -49,9 +50,10 @@ fn write_event_inside<'a>(
     event: Event<'a>,
 ) -> Result<(), AllocError>
     requires { is_some writer.old.image ≡ true }
-    ensures ok { OnOk result (string_bytes out.new ≡ string_bytes out.old ++ piece (writing writer.old) (shown event.entry)) }
-    ensures state { OnOk result (writing writer.new ≡ moved (writing writer.old) (shown event.entry)) }
-    ensures err { OnErr result (AppendsFront (string_bytes out.old) (string_bytes out.new) (piece (writing writer.old) (shown event.entry))) }
+    ensures writes { Writes out.old out.new result
+        (piece (writing writer.old) (shown event.entry)) }
+    ensures state { OnOk result
+        (writing writer.new ≡ moved (writing writer.old) (shown event.entry)) }
 {
     write_in_image(out, writer, event)
 }
@@ -64,9 +66,10 @@ fn write_outside<'a>(
     event: Event<'a>,
 ) -> Result<(), AllocError>
     requires { writer.old.image ≡ None }
-    ensures ok { OnOk result (string_bytes out.new ≡ string_bytes out.old ++ piece_outside (writing writer.old) (shown event.entry)) }
-    ensures state { OnOk result (writing writer.new ≡ moved_outside (writing writer.old) (shown event.entry)) }
-    ensures err { OnErr result (AppendsFront (string_bytes out.old) (string_bytes out.new) (piece_outside (writing writer.old) (shown event.entry))) }
+    ensures writes { Writes out.old out.new result
+        (piece_outside (writing writer.old) (shown event.entry)) }
+    ensures state { OnOk result
+        (writing writer.new ≡ moved_outside (writing writer.old) (shown event.entry)) }
 {
     match append_outside(out, writer, &event) {
         Ok(()) => {
@@ -95,13 +98,15 @@ fn append_outside<'a>(
     writer: &mut Writer<'a>,
     event: &Event<'a>,
 ) -> Result<(), AllocError>
-    ensures ok { OnOk result (string_bytes out.new ≡ string_bytes out.old ++ piece_outside (writing writer.old) (shown event.now)) }
-    ensures line_start { OnOk result (writer.new.line_start ≡ line_start_after (writing writer.old) (shown event.now)) }
-    ensures in_metadata { OnOk result (writer.new.in_metadata ≡ metadata_after writer.old.in_metadata (shown event.now)) }
+    ensures writes { Writes out.old out.new result
+        (piece_outside (writing writer.old) (shown event.now)) }
+    ensures line_start { OnOk result
+        (writer.new.line_start ≡ line_start_after (writing writer.old) (shown event.now)) }
+    ensures in_metadata { OnOk result
+        (writer.new.in_metadata ≡ metadata_after writer.old.in_metadata (shown event.now)) }
     ensures image { writer.new.image ≡ writer.old.image }
     ensures table { writer.new.table ≡ writer.old.table }
     ensures names { writer.new.names ≡ writer.old.names }
-    ensures err { OnErr result (AppendsFront (string_bytes out.old) (string_bytes out.new) (piece_outside (writing writer.old) (shown event.now))) }
 {
     if let Event::Start(tag) = event {
         if let Tag::Link {
@@ -129,9 +134,10 @@ pub fn write_in_image<'a>(
     event: Event<'a>,
 ) -> Result<(), AllocError>
     requires { is_some writer.old.image ≡ true }
-    ensures ok { OnOk result (string_bytes out.new ≡ string_bytes out.old ++ piece (writing writer.old) (shown event.entry)) }
-    ensures state { OnOk result (writing writer.new ≡ moved (writing writer.old) (shown event.entry)) }
-    ensures err { OnErr result (AppendsFront (string_bytes out.old) (string_bytes out.new) (piece (writing writer.old) (shown event.entry))) }
+    ensures writes { Writes out.old out.new result
+        (piece (writing writer.old) (shown event.entry)) }
+    ensures state { OnOk result
+        (writing writer.new ≡ moved (writing writer.old) (shown event.entry)) }
 {
     match append_inside(out, writer, &event) {
         Ok(()) => keep_inside(&mut writer.names, event),
@@ -149,10 +155,10 @@ fn append_inside<'a>(
     event: &Event<'a>,
 ) -> Result<(), AllocError>
     requires { is_some writer.old.image ≡ true }
-    ensures ok { OnOk result (string_bytes out.new ≡ string_bytes out.old ++ piece (writing writer.old) (shown event.now)) }
-    ensures state { OnOk result (writing writer.new ≡ with_names (writing writer.old).names (moved (writing writer.old) (shown event.now))) }
+    ensures writes { Writes out.old out.new result (piece (writing writer.old) (shown event.now)) }
+    ensures state { let after = moved (writing writer.old) (shown event.now) in
+        OnOk result (writing writer.new ≡ with_names (writing writer.old).names after) }
     ensures names { writer.new.names ≡ writer.old.names }
-    ensures err { OnErr result (AppendsFront (string_bytes out.old) (string_bytes out.new) (piece (writing writer.old) (shown event.now))) }
 {
     let Some(image) = writer.image.take() else {
         return Ok(());
@@ -164,7 +170,8 @@ fn append_inside<'a>(
 
 /// Updates the names of footnotes after an event inside an image.
 fn keep_inside<'a>(names: &mut FootnoteNames<'a>, event: Event<'a>) -> Result<(), AllocError>
-    ensures { OnOk result (shown_names names.new ≡ names_after_inside (shown_names names.old) (shown event.entry)) }
+    ensures { OnOk result
+        (shown_names names.new ≡ names_after_inside (shown_names names.old) (shown event.entry)) }
 {
     match event {
         Event::FootnoteReference(name) => names.add(name),
@@ -182,9 +189,12 @@ fn keep_event<'a>(
     names: &mut FootnoteNames<'a>,
     event: Event<'a>,
 ) -> Result<Option<OpenImage<'a>>, AllocError>
-    ensures table { OnOk result (shown_table table.new ≡ table_after (shown_table table.old) (shown event.entry)) }
-    ensures names { OnOk result (shown_names names.new ≡ names_after (shown_names names.old) (shown event.entry)) }
-    ensures image { IfOk result (λ image. option_map shown_image image ≡ opened_image (shown event.entry)) }
+    ensures table { OnOk result
+        (shown_table table.new ≡ table_after (shown_table table.old) (shown event.entry)) }
+    ensures names { OnOk result
+        (shown_names names.new ≡ names_after (shown_names names.old) (shown event.entry)) }
+    ensures image { IfOk result
+        (λ image. option_map shown_image image ≡ opened_image (shown event.entry)) }
 {
     match event {
         Event::Start(
@@ -227,9 +237,12 @@ fn keep_start<'a>(
     names: &mut FootnoteNames<'a>,
     tag: Tag<'a>,
 ) -> Result<Option<OpenImage<'a>>, AllocError>
-    ensures table { OnOk result (shown_table table.new ≡ table_after_start (shown_table table.old) (shown_tag tag.entry)) }
-    ensures names { OnOk result (shown_names names.new ≡ names_after_start (shown_names names.old) (shown_tag tag.entry)) }
-    ensures image { IfOk result (λ image. option_map shown_image image ≡ opened_by (shown_tag tag.entry)) }
+    ensures table { OnOk result
+        (shown_table table.new ≡ table_after_start (shown_table table.old) (shown_tag tag.entry)) }
+    ensures names { OnOk result
+        (shown_names names.new ≡ names_after_start (shown_names names.old) (shown_tag tag.entry)) }
+    ensures image { IfOk result
+        (λ image. option_map shown_image image ≡ opened_by (shown_tag tag.entry)) }
 {
     match tag {
         Tag::Image {
@@ -285,8 +298,7 @@ fn metadata_after(in_metadata: bool, event: &Event<'_>) -> bool
 
 /// Appends the HTML that closes an image which is open after the last event.
 pub fn finish(out: &mut String, writer: &Writer<'_>) -> Result<(), AllocError>
-    ensures ok { OnOk result (string_bytes out.new ≡ string_bytes out.old ++ last_piece (writing writer.now).image) }
-    ensures err { OnErr result (AppendsFront (string_bytes out.old) (string_bytes out.new) (last_piece (writing writer.now).image)) }
+    ensures { Writes out.old out.new result (last_piece (writing writer.now).image) }
 {
     match &writer.image {
         None => Ok(()),
@@ -300,8 +312,7 @@ fn append_piece<'a>(
     writer: &Writer<'a>,
     event: &Event<'a>,
 ) -> Result<(), AllocError>
-    ensures ok { OnOk result (string_bytes out.new ≡ string_bytes out.old ++ piece_outside (writing writer.now) (shown event.now)) }
-    ensures err { OnErr result (AppendsFront (string_bytes out.old) (string_bytes out.new) (piece_outside (writing writer.now) (shown event.now))) }
+    ensures { Writes out.old out.new result (piece_outside (writing writer.now) (shown event.now)) }
 {
     match event {
         Event::Start(tag) => append_start(out, writer, tag),

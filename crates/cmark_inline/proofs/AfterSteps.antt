@@ -1,20 +1,20 @@
--- What the opening brackets are behind a closing one, on the stacks and in the grammar.
+-- The opening brackets after a closing one, on the stacks and in the grammar.
 use Rattle.std.specs.Prelude.{if◌then◌else◌, nat_lt, not, ◌&&◌, ◌||◌, min, drop, map, slice_get, Option, Some, None}
 use Rattle.std.proofs.Common.{◌≡◌, ℕ, zero, suc, ◌+◌, ◌-◌, ◌<◌, ◌≤◌, Bool, true, false, true≢false, List, [], ◌∷◌, ◌++◌, length, take, refl, sym, ap, subst, ◌∙◌, arith, length-append}
 use Rattle.std.proofs.lemmas.Bool.{ltb-true, ltb-false, lt-ltb}
 use Rattle.std.proofs.Math.Seq.{take-append_seam}
 use Rattle.cmark_grammar.specs.BracketStates.{Opener}
 use Rattle.cmark_grammar.specs.Items as items
-use Rattle.cmark_grammar.specs.OpenBrackets.{Taken, nearest, doubled, doubled_behind, touches, undoubled, tried, used_up, inactive, dropped}
+use Rattle.cmark_grammar.specs.OpenBrackets.{Taken, nearest, doubled, doubled_after, touches, undoubled, tried, used_up, inactive, dropped}
 use Rattle.cmark_slots.specs.declared.bracket.Bracket.{Bracket}
 use Rattle.cmark_slots.specs.declared.bracket.Brackets.{Brackets}
 use Rattle.cmark_inline.specs.Closers.{UsesUp, Drops, Deactivates, IsNone, NoneStand}
-use Rattle.cmark_inline.specs.BracketViews.{ArePlaced, IsPlaced, with_last, standing_of, pairs_behind, pairs_of, AreInactive, PairsInactive, AreDoubledInactive, Holds, StandFor, TakenAs}
-use Rattle.cmark_slots.specs.Doubled.{DropsBehind, nearest_of}
+use Rattle.cmark_inline.specs.BracketViews.{ArePlaced, IsPlaced, with_last, standing_of, pairs_following, pairs_of, AreInactive, PairsInactive, AreDoubledInactive, Holds, StandFor, TakenAs}
+use Rattle.cmark_slots.specs.Doubled.{DropsAfter, nearest_of}
 use Rattle.cmark_slots.specs.Doubled as views
 use Rattle.cmark_inline.proofs.BracketSteps.{opening-up, Takes, takes, Tries, tries, tried-placed, tried-standing, inactive-tried, drops-split, standing-split, pairs-split, placed-cut, placed-lower, inactive-fewer, used-placed, inactive-used, used-pairs, doubled-used}
 
--- ## What is changed of each of them
+-- ## Changes of each bracket
 
 grown : (b : Bracket) (l : List Bracket) → length (l ++ (b ∷ [])) ≡ suc (length l)
 grown b l = length-append l (b ∷ []) ∙ (let q : length l + 1 ≡ suc (length l) = omega arith in q)
@@ -52,39 +52,39 @@ standing-dropped [] bs = refl
 standing-dropped (o ∷ os) [] = refl
 standing-dropped (o ∷ os) (b ∷ bs) = standing-dropped os bs
 
-behind-inactive : (second : Opener) (inside : ℕ) (os : List Opener) (bs : List Bracket) → pairs_behind (inactive second) inside (map inactive os) bs ≡ pairs_behind second inside os bs
-behind-inactive second inside [] bs = refl
-behind-inactive second inside (o ∷ os) [] = refl
-behind-inactive second inside (o ∷ os) (b ∷ bs) = ap (with_last (o.doubles && touches second o) (record b { inside = inside })) (behind-inactive o b.inside os bs)
+following-inactive : (second : Opener) (inside : ℕ) (os : List Opener) (bs : List Bracket) → pairs_following (inactive second) inside (map inactive os) bs ≡ pairs_following second inside os bs
+following-inactive second inside [] bs = refl
+following-inactive second inside (o ∷ os) [] = refl
+following-inactive second inside (o ∷ os) (b ∷ bs) = ap (with_last (o.doubles && touches second o) (record b { inside = inside })) (following-inactive o b.inside os bs)
 
 pairs-inactive : (os : List Opener) (bs : List Bracket) → pairs_of (map inactive os) bs ≡ pairs_of os bs
 pairs-inactive [] bs = refl
 pairs-inactive (o ∷ os) [] = refl
-pairs-inactive (o ∷ os) (b ∷ bs) = behind-inactive o b.inside os bs
+pairs-inactive (o ∷ os) (b ∷ bs) = following-inactive o b.inside os bs
 
-behind-dropped : (second : Opener) (inside : ℕ) (os : List Opener) (bs : List Bracket) → pairs_behind (dropped second) inside (map dropped os) bs ≡ pairs_behind second inside os bs
-behind-dropped second inside [] bs = refl
-behind-dropped second inside (o ∷ os) [] = refl
-behind-dropped second inside (o ∷ os) (b ∷ bs) = ap (with_last (o.doubles && touches second o) (record b { inside = inside })) (behind-dropped o b.inside os bs)
+following-dropped : (second : Opener) (inside : ℕ) (os : List Opener) (bs : List Bracket) → pairs_following (dropped second) inside (map dropped os) bs ≡ pairs_following second inside os bs
+following-dropped second inside [] bs = refl
+following-dropped second inside (o ∷ os) [] = refl
+following-dropped second inside (o ∷ os) (b ∷ bs) = ap (with_last (o.doubles && touches second o) (record b { inside = inside })) (following-dropped o b.inside os bs)
 
 pairs-dropped : (os : List Opener) (bs : List Bracket) → pairs_of (map dropped os) bs ≡ pairs_of os bs
 pairs-dropped [] bs = refl
 pairs-dropped (o ∷ os) [] = refl
-pairs-dropped (o ∷ os) (b ∷ bs) = behind-dropped o b.inside os bs
+pairs-dropped (o ∷ os) (b ∷ bs) = following-dropped o b.inside os bs
 
-behind-undoubled : (second : Opener) (inside : ℕ) (os : List Opener) (bs : List Bracket) → pairs_behind second inside (map undoubled os) bs ≡ []
-behind-undoubled second inside [] bs = refl
-behind-undoubled second inside (o ∷ os) [] = refl
-behind-undoubled second inside (o ∷ os) (b ∷ bs) = behind-undoubled (undoubled o) b.inside os bs
+following-undoubled : (second : Opener) (inside : ℕ) (os : List Opener) (bs : List Bracket) → pairs_following second inside (map undoubled os) bs ≡ []
+following-undoubled second inside [] bs = refl
+following-undoubled second inside (o ∷ os) [] = refl
+following-undoubled second inside (o ∷ os) (b ∷ bs) = following-undoubled (undoubled o) b.inside os bs
 
 pairs-undoubled : (os : List Opener) (bs : List Bracket) → pairs_of (map undoubled os) bs ≡ []
 pairs-undoubled [] bs = refl
 pairs-undoubled (o ∷ os) [] = refl
-pairs-undoubled (o ∷ os) (b ∷ bs) = behind-undoubled (undoubled o) b.inside os bs
+pairs-undoubled (o ∷ os) (b ∷ bs) = following-undoubled (undoubled o) b.inside os bs
 
--- ## Inactive ones
+-- ## Inactive brackets
 
--- one that was inactive opens no image
+-- a bracket that was inactive opens no image
 made_inactive : (was image under now : Bool) → was ≡ (not image && under) → now ≡ true → (was || not image) ≡ (not image && now)
 made_inactive was true under now e f = ap (λ z. z || false) e
 made_inactive was false under now e f = either was ∙ sym f
@@ -111,24 +111,24 @@ all-inactive place at (o ∷ os) (b ∷ bs) inactive_below m le p h =
       all-inactive place b.start os bs inactive_below m s.0 p.2 h.1,
     )
 
-behind_all_inactive : (place : ℕ → ℕ) (at : ℕ) (second : Opener) (inside : ℕ) (os : List Opener) (bs : List Bracket) (inactive_below m : ℕ) → length (pairs_behind second inside os bs) ≤ m → ArePlaced place at os bs → PairsInactive inactive_below second inside os bs
+after_all_inactive : (place : ℕ → ℕ) (at : ℕ) (second : Opener) (inside : ℕ) (os : List Opener) (bs : List Bracket) (inactive_below m : ℕ) → length (pairs_following second inside os bs) ≤ m → ArePlaced place at os bs → PairsInactive inactive_below second inside os bs
     → PairsInactive m (inactive second) inside (map inactive os) bs
-behind_all_inactive place at second inside [] bs inactive_below m le p h = tt
-behind_all_inactive place at second inside (o ∷ os) [] inactive_below m le p h = tt
-behind_all_inactive place at second inside (o ∷ os) (b ∷ bs) inactive_below m le p h =
-    let s = shorter (o.doubles && touches second o) (record b { inside = inside }) (pairs_behind o b.inside os bs) m le in (
+after_all_inactive place at second inside [] bs inactive_below m le p h = tt
+after_all_inactive place at second inside (o ∷ os) [] inactive_below m le p h = tt
+after_all_inactive place at second inside (o ∷ os) (b ∷ bs) inactive_below m le p h =
+    let s = shorter (o.doubles && touches second o) (record b { inside = inside }) (pairs_following o b.inside os bs) m le in (
       (λ e. ap (λ z. o.is_inactive || not z) (image_of place o b p.0)
-          ∙ made_inactive o.is_inactive b.is_image (nat_lt (length (pairs_behind o b.inside os bs)) inactive_below) (nat_lt (length (pairs_behind (inactive o) b.inside (map inactive os) bs)) m) (h.0 e)
-          (ap (λ l. nat_lt (length l) m) (behind-inactive o b.inside os bs) ∙ lt-ltb (length (pairs_behind o b.inside os bs)) m (s.1 e))),
-      behind_all_inactive place b.start o b.inside os bs inactive_below m s.0 p.2 h.1,
+          ∙ made_inactive o.is_inactive b.is_image (nat_lt (length (pairs_following o b.inside os bs)) inactive_below) (nat_lt (length (pairs_following (inactive o) b.inside (map inactive os) bs)) m) (h.0 e)
+          (ap (λ l. nat_lt (length l) m) (following-inactive o b.inside os bs) ∙ lt-ltb (length (pairs_following o b.inside os bs)) m (s.1 e))),
+      after_all_inactive place b.start o b.inside os bs inactive_below m s.0 p.2 h.1,
     )
 
 all-doubled-inactive : (place : ℕ → ℕ) (at : ℕ) (os : List Opener) (bs : List Bracket) (inactive_below m : ℕ) → length (pairs_of os bs) ≤ m → ArePlaced place at os bs → AreDoubledInactive inactive_below os bs → AreDoubledInactive m (map inactive os) bs
 all-doubled-inactive place at [] bs inactive_below m le p h = tt
 all-doubled-inactive place at (o ∷ os) [] inactive_below m le p h = tt
-all-doubled-inactive place at (o ∷ os) (b ∷ bs) inactive_below m le p h = behind_all_inactive place b.start o b.inside os bs inactive_below m le p.2 h
+all-doubled-inactive place at (o ∷ os) (b ∷ bs) inactive_below m le p h = after_all_inactive place b.start o b.inside os bs inactive_below m le p.2 h
 
--- of fewer doubled ones
+-- the inactive ones of fewer doubled brackets
 fewer : (x : Bool) (n inactive_below m : ℕ) → n < m → (x && nat_lt n inactive_below) ≡ (x && nat_lt n (min inactive_below m))
 fewer false n inactive_below m lt = refl
 fewer true n inactive_below m lt = go (nat_lt n inactive_below) refl (nat_lt n (min inactive_below m)) refl
@@ -139,28 +139,28 @@ fewer true n inactive_below m lt = go (nat_lt n inactive_below) refl (nat_lt n (
     go true d false e = absurd (let a = ltb-true n inactive_below d in let b = ltb-false n (min inactive_below m) e in omega (arith, a, b, lt))
     go false d true e = absurd (let a = ltb-false n inactive_below d in let b = ltb-true n (min inactive_below m) e in omega (arith, a, b))
 
-behind_fewer : (second : Opener) (inside : ℕ) (os : List Opener) (bs : List Bracket) (inactive_below m : ℕ) → length (pairs_behind second inside os bs) ≤ m → PairsInactive inactive_below second inside os bs → PairsInactive (min inactive_below m) second inside os bs
-behind_fewer second inside [] bs inactive_below m le h = tt
-behind_fewer second inside (o ∷ os) [] inactive_below m le h = tt
-behind_fewer second inside (o ∷ os) (b ∷ bs) inactive_below m le h =
-    let s = shorter (o.doubles && touches second o) (record b { inside = inside }) (pairs_behind o b.inside os bs) m le in
-    ((λ e. h.0 e ∙ fewer (not b.is_image) (length (pairs_behind o b.inside os bs)) inactive_below m (s.1 e)), behind_fewer o b.inside os bs inactive_below m s.0 h.1)
+after_fewer : (second : Opener) (inside : ℕ) (os : List Opener) (bs : List Bracket) (inactive_below m : ℕ) → length (pairs_following second inside os bs) ≤ m → PairsInactive inactive_below second inside os bs → PairsInactive (min inactive_below m) second inside os bs
+after_fewer second inside [] bs inactive_below m le h = tt
+after_fewer second inside (o ∷ os) [] inactive_below m le h = tt
+after_fewer second inside (o ∷ os) (b ∷ bs) inactive_below m le h =
+    let s = shorter (o.doubles && touches second o) (record b { inside = inside }) (pairs_following o b.inside os bs) m le in
+    ((λ e. h.0 e ∙ fewer (not b.is_image) (length (pairs_following o b.inside os bs)) inactive_below m (s.1 e)), after_fewer o b.inside os bs inactive_below m s.0 h.1)
 
 pub doubled-fewer : (os : List Opener) (bs : List Bracket) (inactive_below m : ℕ) → length (pairs_of os bs) ≤ m → AreDoubledInactive inactive_below os bs → AreDoubledInactive (min inactive_below m) os bs
 doubled-fewer [] bs inactive_below m le h = tt
 doubled-fewer (o ∷ os) [] inactive_below m le h = tt
-doubled-fewer (o ∷ os) (b ∷ bs) inactive_below m le h = behind_fewer o b.inside os bs inactive_below m le h
+doubled-fewer (o ∷ os) (b ∷ bs) inactive_below m le h = after_fewer o b.inside os bs inactive_below m le h
 
-behind_inactive_dropped : (inactive_below : ℕ) (second : Opener) (inside : ℕ) (os : List Opener) (bs : List Bracket) → PairsInactive inactive_below second inside os bs → PairsInactive inactive_below (dropped second) inside (map dropped os) bs
-behind_inactive_dropped inactive_below second inside [] bs h = tt
-behind_inactive_dropped inactive_below second inside (o ∷ os) [] h = tt
-behind_inactive_dropped inactive_below second inside (o ∷ os) (b ∷ bs) h =
-    ((λ e. h.0 e ∙ ap (λ l. not b.is_image && nat_lt (length l) inactive_below) (sym (behind-dropped o b.inside os bs))), behind_inactive_dropped inactive_below o b.inside os bs h.1)
+after_inactive_dropped : (inactive_below : ℕ) (second : Opener) (inside : ℕ) (os : List Opener) (bs : List Bracket) → PairsInactive inactive_below second inside os bs → PairsInactive inactive_below (dropped second) inside (map dropped os) bs
+after_inactive_dropped inactive_below second inside [] bs h = tt
+after_inactive_dropped inactive_below second inside (o ∷ os) [] h = tt
+after_inactive_dropped inactive_below second inside (o ∷ os) (b ∷ bs) h =
+    ((λ e. h.0 e ∙ ap (λ l. not b.is_image && nat_lt (length l) inactive_below) (sym (following-dropped o b.inside os bs))), after_inactive_dropped inactive_below o b.inside os bs h.1)
 
 doubled-inactive-dropped : (inactive_below : ℕ) (os : List Opener) (bs : List Bracket) → AreDoubledInactive inactive_below os bs → AreDoubledInactive inactive_below (map dropped os) bs
 doubled-inactive-dropped inactive_below [] bs h = tt
 doubled-inactive-dropped inactive_below (o ∷ os) [] h = tt
-doubled-inactive-dropped inactive_below (o ∷ os) (b ∷ bs) h = behind_inactive_dropped inactive_below o b.inside os bs h
+doubled-inactive-dropped inactive_below (o ∷ os) (b ∷ bs) h = after_inactive_dropped inactive_below o b.inside os bs h
 
 inactive_dropped : (inactive_below : ℕ) (os : List Opener) (bs : List Bracket) → AreInactive inactive_below (map dropped os) bs
 inactive_dropped inactive_below [] bs = tt
@@ -172,17 +172,17 @@ inactive_undoubled inactive_below [] bs h = tt
 inactive_undoubled inactive_below (o ∷ os) [] h = tt
 inactive_undoubled inactive_below (o ∷ os) (b ∷ bs) h = ((λ e. h.0 e ∙ ap (λ l. not b.is_image && nat_lt (length l) inactive_below) (sym (standing-undoubled os bs))), inactive_undoubled inactive_below os bs h.1)
 
-behind_none_inactive : (inactive_below : ℕ) (second : Opener) (inside : ℕ) (os : List Opener) (bs : List Bracket) → PairsInactive inactive_below second inside (map undoubled os) bs
-behind_none_inactive inactive_below second inside [] bs = tt
-behind_none_inactive inactive_below second inside (o ∷ os) [] = tt
-behind_none_inactive inactive_below second inside (o ∷ os) (b ∷ bs) = ((λ e. absurd (true≢false (sym e))), behind_none_inactive inactive_below (undoubled o) b.inside os bs)
+after_none_inactive : (inactive_below : ℕ) (second : Opener) (inside : ℕ) (os : List Opener) (bs : List Bracket) → PairsInactive inactive_below second inside (map undoubled os) bs
+after_none_inactive inactive_below second inside [] bs = tt
+after_none_inactive inactive_below second inside (o ∷ os) [] = tt
+after_none_inactive inactive_below second inside (o ∷ os) (b ∷ bs) = ((λ e. absurd (true≢false (sym e))), after_none_inactive inactive_below (undoubled o) b.inside os bs)
 
 doubled_none_inactive : (inactive_below : ℕ) (os : List Opener) (bs : List Bracket) → AreDoubledInactive inactive_below (map undoubled os) bs
 doubled_none_inactive inactive_below [] bs = tt
 doubled_none_inactive inactive_below (o ∷ os) [] = tt
-doubled_none_inactive inactive_below (o ∷ os) (b ∷ bs) = behind_none_inactive inactive_below (undoubled o) b.inside os bs
+doubled_none_inactive inactive_below (o ∷ os) (b ∷ bs) = after_none_inactive inactive_below (undoubled o) b.inside os bs
 
--- ## Those behind so many
+-- ## The brackets without the nearest `n`
 
 inactive-drop : (n inactive_below : ℕ) (os : List Opener) (bs : List Bracket) → AreInactive inactive_below os bs → AreInactive inactive_below (drop n os) (drop n bs)
 inactive-drop zero inactive_below os bs h = h
@@ -231,7 +231,7 @@ active false inactive_below n m e = go (nat_lt inactive_below m) refl (nat_lt n 
     go false d true f = refl
     go false d false f = absurd (let a = ltb-false inactive_below m d in let b = ltb-false n inactive_below f in omega (arith, a, b, e))
 
--- what stands on the stack, and what is taken off it
+-- the brackets that stay on the stack, and the one that is taken off
 pub last-taken : (st new : Brackets) (kept : List Bracket) (b : Bracket) → st.standing.items ≡ kept ++ (b ∷ []) → st.inactive_below ≤ length st.standing.items → UsesUp st new
     → (Holds new kept) × (new.inactive_below ≡ min st.inactive_below (length kept)) × (views.nearest st ≡ Some (b, not (not b.is_image && nat_lt (length kept) st.inactive_below)))
 last-taken st new kept b e few u =
@@ -293,7 +293,7 @@ took wikilinks place at os bs st new db h u = go (nearest os) (takes place at os
 
 -- ## A doubled bracket is tried
 
--- the first bracket of the doubled one that is tried is this one of the grammar
+-- the first bracket of the doubled one that is tried, in the code and in the grammar
 pub record IsTried (place : ℕ → ℕ) (at : ℕ) (bs : List Bracket) (t : Taken) (nearest : Option (Bracket × Bool)) : Type 0 where
   pub bracket : Bracket
   pub inner : ℕ
@@ -320,7 +320,7 @@ tried-one place at [] [] st db new h u =
     (record { placed = h.placed; standing_are = h.standing_are; inactive = h.inactive; doubled_are = λ e. r.0; doubled_inactive = λ e. tt }, r.1)
 tried-one place at [] (b ∷ bs) st db new h u = absurd h.placed
 tried-one place at (o ∷ os) [] st db new h u = absurd h.placed
-tried-one place at (o ∷ os) (b ∷ bs) st db new h u = go (doubled_behind o os) (tries place b.start at o b os bs db.inactive_below h.placed.0 h.placed.2 (h.doubled_inactive refl) h.placed.1 begun)
+tried-one place at (o ∷ os) (b ∷ bs) st db new h u = go (doubled_after o os) (tries place b.start at o b os bs db.inactive_below h.placed.0 h.placed.2 (h.doubled_inactive refl) h.placed.1 begun)
   where
     begun : b.start ≤ at
     begun =
@@ -328,7 +328,7 @@ tried-one place at (o ∷ os) (b ∷ bs) st db new h u = go (doubled_behind o os
         let up : b.start < b.inside = subst (λ m. b.start < m) (sym h.placed.0.in_text) (opening-up b.is_image b.start) in
         omega (arith, w, up)
 
-    d : Holds db (pairs_behind o b.inside os bs)
+    d : Holds db (pairs_following o b.inside os bs)
     d = h.doubled_are refl
 
     few : db.inactive_below ≤ length db.standing.items
@@ -337,20 +337,20 @@ tried-one place at (o ∷ os) (b ∷ bs) st db new h u = go (doubled_behind o os
     go : (t : Option Taken) → Tries place at o b.inside os bs db.inactive_below t → StandFor true place at (tried_by t (o ∷ os)) (b ∷ bs) st new × TriedAs place at (b ∷ bs) t (views.nearest db)
     go None i =
         let r = none-taken db new (d.are ∙ i) few u in
-        let n : length (pairs_behind o b.inside os bs) ≡ 0 = ap length i in
+        let n : length (pairs_following o b.inside os bs) ≡ 0 = ap length i in
         (record { placed = h.placed; standing_are = h.standing_are; inactive = h.inactive; doubled_are = λ e. subst (Holds new) (sym i) r.0; doubled_inactive = λ e. none_inactive o b.inside os bs i }, r.1)
       where
-        none_inactive : (second : Opener) (inside : ℕ) (ps : List Opener) (cs : List Bracket) → pairs_behind second inside ps cs ≡ [] → PairsInactive new.inactive_below second inside ps cs
+        none_inactive : (second : Opener) (inside : ℕ) (ps : List Opener) (cs : List Bracket) → pairs_following second inside ps cs ≡ [] → PairsInactive new.inactive_below second inside ps cs
         none_inactive second inside [] cs e = tt
         none_inactive second inside (p ∷ ps) [] e = tt
         none_inactive second inside (p ∷ ps) (c ∷ cs) e = split (p.doubles && touches second p) refl (λ f. none_inactive p c.inside ps cs f)
           where
-            split : (z : Bool) → (p.doubles && touches second p) ≡ z → (pairs_behind p c.inside ps cs ≡ [] → PairsInactive new.inactive_below p c.inside ps cs)
-                → ((p.doubles && touches second p) ≡ true → p.is_inactive ≡ (not c.is_image && nat_lt (length (pairs_behind p c.inside ps cs)) new.inactive_below)) × PairsInactive new.inactive_below p c.inside ps cs
-            split true f rest = absurd (let g = grown (record c { inside = inside }) (pairs_behind p c.inside ps cs) in let l = ap length (ap (λ z. with_last z (record c { inside = inside }) (pairs_behind p c.inside ps cs)) (sym f) ∙ e) in omega (arith, g, l))
-            split false f rest = ((λ g. absurd (true≢false (sym g ∙ f))), rest (ap (λ z. with_last z (record c { inside = inside }) (pairs_behind p c.inside ps cs)) (sym f) ∙ e))
+            split : (z : Bool) → (p.doubles && touches second p) ≡ z → (pairs_following p c.inside ps cs ≡ [] → PairsInactive new.inactive_below p c.inside ps cs)
+                → ((p.doubles && touches second p) ≡ true → p.is_inactive ≡ (not c.is_image && nat_lt (length (pairs_following p c.inside ps cs)) new.inactive_below)) × PairsInactive new.inactive_below p c.inside ps cs
+            split true f rest = absurd (let g = grown (record c { inside = inside }) (pairs_following p c.inside ps cs) in let l = ap length (ap (λ z. with_last z (record c { inside = inside }) (pairs_following p c.inside ps cs)) (sym f) ∙ e) in omega (arith, g, l))
+            split false f rest = ((λ g. absurd (true≢false (sym g ∙ f))), rest (ap (λ z. with_last z (record c { inside = inside }) (pairs_following p c.inside ps cs)) (sym f) ∙ e))
     go (Some t) i =
-        let kept : List Bracket = pairs_behind o b.inside (tried i.more os) bs in
+        let kept : List Bracket = pairs_following o b.inside (tried i.more os) bs in
         let entry : Bracket = record i.bracket { inside = i.inner + 1 } in
         let r = last-taken db new kept entry (d.are ∙ i.pairs) few u in
         let list : tried t.nearer (o ∷ os) ≡ o ∷ tried i.more os = ap (λ n. tried n (o ∷ os)) i.nearer_is in (
@@ -360,7 +360,7 @@ tried-one place at (o ∷ os) (b ∷ bs) st db new h u = go (doubled_behind o os
             inactive = ((λ e. h.inactive.0 e ∙ ap (λ l. not b.is_image && nat_lt (length l) st.inactive_below) (sym (tried-standing i.more os bs))), inactive-tried i.more os bs st.inactive_below h.inactive.1);
             doubled_are = λ e. r.0;
             doubled_inactive = λ e. subst (λ n. PairsInactive n o b.inside (tried i.more os) bs) (sym r.1)
-                (behind_fewer o b.inside (tried i.more os) bs db.inactive_below (length kept) (let q : length kept ≤ length kept = omega arith in q) i.left);
+                (after_fewer o b.inside (tried i.more os) bs db.inactive_below (length kept) (let q : length kept ≤ length kept = omega arith in q) i.left);
           }),
           record {
             bracket = i.bracket;
@@ -374,12 +374,12 @@ tried-one place at (o ∷ os) (b ∷ bs) st db new h u = go (doubled_behind o os
           },
         )
 
--- the one that is tried, whatever is left then
+-- the doubled bracket that is tried, whether it is active or not
 pub tried-as : (place : ℕ → ℕ) (at : ℕ) (os : List Opener) (bs : List Bracket) (st db : Brackets) → StandFor true place at os bs st db → TriedAs place at bs (doubled os) (views.nearest db)
 tried-as place at [] [] st db h = ap (λ l. nearest_of (slice_get l (length l - 1)) (nat_lt db.inactive_below (length l))) (h.doubled_are refl).are
 tried-as place at [] (b ∷ bs) st db h = absurd h.placed
 tried-as place at (o ∷ os) [] st db h = absurd h.placed
-tried-as place at (o ∷ os) (b ∷ bs) st db h = go (doubled_behind o os) (tries place b.start at o b os bs db.inactive_below h.placed.0 h.placed.2 (h.doubled_inactive refl) h.placed.1 begun)
+tried-as place at (o ∷ os) (b ∷ bs) st db h = go (doubled_after o os) (tries place b.start at o b os bs db.inactive_below h.placed.0 h.placed.2 (h.doubled_inactive refl) h.placed.1 begun)
   where
     begun : b.start ≤ at
     begun =
@@ -387,13 +387,13 @@ tried-as place at (o ∷ os) (b ∷ bs) st db h = go (doubled_behind o os) (trie
         let up : b.start < b.inside = subst (λ m. b.start < m) (sym h.placed.0.in_text) (opening-up b.is_image b.start) in
         omega (arith, w, up)
 
-    d : Holds db (pairs_behind o b.inside os bs)
+    d : Holds db (pairs_following o b.inside os bs)
     d = h.doubled_are refl
 
     go : (t : Option Taken) → Tries place at o b.inside os bs db.inactive_below t → TriedAs place at (b ∷ bs) t (views.nearest db)
     go None i = ap (λ l. nearest_of (slice_get l (length l - 1)) (nat_lt db.inactive_below (length l))) (d.are ∙ i)
     go (Some t) i =
-        let kept : List Bracket = pairs_behind o b.inside (tried i.more os) bs in
+        let kept : List Bracket = pairs_following o b.inside (tried i.more os) bs in
         let entry : Bracket = record i.bracket { inside = i.inner + 1 } in
         let e = d.are ∙ i.pairs in
         record {
@@ -412,15 +412,15 @@ tried-as place at (o ∷ os) (b ∷ bs) st db h = go (doubled_behind o os) (trie
 
 -- ## Something is formed
 
--- the doubled ones that end up to a place are those behind so many
+-- the doubled brackets that end by the offset `b.start` are those of the brackets before `b`
 pairs_left : (wikilinks : Bool) (place : ℕ → ℕ) (at n : ℕ) (os : List Opener) (bs : List Bracket) (b : Bracket) (rest : List Bracket) (st db new : Brackets) → StandFor wikilinks place at os bs st db → drop n bs ≡ b ∷ rest → rest ≡ drop (suc n) bs → Drops b.start db new
     → wikilinks ≡ true → (Holds new (pairs_of (drop (suc n) os) (drop (suc n) bs))) × AreDoubledInactive new.inactive_below (drop (suc n) os) (drop (suc n) bs)
 pairs_left wikilinks place at n os bs b rest st db new h there more drops e =
     let cut = placed-cut place at n os bs b rest h.placed there in
     let d = h.doubled_are e in
-    let split = pairs-split place b.start (suc n) os bs cut.ends (subst (ArePlaced place b.start (drop (suc n) os)) more cut.behind) in
+    let split = pairs-split place b.start (suc n) os bs cut.ends (subst (ArePlaced place b.start (drop (suc n) os)) more cut.following) in
     let kept : List Bracket = pairs_of (drop (suc n) os) (drop (suc n) bs) in
-    let are : new.standing.items ≡ kept = drops-split b.start (pairs_of os bs) kept new.standing.items split (subst (λ (l : List Bracket). DropsBehind b.start l new.standing.items) d.are drops.drops) in
+    let are : new.standing.items ≡ kept = drops-split b.start (pairs_of os bs) kept new.standing.items split (subst (λ (l : List Bracket). DropsAfter b.start l new.standing.items) d.are drops.drops) in
     let inactive_below : new.inactive_below ≡ min db.inactive_below (length kept) = drops.inactive_below ∙ ap (λ l. min db.inactive_below (length l)) are in (
       record { are = are; few = (let q : new.inactive_below ≤ length kept = omega (arith, inactive_below) in q) },
       subst (λ m. AreDoubledInactive m (drop (suc n) os) (drop (suc n) bs)) (sym inactive_below)
@@ -443,7 +443,7 @@ module _ (wikilinks : Bool) (place : ℕ → ℕ) (at resume n : ℕ) (os : List
   placed-left =
       let cut = placed-cut place at n os bs b bs-left h.placed there in
       let x = cut.before in let y = cut.further in
-      placed-lower place b.start resume os-left bs-left (let q : b.start ≤ resume = omega (arith, x, y, up) in q) cut.behind
+      placed-lower place b.start resume os-left bs-left (let q : b.start ≤ resume = omega (arith, x, y, up) in q) cut.following
 
   pub image-formed : (new : Brackets) → NoneStand (suc n) os bs → Drops b.start db new → StandFor wikilinks place resume os-left bs-left st new
   image-formed new none drops = record {
@@ -485,9 +485,9 @@ module _ (wikilinks : Bool) (place : ℕ → ℕ) (at resume n : ℕ) (os : List
   pub wikilink-formed : (mid st2 new : Brackets) → Drops b.start st mid → Deactivates mid st2 → IsNone new → StandFor wikilinks place resume (map undoubled (map inactive os-left)) bs-left st2 new
   wikilink-formed mid st2 new drops deactivates none =
       let cut = placed-cut place at n os bs b bs-left h.placed there in
-      let split = standing-split place b.start (suc n) os bs cut.ends cut.behind in
+      let split = standing-split place b.start (suc n) os bs cut.ends cut.following in
       let left : List Bracket = standing_of os-left bs-left in
-      let are : mid.standing.items ≡ left = drops-split b.start (standing_of os bs) left mid.standing.items split (subst (λ (l : List Bracket). DropsBehind b.start l mid.standing.items) h.standing_are.are drops.drops) in
+      let are : mid.standing.items ≡ left = drops-split b.start (standing_of os bs) left mid.standing.items split (subst (λ (l : List Bracket). DropsAfter b.start l mid.standing.items) h.standing_are.are drops.drops) in
       let n1 : st2.inactive_below ≡ length left = deactivates.inactive_below ∙ ap length are in
       let z = none.inactive_below in
       record {

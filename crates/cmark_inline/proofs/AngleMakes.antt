@@ -1,4 +1,4 @@
--- Slots for what begins at an angle bracket.
+-- Slots for tokens at a `<`.
 use Rattle.std.specs.Prelude.{Some, None, option_map, not, if◌then◌else◌}
 use Rattle.std.proofs.Common.{◌≡◌, inl, inr, ℕ, suc, ◌+◌, ◌-◌, ◌<◌, ◌≤◌, ◌==◌, Bool, true, false, List, [], ◌∷◌, ◌++◌, length, drop, get_or, refl, sym, ap, subst, ◌∙◌, arith, length-drop}
 use Rattle.std.proofs.lemmas.List.{get_or-drop}
@@ -10,11 +10,11 @@ use Rattle.cmark_grammar.specs.Items.{ItemKind, Own, Autolink, Html, OwnedHtml, 
 use Rattle.cmark_grammar.specs.Letters.{first_is}
 use Rattle.cmark_grammar.specs.Lines.{is_content}
 use Rattle.cmark_grammar.specs.Options.{Options}
-use Rattle.cmark_grammar.specs.Tags.{behind_tag, no_prefix}
+use Rattle.cmark_grammar.specs.Tags.{after_tag, no_prefix}
 use Rattle.cmark_grammar.specs.Tokens.{slice}
 use Rattle.cmark_leaf_text.specs.Reads.{IsPart, is_cell_of, text_of}
 use Rattle.cmark_leaf_text.specs.declared.leaf_text.LeafText.{LeafText}
-use Rattle.cmark_scan_parts.proofs.Endings.{tag-behind}
+use Rattle.cmark_scan_bytes.proofs.Endings.{tag-following}
 use Rattle.cmark_inline.specs.MarkupInSource.{IsTag, IsFound, FindsNone, ReadsLess}
 use Rattle.cmark_inline.specs.Linked.{IsAutolink}
 use Rattle.cmark_inline.specs.Tokens.{whole, reading, read_on, opens_markup, shown_autolink, Says, Puts, BeginsThere, PutsAutolink}
@@ -27,11 +27,11 @@ use Rattle.cmark_inline.proofs.AngleSteps.{less-autolink, less-own, less-html, h
 use Rattle.cmark_inline.proofs.Appended.{own-appends, no-texts, slots-alone}
 use Rattle.cmark_inline.proofs.ReadingOn.{read-on-content}
 
--- a tag ends with its `>`, so no line begins behind it
-module _ (text : List ℕ) (at end : ℕ) (le : end ≤ length text) (found : behind_tag no_prefix (drop at text) ≡ Some (drop end text)) where
+-- a tag ends with its `>`, so no line begins after it
+module _ (text : List ℕ) (at end : ℕ) (le : end ≤ length text) (found : after_tag no_prefix (drop at text) ≡ Some (drop end text)) where
   tag-end : (0 < end) × (get_or text (end - 1) 0 ≡ 62)
   tag-end =
-      let h = tag-behind no_prefix (drop at text) (drop end text) found in
+      let h = tag-following no_prefix (drop at text) (drop end text) found in
       let p = h.place in
       let inside = h.inside in
       let a = length-drop at text in
@@ -53,7 +53,7 @@ module _ (o : Options) (l : Lookup) (leaf : LeafText) (here : Cursor) (old new :
   abbrev text : List ℕ
   text = text_of leaf
 
-  module _ (behind : here.pending ≤ here.at) (lt : here.at < length text) (is : get_or text here.at 0 ≡ 60) (slash : first_is (λ c. c == 92) (drop (here.at + 1) text) ≡ false) where
+  module _ (following : here.pending ≤ here.at) (lt : here.at < length text) (is : get_or text here.at 0 ≡ 60) (slash : first_is (λ c. c == 92) (drop (here.at + 1) text) ≡ false) where
     autolink-made : (end : ℕ) → option_map (shown_autolink text here.at) (Some end) ≡ autolink_in o.email_autolinks (drop (here.at + 1) text) → IsPart text here.at end → (next.pending ≡ end) × (next.at ≡ end)
         → PutsAutolink (length old.links.items) here.pending here.at end old.slots.items new.slots.items
         → (parts : Link) × IsAutolink text here.at end parts × (new.links.items ≡ old.links.items ++ (parts ∷ []))
@@ -87,13 +87,13 @@ module _ (o : Options) (l : Lookup) (leaf : LeafText) (here : Cursor) (old new :
           let some = part.some in
           let bytes : List ℕ = slice text here.at end in
           let its : ItemKind = tag_kind (reading o l text) (whole cell text) bytes in
-          let closes : behind_tag no_prefix (drop here.at text) ≡ Some (drop end text) = sym (tag-find text here.at lt is tag.opens) ∙ tag.closes in
+          let closes : after_tag no_prefix (drop here.at text) ≡ Some (drop end text) = sym (tag-find text here.at lt is tag.opens) ∙ tag.closes in
           let to : next.at ≡ end = at ∙ tag-reads-on text here.at end part.within closes in
           inr (inr (inl (record {
             from = here.at;
             item = record { kind = its; start = here.at; end = end };
             slot = record { kind = found.kind; start = here.at; end = end };
-            behind = behind;
+            following = following;
             before = omega arith;
             blanks = λ k le high. absurd (omega (arith, le, high));
             there = at-less tag.opens;
@@ -128,10 +128,10 @@ module _ (o : Options) (l : Lookup) (leaf : LeafText) (here : Cursor) (old new :
             others = others;
           }))))
           by false e =
-              inr (inr (inl (own-appends o l cell text here old new next here.at end behind (at-less e)
+              inr (inr (inl (own-appends o l cell text here old new next here.at end following (at-less e)
               (less-own o l cell text here.at lt is slash none e (sym (finds.tag e) ∙ tag-find text here.at lt is e) ∙ ap (item_at Own here.at) (sym is-next)) at pending slots others)))
 
--- ## In a text that is the leaf's
+-- ## In the leaf's text
 module _ (o : Options) (l : Lookup) (leaf : LeafText) (here : Cursor) (old new : InlineState) (next : Cursor) where
   abbrev IsLess : (text : List ℕ) → Type 0
   IsLess text = (here.pending ≤ here.at) × (here.at < length text) × (get_or text here.at 0 ≡ 60) × (first_is (λ c. c == 92) (drop (here.at + 1) text) ≡ false)

@@ -1,19 +1,19 @@
--- What begins at an angle bracket where no comment, declaration, CDATA section or processing instruction opens.
+-- Tokens at a `<` that opens no comment, declaration, CDATA section or processing instruction.
 use Rattle.std.specs.Prelude.{Some, None, if◌then◌else◌, codes}
 use Rattle.std.proofs.Common.{◌≡◌, ℕ, suc, ◌+◌, ◌-◌, ◌<◌, ◌≤◌, ◌==◌, ◌||◌, Bool, true, false, List, [], ◌∷◌, length, take, drop, get_or, refl, sym, ap, ◌∙◌, arith, length-drop, true≢false}
 use Rattle.std.proofs.lemmas.Bool.{eq-eqb, or_parts, false_from_ne_true}
 use Rattle.std.proofs.lemmas.Slice.Eq.{bytes_eq-Decides}
 use Rattle.cmark_grammar.specs.Answers.{Lookup}
 use Rattle.cmark_grammar.specs.Autolinks.{autolink_in}
-use Rattle.cmark_grammar.specs.InlineHtml.{behind_markup, behind_opened, opened_in, behind_inline_html, takes_lines}
+use Rattle.cmark_grammar.specs.InlineHtml.{after_markup, after_opened, opened_in, after_inline_html, takes_lines}
 use Rattle.cmark_grammar.specs.InlineTokens.{item_at, autolink_or, markup_or, tag_or_text, tag_kind, source_from, from, size_to, place_of}
 use Rattle.cmark_grammar.specs.Items.{Plain, Own, Autolink, Html, OwnedHtml, Token}
-use Rattle.cmark_grammar.specs.Letters.{first_is, starts, behind_first}
+use Rattle.cmark_grammar.specs.Letters.{first_is, starts, after_first_of}
 use Rattle.cmark_grammar.specs.Options.{Options, no_options}
-use Rattle.cmark_grammar.specs.Tags.{behind_tag, no_prefix}
+use Rattle.cmark_grammar.specs.Tags.{after_tag, no_prefix}
 use Rattle.cmark_grammar.specs.Tokens.{slice}
-use Rattle.cmark_text_parts.specs.declared.text.CowStr.{CowStr}
-use Rattle.cmark_scan_parts.proofs.Lists.{rest_of}
+use Rattle.cmark_values.specs.declared.text.CowStr.{CowStr}
+use Rattle.cmark_scan_bytes.proofs.Lists.{rest_of}
 use Rattle.cmark_inline.specs.LeastSteps.{begins_markup}
 use Rattle.cmark_inline.specs.Tokens.{whole, reading, begins_at, opens_markup, shown_autolink, Says}
 use Rattle.cmark_slots.specs.declared.slot.SlotKind.TheVariants as kind
@@ -44,22 +44,22 @@ module _ (bs : List ℕ) (none : opens_markup bs ≡ false) where
   pub begins-none : begins_markup (60 ∷ bs) ≡ false
   begins-none = ap (λ z. z || starts (codes "<?") (60 ∷ bs)) starts-one ∙ starts-two
 
-  no-markup : behind_markup (60 ∷ bs) ≡ None
+  no-markup : after_markup (60 ∷ bs) ≡ None
   no-markup =
-      ap (λ z. if z then behind_opened (opened_in (drop 2 (60 ∷ bs))) else if starts (codes "<?") (60 ∷ bs) then behind_first (codes "?>") (drop 2 (60 ∷ bs)) else None) starts-one
-      ∙ ap (λ z. if z then behind_first (codes "?>") (drop 2 (60 ∷ bs)) else None) starts-two
+      ap (λ z. if z then after_opened (opened_in (drop 2 (60 ∷ bs))) else if starts (codes "<?") (60 ∷ bs) then after_first_of (codes "?>") (drop 2 (60 ∷ bs)) else None) starts-one
+      ∙ ap (λ z. if z then after_first_of (codes "?>") (drop 2 (60 ∷ bs)) else None) starts-two
 
-  tag-alone : behind_inline_html (60 ∷ bs) ≡ behind_tag no_prefix (60 ∷ bs)
+  tag-alone : after_inline_html (60 ∷ bs) ≡ after_tag no_prefix (60 ∷ bs)
   tag-alone =
-      ap (λ z. if z then behind_opened (opened_in (drop 2 (60 ∷ bs))) else if starts (codes "<?") (60 ∷ bs) then behind_first (codes "?>") (drop 2 (60 ∷ bs)) else behind_tag no_prefix (60 ∷ bs)) starts-one
-      ∙ ap (λ z. if z then behind_first (codes "?>") (drop 2 (60 ∷ bs)) else behind_tag no_prefix (60 ∷ bs)) starts-two
+      ap (λ z. if z then after_opened (opened_in (drop 2 (60 ∷ bs))) else if starts (codes "<?") (60 ∷ bs) then after_first_of (codes "?>") (drop 2 (60 ∷ bs)) else after_tag no_prefix (60 ∷ bs)) starts-one
+      ∙ ap (λ z. if z then after_first_of (codes "?>") (drop 2 (60 ∷ bs)) else after_tag no_prefix (60 ∷ bs)) starts-two
 
 module _ (o : Options) (l : Lookup) (cell : Bool) (text : List ℕ) (at : ℕ) (lt : at < length text) (is : get_or text at 0 ≡ 60) where
   next-is : drop (suc at) text ≡ drop (at + 1) text
   next-is = ap (λ k. drop k text) (let q : suc at ≡ at + 1 = omega arith in q)
 
   abbrev others : Token
-  others = markup_or (reading o l text) (whole cell text) at (behind_markup (source_from (reading o l text) (whole cell text) at)) (tag_or_text (reading o l text) (whole cell text) at (behind_tag no_prefix (from (reading o l text) (whole cell text) at)))
+  others = markup_or (reading o l text) (whole cell text) at (after_markup (source_from (reading o l text) (whole cell text) at)) (tag_or_text (reading o l text) (whole cell text) at (after_tag no_prefix (from (reading o l text) (whole cell text) at)))
 
   abbrev by_slash : Bool → List ℕ → Token
   by_slash z rest = if z then item_at Plain at (suc at) else autolink_or (reading o l text) (whole cell text) at (autolink_in o.email_autolinks rest) others
@@ -67,7 +67,7 @@ module _ (o : Options) (l : Lookup) (cell : Bool) (text : List ℕ) (at : ℕ) (
   less-begins : begins_at o l cell text at ≡ by_slash (first_is (λ c. c == 92) (drop (at + 1) text)) (drop (at + 1) text)
   less-begins = begins-with o l cell text at 60 lt is ∙ ap (λ rest. by_slash (first_is (λ c. c == 92) rest) rest) next-is
 
-  -- before a backslash
+  -- a backslash follows
   pub less-plain : first_is (λ c. c == 92) (drop (at + 1) text) ≡ true → begins_at o l cell text at ≡ item_at Plain at (at + 1)
   less-plain e = less-begins ∙ ap (λ z. by_slash z (drop (at + 1) text)) e ∙ ap (item_at Plain at) (let q : suc at ≡ at + 1 = omega arith in q)
 
@@ -87,16 +87,16 @@ module _ (o : Options) (l : Lookup) (cell : Bool) (text : List ℕ) (at : ℕ) (
     none-opens : opens_markup (drop (suc at) text) ≡ false
     none-opens = ap opens_markup next-is ∙ opens
 
-    less-tag : begins_at o l cell text at ≡ tag_or_text (reading o l text) (whole cell text) at (behind_tag no_prefix (drop at text))
+    less-tag : begins_at o l cell text at ≡ tag_or_text (reading o l text) (whole cell text) at (after_tag no_prefix (drop at text))
     less-tag =
         less-begins ∙ ap (λ z. by_slash z (drop (at + 1) text)) slash ∙ ap (λ m. autolink_or (reading o l text) (whole cell text) at m others) (sym link)
-        ∙ ap (λ m. markup_or (reading o l text) (whole cell text) at m (tag_or_text (reading o l text) (whole cell text) at (behind_tag no_prefix (from (reading o l text) (whole cell text) at)))) (ap behind_markup source-is ∙ no-markup (drop (suc at) text) none-opens)
-        ∙ ap (λ x. tag_or_text (reading o l text) (whole cell text) at (behind_tag no_prefix x)) (from-is o l cell text at)
+        ∙ ap (λ m. markup_or (reading o l text) (whole cell text) at m (tag_or_text (reading o l text) (whole cell text) at (after_tag no_prefix (from (reading o l text) (whole cell text) at)))) (ap after_markup source-is ∙ no-markup (drop (suc at) text) none-opens)
+        ∙ ap (λ x. tag_or_text (reading o l text) (whole cell text) at (after_tag no_prefix x)) (from-is o l cell text at)
 
-    pub less-own : None ≡ behind_tag no_prefix (drop at text) → begins_at o l cell text at ≡ item_at Own at (at + 1)
+    pub less-own : None ≡ after_tag no_prefix (drop at text) → begins_at o l cell text at ≡ item_at Own at (at + 1)
     less-own none = less-tag ∙ ap (tag_or_text (reading o l text) (whole cell text) at) (sym none) ∙ ap (item_at Own at) (let q : suc at ≡ at + 1 = omega arith in q)
 
-    pub less-html : (end : ℕ) → Some (drop end text) ≡ behind_tag no_prefix (drop at text) → at ≤ end → end ≤ length text
+    pub less-html : (end : ℕ) → Some (drop end text) ≡ after_tag no_prefix (drop at text) → at ≤ end → end ≤ length text
         → begins_at o l cell text at ≡ item_at (tag_kind (reading o l text) (whole cell text) (slice text at end)) at end
     less-html end found low le =
         let a = ap length (from-is o l cell text at) in let b = length-drop at text in let d = length-drop end text in
@@ -112,9 +112,9 @@ module _ (o : Options) (l : Lookup) (cell : Bool) (text : List ℕ) (at : ℕ) (
       go true = refl
       go false = tt
 
--- the find of a tag where nothing else opens
-pub tag-find : (text : List ℕ) (at : ℕ) → at < length text → get_or text at 0 ≡ 60 → opens_markup (drop (at + 1) text) ≡ false → behind_inline_html (drop at text) ≡ behind_tag no_prefix (drop at text)
+-- inline HTML is a tag if nothing else opens
+pub tag-find : (text : List ℕ) (at : ℕ) → at < length text → get_or text at 0 ≡ 60 → opens_markup (drop (at + 1) text) ≡ false → after_inline_html (drop at text) ≡ after_tag no_prefix (drop at text)
 tag-find text at lt is none =
     let f : drop at text ≡ 60 ∷ drop (suc at) text = front no_options (λ name. None) false text at 60 lt is in
     let e : opens_markup (drop (suc at) text) ≡ false = ap (λ k. opens_markup (drop k text)) (let q : suc at ≡ at + 1 = omega arith in q) ∙ none in
-    ap behind_inline_html f ∙ tag-alone (drop (suc at) text) e ∙ ap (behind_tag no_prefix) (sym f)
+    ap after_inline_html f ∙ tag-alone (drop (suc at) text) e ∙ ap (after_tag no_prefix) (sym f)

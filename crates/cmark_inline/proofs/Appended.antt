@@ -1,4 +1,4 @@
--- Slots that stand for the item that begins where they were appended.
+-- Slots that represent the item that begins where they were appended.
 use Rattle.std.specs.Prelude.{Option, Some, None, is_some, option_map, if◌then◌else◌, slice_get, encode_utf8}
 use Rattle.std.proofs.Common.{◌≡◌, ◌⊎◌, inl, inr, ℕ, suc, ◌+◌, ◌-◌, ◌<◌, ◌≤◌, ◌==◌, ◌&&◌, Bool, true, false, List, [], ◌∷◌, ◌++◌, length, drop, get_or, refl, sym, ap, subst, ◌∙◌, arith, length-drop, append_assoc, zero, true≢false}
 use Rattle.std.specs.List.{prefix_len}
@@ -11,17 +11,17 @@ use Rattle.cmark_grammar.specs.Columns.{is_blank_byte}
 use Rattle.cmark_grammar.specs.InlineTokens.{as_in, is_plain, item_at, code_or, entity_or, place_of, break_or, escape_at, escaped_backtick}
 use Rattle.cmark_grammar.specs.Items.{SoftBreak, HardBreak, Plain, Own, Code, Written, Item, Stands}
 use Rattle.cmark_grammar.specs.LabelsOverLines.{piped}
-use Rattle.cmark_grammar.specs.Letters.{first_is, starts, behind_if, and_then}
+use Rattle.cmark_grammar.specs.Letters.{first_is, starts, after_if, and_then}
 use Rattle.cmark_grammar.specs.LineBreaks.{ends_with_two_spaces, hard_break, backslash_break_in, line_break_in}
 use Rattle.cmark_grammar.specs.Lines.{is_content}
 use Rattle.cmark_grammar.specs.Options.{Options}
 use Rattle.cmark_grammar.specs.Tokens.{slice, Entity, entity_in, is_punctuation}
-use Rattle.cmark_text_parts.specs.Shown.{text_bytes}
-use Rattle.cmark_text_parts.specs.declared.text.CowStr.{CowStr}
-use Rattle.cmark_finds.specs.Shown.{shown_code, IsCodeAt}
-use Rattle.cmark_finds.specs.declared.code.CodeSpan.{CodeSpan}
-use Rattle.cmark_links.specs.Shown.{shown_break, IsBreakAt}
-use Rattle.cmark_links.specs.declared.breaks.LineBreak as find
+use Rattle.cmark_values.specs.Shown.{text_bytes}
+use Rattle.cmark_values.specs.declared.text.CowStr.{CowStr}
+use Rattle.cmark_span_scan.specs.Shown.{shown_code, IsCodeAt}
+use Rattle.cmark_span_scan.specs.declared.code.CodeSpan.{CodeSpan}
+use Rattle.cmark_link_scan.specs.Shown.{shown_break, IsBreakAt}
+use Rattle.cmark_link_scan.specs.declared.breaks.LineBreak as find
 use Rattle.cmark_inline.specs.Tokens.{whole, reading, begins_at, read_on, Says, IsItem, Puts, BeginsThere, Appends, Escapes, EscapesPipe, TakesEscaped}
 use Rattle.cmark_slots.specs.Slots.{byte_slots, PushesText}
 use Rattle.cmark_slots.specs.declared.slot.Slot.{Slot}
@@ -29,22 +29,22 @@ use Rattle.cmark_slots.specs.declared.slot.SlotKind.{SlotKind}
 use Rattle.cmark_slots.specs.declared.slot.SlotKind.TheVariants as kind
 use Rattle.cmark_inline.specs.declared.state.InlineState.{InlineState}
 use Rattle.cmark_inline.specs.declared.step.Cursor.{Cursor}
-use Rattle.cmark_inline.proofs.TokenSteps.{line-token, found-at-ending, slash-begins, slash-break-behind, break-stands, code-begins, entity-begins, front, line-at-slash, slash-escapes, slash-pipe, slash-run, some-ticks}
+use Rattle.cmark_inline.proofs.TokenSteps.{line-token, found-at-ending, slash-begins, slash-break-following, break-stands, code-begins, entity-begins, front, line-at-slash, slash-escapes, slash-pipe, slash-run, some-ticks}
 
--- what else a state holds stays
+-- the other parts of a state stay
 pub kept : (old new between : InlineState) → new ≡ between → between ≡ record old { slots = new.slots; texts = between.texts } → new ≡ record old { slots = new.slots; texts = new.texts }
 kept old new between e f = e ∙ f ∙ ap (λ (s : InlineState). record old { slots = new.slots; texts = s.texts }) (sym e)
 
 pub slots-alone : (old new : InlineState) → new ≡ record old { slots = new.slots } → new ≡ record old { slots = new.slots; texts = new.texts }
 slots-alone old new e = kept old new (record old { slots = new.slots }) e refl
 
--- an item begins at a byte that is none of those that are looked at twice
+-- an item begins at a byte other than `<` and a backtick, which have further conditions
 pub at-byte : (text : List ℕ) (here : Cursor) (b : ℕ) → get_or text here.at 0 ≡ b → is_content b ≡ true → (b == 60) ≡ false → (b == 96) ≡ false → BeginsThere text here here.at
 at-byte text here b is content less tick =
     inl (refl, ap is_content is ∙ content, (λ e. absurd (true≢false (sym (eq-eqb b 60 (sym is ∙ e)) ∙ less))), λ e one two. absurd (true≢false (sym (eq-eqb b 96 (sym is ∙ e)) ∙ tick)))
 
 module _ (o : Options) (l : Lookup) (cell : Bool) (text : List ℕ) (here : Cursor) (old new : InlineState) (next : Cursor) where
-  -- where only slots were appended
+  -- only slots were appended
   pub no-texts : new ≡ record old { slots = new.slots } → new.texts.items ≡ old.texts.items ++ []
   no-texts e = ap (λ (s : InlineState). s.texts.items) e ∙ sym (append-nil old.texts.items)
 
@@ -78,15 +78,15 @@ module _ (o : Options) (l : Lookup) (cell : Bool) (text : List ℕ) (here : Curs
       → slot ≡ record { kind = if hard then kind.HardBreak else kind.SoftBreak; start = if hard then text_end else here.at; end = found.end }
       → next.at ≡ read_on text slot.end → next.pending ≡ next.at → Puts here.pending text_end slot old.slots.items new.slots.items → new ≡ record old { slots = new.slots }
       → Appends o l cell text here old new next
-  break-appends text_end found slot hard behind before lt first blanks ends value places is-hard is at pending slots others =
+  break-appends text_end found slot hard following before lt first blanks ends value places is-hard is at pending slots others =
       let two : Bool = ends_with_two_spaces (slice text text_end here.at) in
       let slot-is = ap (λ z. record { kind = if z then kind.HardBreak else kind.SoftBreak; start = if z then text_end else here.at; end = found.end }) is-hard in
-      let a = places.behind in let b = places.ordered in let w = places.ends.0 in
+      let a = places.following in let b = places.ordered in let w = places.ends.0 in
       record {
         from = text_end;
         item = record { kind = if two then HardBreak else SoftBreak; start = if two then text_end else here.at; end = found.end };
         slot = slot;
-        behind = behind;
+        following = following;
         before = before;
         blanks = blanks;
         there = inr (no-content (get_or text here.at 0) ends, first);
@@ -109,21 +109,21 @@ module _ (o : Options) (l : Lookup) (cell : Bool) (text : List ℕ) (here : Curs
       → slot ≡ record { kind = kind.HardBreak; start = here.at; end = found.end }
       → next.at ≡ read_on text slot.end → next.pending ≡ next.at → Puts here.pending here.at slot old.slots.items new.slots.items → new ≡ record old { slots = new.slots }
       → Appends o l cell text here old new next
-  slash-appends found slot behind lt byte value places is at pending slots others =
-      let a = places.behind in let b = places.ordered in let w = places.ends.0 in
+  slash-appends found slot following lt byte value places is at pending slots others =
+      let a = places.following in let b = places.ordered in let w = places.ends.0 in
       let item : Item = record { kind = HardBreak; start = here.at; end = found.end } in
       record {
         from = here.at;
         item = item;
         slot = slot;
-        behind = behind;
+        following = following;
         before = omega arith;
         blanks = λ k le high. absurd (omega (arith, le, high));
         there = at-byte text here 92 byte refl refl refl;
         own = refl;
         token =
             slash-begins o l cell text here.at lt byte
-            ∙ ap (λ x. break_or (reading o l text) (whole cell text) here.at x (escape_at (reading o l text) (whole cell text) here.at (drop (suc here.at) text))) (slash-break-behind text here.at lt byte found value)
+            ∙ ap (λ x. break_or (reading o l text) (whole cell text) here.at x (escape_at (reading o l text) (whole cell text) here.at (drop (suc here.at) text))) (slash-break-following text here.at lt byte found value)
             ∙ break-stands o l cell text here.at found.end (hard_break (drop found.end text)) (escape_at (reading o l text) (whole cell text) here.at (drop (suc here.at) text)) (let q : here.at ≤ found.end = omega (arith, a, b) in q) w refl
             ∙ ap (λ s. Stands (record { kind = HardBreak; start = s; end = found.end }) (read_on text found.end)) (let q : here.at + 0 ≡ here.at = omega arith in q)
             ∙ ap (Stands item) (sym (at ∙ ap (λ (s : Slot). read_on text s.end) is));
@@ -144,11 +144,11 @@ module _ (o : Options) (l : Lookup) (cell : Bool) (text : List ℕ) (here : Curs
       → here.pending ≤ here.at → BeginsThere text here here.at → begins_at o l cell text here.at ≡ item_at Own start end → next.at ≡ end → next.pending ≡ next.at
       → Puts here.pending here.at (record { kind = kind.Text; start = start; end = end }) old.slots.items new.slots.items → new ≡ record old { slots = new.slots }
       → Appends o l cell text here old new next
-  own-appends start end behind there token at pending slots others = record {
+  own-appends start end following there token at pending slots others = record {
     from = here.at;
     item = record { kind = Own; start = start; end = end };
     slot = record { kind = kind.Text; start = start; end = end };
-    behind = behind;
+    following = following;
     before = omega arith;
     blanks = λ k le high. absurd (omega (arith, le, high));
     there = there;
@@ -171,13 +171,13 @@ module _ (o : Options) (l : Lookup) (cell : Bool) (text : List ℕ) (here : Curs
       → option_map (shown_code text) (Some span) ≡ code_in (drop here.at text) → IsCodeAt text here.at span → next.at ≡ span.end → next.pending ≡ next.at
       → Puts here.pending here.at (record { kind = kind.Code span.content_start span.content_end; start = here.at; end = span.end }) old.slots.items new.slots.items → new ≡ record old { slots = new.slots }
       → Appends o l cell text here old new next
-  code-appends span behind lt byte value places at pending slots others =
+  code-appends span following lt byte value places at pending slots others =
       let bytes : List ℕ = code_text (as_in cell (slice text span.content_start span.content_end)) in
       record {
         from = here.at;
         item = record { kind = Code bytes; start = here.at; end = span.end };
         slot = record { kind = kind.Code span.content_start span.content_end; start = here.at; end = span.end };
-        behind = behind;
+        following = following;
         before = omega arith;
         blanks = λ k le high. absurd (omega (arith, le, high));
         there = inl (refl, ap is_content byte, (λ e. absurd (let q : 96 ≡ 60 = sym byte ∙ e in omega (arith, q))), λ e one two. ap is_some (sym value));
@@ -195,7 +195,7 @@ module _ (o : Options) (l : Lookup) (cell : Bool) (text : List ℕ) (here : Curs
         others = slots-alone old new others;
       }
 
-  -- a run of backticks that opens none
+  -- a run of backticks that opens no code span
   pub run-token : (end : ℕ) → here.at < length text → get_or text here.at 0 ≡ 96 → None ≡ code_in (drop here.at text) → end ≡ here.at + prefix_len (λ b. b == get_or text here.at 0) (drop here.at text)
       → begins_at o l cell text here.at ≡ item_at Own here.at end
   run-token end lt byte none is =
@@ -203,7 +203,7 @@ module _ (o : Options) (l : Lookup) (cell : Bool) (text : List ℕ) (here : Curs
       ∙ ap (code_or (reading o l text) (whole cell text) here.at (backticks (drop here.at text))) (sym none)
       ∙ ap (item_at Own here.at) (sym (is ∙ ap (λ c. here.at + prefix_len (λ b. b == c) (drop here.at text)) byte))
 
-  -- ## Texts that the state owns
+  -- ## Owned texts
   last-get : {A : Type 0} (xs ys : List A) (x : A) (n : ℕ) → ys ≡ xs ++ (x ∷ []) → n ≡ length xs → slice_get ys n ≡ Some x
   last-get xs ys x n e is =
       let m = length_push xs x in
@@ -215,11 +215,11 @@ module _ (o : Options) (l : Lookup) (cell : Bool) (text : List ℕ) (here : Curs
       → new.texts.items ≡ old.texts.items ++ (text_is ∷ []) → index ≡ length old.texts.items → text_bytes text_is ≡ bytes
       → new ≡ record old { slots = new.slots; texts = new.texts }
       → Appends o l cell text here old new next
-  owned-appends bytes end index text_is behind there token at pending slots texts place is others = record {
+  owned-appends bytes end index text_is following there token at pending slots texts place is others = record {
     from = here.at;
     item = record { kind = Written bytes; start = here.at; end = end };
     slot = record { kind = kind.OwnedText index; start = here.at; end = end };
-    behind = behind;
+    following = following;
     before = omega arith;
     blanks = λ k le high. absurd (omega (arith, le, high));
     there = there;
@@ -233,16 +233,16 @@ module _ (o : Options) (l : Lookup) (cell : Bool) (text : List ℕ) (here : Curs
     others = others;
   }
 
-  -- a character that stands for some bytes
+  -- a character that represents some bytes
   pub character-appends : (bytes : List ℕ) (end character : ℕ)
       → here.pending ≤ here.at → BeginsThere text here here.at → begins_at o l cell text here.at ≡ item_at (Written bytes) here.at end → next.at ≡ end → next.pending ≡ next.at
       → Puts here.pending here.at (record { kind = kind.Character character; start = here.at; end = end }) old.slots.items new.slots.items → new ≡ record old { slots = new.slots } → encode_utf8 character ≡ bytes
       → Appends o l cell text here old new next
-  character-appends bytes end character behind there token at pending slots others is = record {
+  character-appends bytes end character following there token at pending slots others is = record {
     from = here.at;
     item = record { kind = Written bytes; start = here.at; end = end };
     slot = record { kind = kind.Character character; start = here.at; end = end };
-    behind = behind;
+    following = following;
     before = omega arith;
     blanks = λ k le high. absurd (omega (arith, le, high));
     there = there;
@@ -258,8 +258,8 @@ module _ (o : Options) (l : Lookup) (cell : Bool) (text : List ℕ) (here : Curs
 
   -- ## Entities
   pub entity-is : (bytes range : List ℕ) (found : Option Entity) → here.at < length text → get_or text here.at 0 ≡ 38 → bytes ≡ range → range ≡ drop here.at text
-      → found ≡ and_then (behind_if (λ b. b == 38) bytes) (entity_in l) → entity_in l (drop (suc here.at) text) ≡ found
-  entity-is bytes range found lt is same cut e = sym (e ∙ ap (λ bs. and_then (behind_if (λ b. b == 38) bs) (entity_in l)) (same ∙ cut ∙ front o l cell text here.at 38 lt is))
+      → found ≡ and_then (after_if (λ b. b == 38) bytes) (entity_in l) → entity_in l (drop (suc here.at) text) ≡ found
+  entity-is bytes range found lt is same cut e = sym (e ∙ ap (λ bs. and_then (after_if (λ b. b == 38) bs) (entity_in l)) (same ∙ cut ∙ front o l cell text here.at 38 lt is))
 
   pub entity-token : (entity : Entity) (end : ℕ) → here.at < length text → get_or text here.at 0 ≡ 38 → entity_in l (drop (suc here.at) text) ≡ Some entity → end ≡ here.at + entity.size
       → begins_at o l cell text here.at ≡ item_at (Written entity.bytes) here.at end
@@ -294,7 +294,7 @@ module _ (o : Options) (l : Lookup) (cell : Bool) (text : List ℕ) (here : Curs
         others = others;
       }
 
--- in the cell of a table, before another backslash and a pipe
+-- in a table's cell, before another backslash and a pipe
 module _ (o : Options) (l : Lookup) (cell : Bool) (text : List ℕ) (here : Cursor) (old new : InlineState) (escaped end resume : ℕ) where
   pub pipe-makes : here.at < length text → get_or text here.at 0 ≡ 92 → None ≡ line_break_in (drop here.at text)
       → escaped ≡ here.at + 1 → end ≡ escaped + 1 → resume ≡ end + 1 → cell ≡ true → starts piped (drop escaped text) ≡ true

@@ -1,4 +1,4 @@
--- Autolinks where they were found.
+-- Autolinks that were found.
 use Rattle.std.specs.Prelude.{Option, Some, None, if◌then◌else◌, nat_le}
 use Rattle.std.proofs.Common.{◌≡◌, ◌⊎◌, inl, inr, ℕ, zero, suc, ◌+◌, ◌-◌, ◌<◌, ◌≤◌, ◌==◌, ◌||◌, ◌&&◌, not, Bool, true, false, List, [], ◌∷◌, length, take, drop, get_or, refl, sym, ap, ◌∙◌, arith, cond, eqb-true, length-drop, drop-drop, true≢false}
 use Rattle.std.specs.List.{prefix_len}
@@ -8,7 +8,7 @@ use Rattle.cmark_grammar.specs.Autolinks.{autolink_in, has_address, has_scheme, 
 use Rattle.cmark_grammar.specs.Letters.{first_is, is_letter}
 use Rattle.cmark_grammar.specs.LinkDefinitions.{Parsed}
 use Rattle.cmark_grammar.specs.Tokens.{slice}
-use Rattle.cmark_scan_parts.specs.Shown.{Part, cut_at}
+use Rattle.cmark_scan_bytes.specs.Shown.{Part, cut_at}
 use Rattle.cmark_inline.specs.Tokens.{shown_autolink}
 use Rattle.cmark_inline.proofs.Bytes.{first-at, first-past}
 
@@ -34,14 +34,14 @@ some-first : (bs : List ℕ) → first_is is_letter bs ≡ true → 0 < prefix_l
 some-first [] e = absurd (true≢false (sym e))
 some-first (b ∷ bs) e = let n : prefix_len is_uri_byte (b ∷ bs) ≡ 1 + prefix_len is_uri_byte bs = ap (λ t. cond t (1 + prefix_len is_uri_byte bs) 0) (letter-byte b e) in omega (arith, n)
 
--- so many bytes stand between the brackets
+-- the number of bytes between the angle brackets
 record IsClosed (bs : List ℕ) (found : Parsed) : Type 0 where
   size : ℕ
   some : 0 < size
   within : size < length bs
   closer : get_or bs size 0 ≡ 62
   bytes : found.bytes ≡ take size bs
-  behind : found.behind ≡ drop (suc size) bs
+  following : found.following ≡ drop (suc size) bs
 
 closed : (emails : Bool) (bs : List ℕ) (found : Parsed) → autolink_in emails bs ≡ Some found → IsClosed bs found
 closed emails bs found e = by-address (has_address emails bs) refl
@@ -56,7 +56,7 @@ closed emails bs found e = by-address (has_address emails bs) refl
     same x y q = let z : y ≡ x = cc in z
 
     made : Parsed
-    made = record { bytes = take n bs; behind = drop (suc n) bs }
+    made = record { bytes = take n bs; following = drop (suc n) bs }
 
     places : (k m : ℕ) → (k < m) ⊎ (m ≤ k)
     places k zero = inr (omega arith)
@@ -74,7 +74,7 @@ closed emails bs found e = by-address (has_address emails bs) refl
       within = lt;
       closer = eqb-true (get_or bs n 0) 62 (sym (first-at (λ b. b == 62) bs n lt) ∙ closes);
       bytes = ap (λ (f : Parsed). f.bytes) is;
-      behind = ap (λ (f : Parsed). f.behind) is;
+      following = ap (λ (f : Parsed). f.following) is;
     }
     by-place some closes is (inr le) = absurd (true≢false (sym closes ∙ first-past (λ b. b == 62) bs n le))
 
@@ -82,7 +82,7 @@ closed emails bs found e = by-address (has_address emails bs) refl
     by-closer some true q f = by-place some q (same made found f) (places n (length bs))
     by-closer some false q f = absurd (none found f)
 
-    -- nothing is no email address
+    -- an email address is not empty
     some-email : (k : ℕ) → is_email (take k bs) ≡ true → 0 < k
     some-email zero h = cc
     some-email (suc k) h = omega arith
@@ -96,7 +96,7 @@ closed emails bs found e = by-address (has_address emails bs) refl
         by-closer (some-address (or_cases (has_scheme bs) (emails && is_email (take n bs)) q)) (first_is (λ b. b == 62) (drop n bs)) refl (sym (ap (λ z. if z then closed_by 62 n bs else None) q) ∙ e)
     by-address false q = absurd (none found (sym (ap (λ z. if z then closed_by 62 n bs else None) q) ∙ e))
 
--- where a scan found an autolink behind its `<`
+-- a scan found an autolink after its `<`
 pub record IsAutolinkAt (emails : Bool) (text : List ℕ) (at end : ℕ) : Type 0 where
   pub value : Some (shown_autolink text at end) ≡ autolink_in emails (drop (at + 1) text)
   pub some : at + 2 < end
@@ -127,9 +127,9 @@ autolink-at emails text at part le e = go (autolink_in emails (drop (at + 1) tex
         let size : length found.bytes ≡ n = ap length c.bytes ∙ length-take-le n bs (let h : n ≤ length bs = omega (arith, within) in h) in
         let ends : part.end ≡ at + 1 + suc (length found.bytes) = ap (λ (p : Part). p.end) is in
         let bytes : slice text (at + 1) (part.end - 1) ≡ found.bytes = ap (λ k. take k bs) (let h : part.end - 1 - (at + 1) ≡ n = omega (arith, ends, size) in h) ∙ sym c.bytes in
-        let behind : drop part.end text ≡ found.behind = ap (λ k. drop k text) (let h : part.end ≡ at + 1 + suc n = omega (arith, ends, size) in h) ∙ sym (drop-drop (suc n) (at + 1) text) ∙ sym c.behind in
+        let following : drop part.end text ≡ found.following = ap (λ k. drop k text) (let h : part.end ≡ at + 1 + suc n = omega (arith, ends, size) in h) ∙ sym (drop-drop (suc n) (at + 1) text) ∙ sym c.following in
         record {
-          value = ap Some (ap (λ b. record { bytes = b; behind = drop part.end text }) bytes ∙ ap (λ b. record { bytes = found.bytes; behind = b }) behind) ∙ sym q;
+          value = ap Some (ap (λ b. record { bytes = b; following = drop part.end text }) bytes ∙ ap (λ b. record { bytes = found.bytes; following = b }) following) ∙ sym q;
           some = (let h : at + 2 < part.end = omega (arith, ends, size, some) in h);
           within = (let h : part.end ≤ length text = omega (arith, ends, size, within, d, le) in h);
           closer = ap (λ k. get_or text k 0) (let h : part.end - 1 ≡ at + 1 + n = omega (arith, ends, size) in h) ∙ sym (get_or-drop (at + 1) text n 0) ∙ c.closer;

@@ -1,11 +1,11 @@
--- A value under a box's own vtable, which a call changed through a reference with a vtable that is the same.
+-- A value under a box's own vtable, which a call changed through a reference with an equal vtable.
 use Rattle.std.specs.Prelude.{◌≡◌}
 use Rattle.std.specs.DynBox.{dyn_box_with}
 use Rattle.std.specs.declared.dyn_box.DynBox.{DynBox}
 use Rattle.std.proofs.Math.Path.{refl, sym, subst}
 
 module _ {X Z : Type 0} {F : X → Type 0} (Says : (k : X) → (before after : F k) → Type 0) (d : DynBox X Z F) where
-  -- what is said of a change under one vtable, said under the other
+  -- a fact about a change under one vtable, as a fact under the other
   abbrev SaidUnder : (j : X) (y : F j) → (k : X) × F k → Type 0
   SaidUnder j y q = (after : F q.0) → Says q.0 q.1 after → (next : F j) × Says j y next × (dyn_box_with d q.0 after ≡ dyn_box_with d j next)
 

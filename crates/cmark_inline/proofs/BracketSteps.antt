@@ -6,21 +6,21 @@ use Rattle.std.proofs.Math.Seq.{take-append_seam}
 use Rattle.std.proofs.lemmas.List.{append-nil, get_or_append_left, get_or-append_right}
 use Rattle.cmark_grammar.specs.BracketStates.{Opener}
 use Rattle.cmark_grammar.specs.Items as items
-use Rattle.cmark_grammar.specs.OpenBrackets.{Taken, one_nearer, nearest, used_up, touches, doubled_behind, undoubled, tried}
+use Rattle.cmark_grammar.specs.OpenBrackets.{Taken, one_nearer, nearest, used_up, touches, doubled_after, undoubled, tried}
 use Rattle.cmark_slots.specs.declared.bracket.Bracket.{Bracket}
-use Rattle.cmark_inline.specs.BracketViews.{IsFresh, ArePlaced, IsPlaced, behind_opening, with_last, standing_of, pairs_behind, pairs_of, AreInactive, PairsInactive, AreDoubledInactive}
-use Rattle.cmark_slots.specs.Doubled.{DropsBehind}
+use Rattle.cmark_inline.specs.BracketViews.{IsFresh, ArePlaced, IsPlaced, after_opening, with_last, standing_of, pairs_following, pairs_of, AreInactive, PairsInactive, AreDoubledInactive}
+use Rattle.cmark_slots.specs.Doubled.{DropsAfter}
 
--- ## The nearest one that stands
+-- ## The nearest bracket that stands
 
--- a closing bracket uses up this one, behind which so many more are on the stack
+-- a closing bracket uses up this one, the last one on the stack
 pub record TakesOne (place : ℕ → ℕ) (os : List Opener) (bs : List Bracket) (inactive_below : ℕ) (t : Taken) : Type 0 where
   pub bracket : Bracket
   pub there : drop t.nearer bs ≡ bracket ∷ drop (suc t.nearer) bs
   pub placed : IsPlaced place t.opener bracket
   pub standing : standing_of os bs ≡ standing_of (used_up os) bs ++ (bracket ∷ [])
   pub inactive : t.opener.is_inactive ≡ (not bracket.is_image && nat_lt (length (standing_of (used_up os) bs)) inactive_below)
-  pub behind : drop (suc t.nearer) (used_up os) ≡ drop (suc t.nearer) os
+  pub following : drop (suc t.nearer) (used_up os) ≡ drop (suc t.nearer) os
   pub rest : standing_of (drop (suc t.nearer) os) (drop (suc t.nearer) bs) ≡ standing_of (used_up os) bs
 
 abbrev pub Takes : (place : ℕ → ℕ) → (os : List Opener) → (bs : List Bracket) → (inactive_below : ℕ) → Option Taken → Type 0
@@ -46,7 +46,7 @@ takes place at (o ∷ os) (b ∷ bs) inactive_below h k = go o.stands refl (take
           placed = i.placed;
           standing = ap (λ z. with_last z b (standing_of os bs)) e ∙ i.standing ∙ ap (λ l. l ++ (i.bracket ∷ [])) (sym same);
           inactive = i.inactive ∙ ap (λ l. not i.bracket.is_image && nat_lt (length l) inactive_below) (sym same);
-          behind = ap (λ z. drop (suc (suc t.nearer)) (if z then record o { stands = false } ∷ os else o ∷ used_up os)) e ∙ i.behind;
+          following = ap (λ z. drop (suc (suc t.nearer)) (if z then record o { stands = false } ∷ os else o ∷ used_up os)) e ∙ i.following;
           rest = i.rest ∙ sym same;
         }
 
@@ -59,12 +59,12 @@ takes place at (o ∷ os) (b ∷ bs) inactive_below h k = go o.stands refl (take
           placed = h.0;
           standing = ap (λ z. with_last z b (standing_of os bs)) e ∙ ap (λ l. l ++ (b ∷ [])) (sym same);
           inactive = k.0 e ∙ ap (λ l. not b.is_image && nat_lt (length l) inactive_below) (sym same);
-          behind = ap (λ z. drop 1 (if z then record o { stands = false } ∷ os else o ∷ used_up os)) e;
+          following = ap (λ z. drop 1 (if z then record o { stands = false } ∷ os else o ∷ used_up os)) e;
           rest = sym same;
         }
     go false e i = later e (nearest os) i
 
--- the others are as they were
+-- the other brackets are unchanged
 pub used-placed : (place : ℕ → ℕ) (at : ℕ) (os : List Opener) (bs : List Bracket) → ArePlaced place at os bs → ArePlaced place at (used_up os) bs
 used-placed place at [] [] h = h
 used-placed place at [] (b ∷ bs) h = h
@@ -75,7 +75,7 @@ used-placed place at (o ∷ os) (b ∷ bs) h = go o.stands (used-placed place b.
     go true i = (record { bracket = h.0.bracket; in_text = h.0.in_text; in_source = h.0.in_source }, h.1, h.2)
     go false i = (h.0, h.1, i)
 
--- of fewer brackets on the stack none but those are inactive
+-- the inactive ones of fewer brackets on the stack
 fewer : (x : Bool) (n inactive_below m : ℕ) → n < m → (x && nat_lt n inactive_below) ≡ (x && nat_lt n (min inactive_below m))
 fewer false n inactive_below m lt = refl
 fewer true n inactive_below m lt = go (nat_lt n inactive_below) refl (nat_lt n (min inactive_below m)) refl
@@ -101,7 +101,7 @@ inactive-fewer (o ∷ os) (b ∷ bs) inactive_below m le h = (λ e. h.0 e ∙ fe
     less true l = let g = grown in omega (arith, l, g)
     less false l = l
 
--- what is used up stands no more
+-- the bracket that is used up does not stand any more
 pub inactive-used : (os : List Opener) (bs : List Bracket) (inactive_below : ℕ) → AreInactive inactive_below os bs → AreInactive inactive_below (used_up os) bs
 inactive-used [] bs inactive_below h = tt
 inactive-used (o ∷ os) [] inactive_below h = go o.stands
@@ -115,33 +115,33 @@ inactive-used (o ∷ os) (b ∷ bs) inactive_below h = go o.stands refl (inactiv
     go true e i = ((λ f. absurd (true≢false (sym f))), h.1)
     go false e i = ((λ f. absurd (true≢false (sym f ∙ e))), i)
 
-pub opening-up : (z : Bool) (start : ℕ) → start < behind_opening z start
+pub opening-up : (z : Bool) (start : ℕ) → start < after_opening z start
 opening-up true start = omega arith
 opening-up false start = omega arith
 
--- ## The doubled ones
+-- ## Doubled brackets
 
--- they touch by their brackets
-pub pairs-same : (second other : Opener) (inside : ℕ) (os : List Opener) (bs : List Bracket) → other.bracket ≡ second.bracket → pairs_behind other inside os bs ≡ pairs_behind second inside os bs
+-- whether brackets touch depends only on where they begin and end
+pub pairs-same : (second other : Opener) (inside : ℕ) (os : List Opener) (bs : List Bracket) → other.bracket ≡ second.bracket → pairs_following other inside os bs ≡ pairs_following second inside os bs
 pairs-same second other inside [] bs same = refl
 pairs-same second other inside (o ∷ os) [] same = refl
 pairs-same second other inside (o ∷ os) (b ∷ bs) same =
-    ap (λ (t : items.Bracket). with_last (o.doubles && (not t.is_image && (t.start == o.bracket.end))) (record b { inside = inside }) (pairs_behind o b.inside os bs)) same
+    ap (λ (t : items.Bracket). with_last (o.doubles && (not t.is_image && (t.start == o.bracket.end))) (record b { inside = inside }) (pairs_following o b.inside os bs)) same
 
-used_behind : (second : Opener) (inside : ℕ) (os : List Opener) (bs : List Bracket) → pairs_behind second inside (used_up os) bs ≡ pairs_behind second inside os bs
-used_behind second inside [] bs = refl
-used_behind second inside (o ∷ os) [] = go o.stands
+used_after : (second : Opener) (inside : ℕ) (os : List Opener) (bs : List Bracket) → pairs_following second inside (used_up os) bs ≡ pairs_following second inside os bs
+used_after second inside [] bs = refl
+used_after second inside (o ∷ os) [] = go o.stands
   where
-    go : (z : Bool) → pairs_behind second inside (if z then record o { stands = false } ∷ os else o ∷ used_up os) [] ≡ []
+    go : (z : Bool) → pairs_following second inside (if z then record o { stands = false } ∷ os else o ∷ used_up os) [] ≡ []
     go true = refl
     go false = refl
-used_behind second inside (o ∷ os) (b ∷ bs) = go o.stands (used_behind o b.inside os bs)
+used_after second inside (o ∷ os) (b ∷ bs) = go o.stands (used_after o b.inside os bs)
   where
-    go : (z : Bool) → pairs_behind o b.inside (used_up os) bs ≡ pairs_behind o b.inside os bs → pairs_behind second inside (if z then record o { stands = false } ∷ os else o ∷ used_up os) (b ∷ bs) ≡ pairs_behind second inside (o ∷ os) (b ∷ bs)
+    go : (z : Bool) → pairs_following o b.inside (used_up os) bs ≡ pairs_following o b.inside os bs → pairs_following second inside (if z then record o { stands = false } ∷ os else o ∷ used_up os) (b ∷ bs) ≡ pairs_following second inside (o ∷ os) (b ∷ bs)
     go true i = ap (with_last (o.doubles && touches second o) (record b { inside = inside })) (pairs-same o (record o { stands = false }) b.inside os bs refl)
     go false i = ap (with_last (o.doubles && touches second o) (record b { inside = inside })) i
 
--- a bracket that is used up doubles as before
+-- a bracket that is used up still doubles
 pub used-pairs : (os : List Opener) (bs : List Bracket) → pairs_of (used_up os) bs ≡ pairs_of os bs
 used-pairs [] bs = refl
 used-pairs (o ∷ os) [] = go o.stands
@@ -153,25 +153,25 @@ used-pairs (o ∷ os) (b ∷ bs) = go o.stands
   where
     go : (z : Bool) → pairs_of (if z then record o { stands = false } ∷ os else o ∷ used_up os) (b ∷ bs) ≡ pairs_of (o ∷ os) (b ∷ bs)
     go true = pairs-same o (record o { stands = false }) b.inside os bs refl
-    go false = used_behind o b.inside os bs
+    go false = used_after o b.inside os bs
 
 pairs_inactive_same : (inactive_below : ℕ) (second other : Opener) (inside : ℕ) (os : List Opener) (bs : List Bracket) → other.bracket ≡ second.bracket → PairsInactive inactive_below second inside os bs → PairsInactive inactive_below other inside os bs
 pairs_inactive_same inactive_below second other inside [] bs same h = tt
 pairs_inactive_same inactive_below second other inside (o ∷ os) [] same h = tt
 pairs_inactive_same inactive_below second other inside (o ∷ os) (b ∷ bs) same h = ((λ e. h.0 (ap (λ (t : items.Bracket). o.doubles && (not t.is_image && (t.start == o.bracket.end))) (sym same) ∙ e)), h.1)
 
-inactive_used_behind : (inactive_below : ℕ) (second : Opener) (inside : ℕ) (os : List Opener) (bs : List Bracket) → PairsInactive inactive_below second inside os bs → PairsInactive inactive_below second inside (used_up os) bs
-inactive_used_behind inactive_below second inside [] bs h = tt
-inactive_used_behind inactive_below second inside (o ∷ os) [] h = go o.stands
+inactive_used_after : (inactive_below : ℕ) (second : Opener) (inside : ℕ) (os : List Opener) (bs : List Bracket) → PairsInactive inactive_below second inside os bs → PairsInactive inactive_below second inside (used_up os) bs
+inactive_used_after inactive_below second inside [] bs h = tt
+inactive_used_after inactive_below second inside (o ∷ os) [] h = go o.stands
   where
     go : (z : Bool) → PairsInactive inactive_below second inside (if z then record o { stands = false } ∷ os else o ∷ used_up os) []
     go true = tt
     go false = tt
-inactive_used_behind inactive_below second inside (o ∷ os) (b ∷ bs) h = go o.stands (inactive_used_behind inactive_below o b.inside os bs h.1)
+inactive_used_after inactive_below second inside (o ∷ os) (b ∷ bs) h = go o.stands (inactive_used_after inactive_below o b.inside os bs h.1)
   where
     go : (z : Bool) → PairsInactive inactive_below o b.inside (used_up os) bs → PairsInactive inactive_below second inside (if z then record o { stands = false } ∷ os else o ∷ used_up os) (b ∷ bs)
     go true i = ((λ e. h.0 e ∙ ap (λ l. not b.is_image && nat_lt (length l) inactive_below) (sym (pairs-same o (record o { stands = false }) b.inside os bs refl))), pairs_inactive_same inactive_below o (record o { stands = false }) b.inside os bs refl h.1)
-    go false i = ((λ e. h.0 e ∙ ap (λ l. not b.is_image && nat_lt (length l) inactive_below) (sym (used_behind o b.inside os bs))), i)
+    go false i = ((λ e. h.0 e ∙ ap (λ l. not b.is_image && nat_lt (length l) inactive_below) (sym (used_after o b.inside os bs))), i)
 
 pub doubled-used : (inactive_below : ℕ) (os : List Opener) (bs : List Bracket) → AreDoubledInactive inactive_below os bs → AreDoubledInactive inactive_below (used_up os) bs
 doubled-used inactive_below [] bs h = tt
@@ -184,9 +184,9 @@ doubled-used inactive_below (o ∷ os) (b ∷ bs) h = go o.stands
   where
     go : (z : Bool) → AreDoubledInactive inactive_below (if z then record o { stands = false } ∷ os else o ∷ used_up os) (b ∷ bs)
     go true = pairs_inactive_same inactive_below o (record o { stands = false }) b.inside os bs refl h
-    go false = inactive_used_behind inactive_below o b.inside os bs h
+    go false = inactive_used_after inactive_below o b.inside os bs h
 
--- the doubled one that is tried: its first bracket, with another one directly behind it
+-- the doubled bracket that is tried: its first bracket, and another one directly after it
 pub record TriesOne (place : ℕ → ℕ) (most : ℕ) (second : Opener) (inside : ℕ) (os : List Opener) (bs : List Bracket) (inactive_below : ℕ) (t : Taken) : Type 0 where
   pub more : ℕ
   pub nearer_is : t.nearer ≡ suc more
@@ -197,12 +197,12 @@ pub record TriesOne (place : ℕ → ℕ) (most : ℕ) (second : Opener) (inside
   pub before : inner + 1 ≤ most
   pub meets : place inner ≡ t.opener.bracket.end
   pub next : place (inner + 1) ≡ suc (place inner)
-  pub pairs : pairs_behind second inside os bs ≡ pairs_behind second inside (tried more os) bs ++ (record bracket { inside = inner + 1 } ∷ [])
-  pub inactive : t.opener.is_inactive ≡ (not bracket.is_image && nat_lt (length (pairs_behind second inside (tried more os) bs)) inactive_below)
+  pub pairs : pairs_following second inside os bs ≡ pairs_following second inside (tried more os) bs ++ (record bracket { inside = inner + 1 } ∷ [])
+  pub inactive : t.opener.is_inactive ≡ (not bracket.is_image && nat_lt (length (pairs_following second inside (tried more os) bs)) inactive_below)
   pub left : PairsInactive inactive_below second inside (tried more os) bs
 
 abbrev pub Tries : (place : ℕ → ℕ) → (most : ℕ) → (second : Opener) → (inside : ℕ) → (os : List Opener) → (bs : List Bracket) → (inactive_below : ℕ) → Option Taken → Type 0
-Tries place most second inside os bs inactive_below None = pairs_behind second inside os bs ≡ []
+Tries place most second inside os bs inactive_below None = pairs_following second inside os bs ≡ []
 Tries place most second inside os bs inactive_below (Some t) = TriesOne place most second inside os bs inactive_below t
 
 and-left : (a b : Bool) → (a && b) ≡ true → a ≡ true
@@ -218,7 +218,7 @@ not-true true e = absurd (true≢false (sym e))
 not-true false e = refl
 
 pub tries : (place : ℕ → ℕ) (at most : ℕ) (second : Opener) (inner : Bracket) (os : List Opener) (bs : List Bracket) (inactive_below : ℕ) → IsPlaced place second inner → ArePlaced place at os bs → PairsInactive inactive_below second inner.inside os bs → inner.inside ≤ most → at ≤ most
-    → Tries place most second inner.inside os bs inactive_below (doubled_behind second os)
+    → Tries place most second inner.inside os bs inactive_below (doubled_after second os)
 tries place at most second inner [] [] inactive_below p h k low up = refl
 tries place at most second inner [] (b ∷ bs) inactive_below p h k low up = refl
 tries place at most second inner (o ∷ os) [] inactive_below p h k low up = absurd h
@@ -234,9 +234,9 @@ tries place at most second inner (o ∷ os) (b ∷ bs) inactive_below p h k low 
     front l z = with_last z entry l
 
     later : (o.doubles && touches second o) ≡ false → (t : Option Taken) → Tries place most o b.inside os bs inactive_below t → Tries place most second inner.inside (o ∷ os) (b ∷ bs) inactive_below (one_nearer t)
-    later e None i = ap (front (pairs_behind o b.inside os bs)) e ∙ i
+    later e None i = ap (front (pairs_following o b.inside os bs)) e ∙ i
     later e (Some t) i =
-        let same : pairs_behind second inner.inside (tried (suc i.more) (o ∷ os)) (b ∷ bs) ≡ pairs_behind o b.inside (tried i.more os) bs = ap (front (pairs_behind o b.inside (tried i.more os) bs)) e in
+        let same : pairs_following second inner.inside (tried (suc i.more) (o ∷ os)) (b ∷ bs) ≡ pairs_following o b.inside (tried i.more os) bs = ap (front (pairs_following o b.inside (tried i.more os) bs)) e in
         record {
           more = suc i.more;
           nearer_is = ap suc i.nearer_is;
@@ -247,20 +247,20 @@ tries place at most second inner (o ∷ os) (b ∷ bs) inactive_below p h k low 
           before = i.before;
           meets = i.meets;
           next = i.next;
-          pairs = ap (front (pairs_behind o b.inside os bs)) e ∙ i.pairs ∙ ap (λ l. l ++ (record i.bracket { inside = i.inner + 1 } ∷ [])) (sym same);
+          pairs = ap (front (pairs_following o b.inside os bs)) e ∙ i.pairs ∙ ap (λ l. l ++ (record i.bracket { inside = i.inner + 1 } ∷ [])) (sym same);
           inactive = i.inactive ∙ ap (λ l. not i.bracket.is_image && nat_lt (length l) inactive_below) (sym same);
           left = ((λ f. absurd (true≢false (sym f ∙ e))), i.left);
         }
 
-    go : (z : Bool) → (o.doubles && touches second o) ≡ z → Tries place most o b.inside os bs inactive_below (doubled_behind o os)
-        → Tries place most second inner.inside (o ∷ os) (b ∷ bs) inactive_below (if z then Some (record { nearer = 1; opener = o }) else one_nearer (doubled_behind o os))
+    go : (z : Bool) → (o.doubles && touches second o) ≡ z → Tries place most o b.inside os bs inactive_below (doubled_after o os)
+        → Tries place most second inner.inside (o ∷ os) (b ∷ bs) inactive_below (if z then Some (record { nearer = 1; opener = o }) else one_nearer (doubled_after o os))
     go true e i =
         let t = and-right o.doubles (touches second o) e in
         let plain : second.bracket.is_image ≡ false = not-true second.bracket.is_image (and-left (not second.bracket.is_image) (second.bracket.start == o.bracket.end) t) in
         let image : inner.is_image ≡ false = sym (ap (λ (c : items.Bracket). c.is_image) p.bracket) ∙ plain in
         let meets : place inner.start ≡ o.bracket.end = sym (ap (λ (c : items.Bracket). c.start) p.bracket) ∙ eqb-true second.bracket.start o.bracket.end (and-right (not second.bracket.is_image) (second.bracket.start == o.bracket.end) t) in
-        let last : inner.inside ≡ inner.start + 1 = p.in_text ∙ ap (λ z. behind_opening z inner.start) image in
-        let same : pairs_behind second inner.inside (undoubled o ∷ os) (b ∷ bs) ≡ pairs_behind o b.inside os bs = pairs-same o (undoubled o) b.inside os bs refl in
+        let last : inner.inside ≡ inner.start + 1 = p.in_text ∙ ap (λ z. after_opening z inner.start) image in
+        let same : pairs_following second inner.inside (undoubled o ∷ os) (b ∷ bs) ≡ pairs_following o b.inside os bs = pairs-same o (undoubled o) b.inside os bs refl in
         record {
           more = 0;
           nearer_is = refl;
@@ -270,14 +270,14 @@ tries place at most second inner (o ∷ os) (b ∷ bs) inactive_below p h k low 
           placed = h.0;
           before = subst (λ m. m ≤ most) last low;
           meets = meets;
-          next = ap place (sym last) ∙ p.in_source ∙ ap (λ z. behind_opening z (place inner.start)) image ∙ (let q : place inner.start + 1 ≡ suc (place inner.start) = omega arith in q);
-          pairs = ap (front (pairs_behind o b.inside os bs)) e ∙ ap (λ l. l ++ (entry ∷ [])) (sym same) ∙ ap (λ n. pairs_behind second inner.inside (undoubled o ∷ os) (b ∷ bs) ++ (record b { inside = n } ∷ [])) last;
+          next = ap place (sym last) ∙ p.in_source ∙ ap (λ z. after_opening z (place inner.start)) image ∙ (let q : place inner.start + 1 ≡ suc (place inner.start) = omega arith in q);
+          pairs = ap (front (pairs_following o b.inside os bs)) e ∙ ap (λ l. l ++ (entry ∷ [])) (sym same) ∙ ap (λ n. pairs_following second inner.inside (undoubled o ∷ os) (b ∷ bs) ++ (record b { inside = n } ∷ [])) last;
           inactive = k.0 e ∙ ap (λ l. not b.is_image && nat_lt (length l) inactive_below) (sym same);
           left = ((λ f. absurd (true≢false (sym f))), pairs_inactive_same inactive_below o (undoubled o) b.inside os bs refl k.1);
         }
-    go false e i = later e (doubled_behind o os) i
+    go false e i = later e (doubled_after o os) i
 
--- the brackets are as they were
+-- the brackets are unchanged
 pub tried-placed : (place : ℕ → ℕ) (at n : ℕ) (os : List Opener) (bs : List Bracket) → ArePlaced place at os bs → ArePlaced place at (tried n os) bs
 tried-placed place at n [] [] h = h
 tried-placed place at n [] (b ∷ bs) h = h
@@ -305,19 +305,19 @@ inactive-tried (suc n) (o ∷ os) [] inactive_below h = tt
 inactive-tried zero (o ∷ os) (b ∷ bs) inactive_below h = h
 inactive-tried (suc n) (o ∷ os) (b ∷ bs) inactive_below h = ((λ e. h.0 e ∙ ap (λ l. not b.is_image && nat_lt (length l) inactive_below) (sym (tried-standing n os bs))), inactive-tried n os bs inactive_below h.1)
 
--- ## Those behind the bracket that is taken
+-- ## The brackets around the one that is taken
 
--- the brackets behind one begin before it, and those up to it end behind its begin
-abbrev pub EndBehind : (place n : ℕ) → List Bracket → Type 0
-EndBehind place zero bs = Unit {0}
-EndBehind place (suc n) [] = Unit {0}
-EndBehind place (suc n) (b ∷ bs) = (place < b.inside) × EndBehind place n bs
+-- the nearest `n` brackets end after the offset `place`
+abbrev pub EndAfter : (place n : ℕ) → List Bracket → Type 0
+EndAfter place zero bs = Unit {0}
+EndAfter place (suc n) [] = Unit {0}
+EndAfter place (suc n) (b ∷ bs) = (place < b.inside) × EndAfter place n bs
 
 pub record IsCut (place : ℕ → ℕ) (at : ℕ) (os : List Opener) (bs : List Bracket) (n : ℕ) (b : Bracket) (rest : List Bracket) : Type 0 where
   pub before : b.inside ≤ at
   pub further : b.start < b.inside
-  pub ends : EndBehind b.start (suc n) bs
-  pub behind : ArePlaced place b.start (drop (suc n) os) rest
+  pub ends : EndAfter b.start (suc n) bs
+  pub following : ArePlaced place b.start (drop (suc n) os) rest
 
 pub placed-cut : (place : ℕ → ℕ) (at n : ℕ) (os : List Opener) (bs : List Bracket) (b : Bracket) (rest : List Bracket) → ArePlaced place at os bs → drop n bs ≡ b ∷ rest → IsCut place at os bs n b rest
 placed-cut place at n os [] b rest h e = absurd (none n e)
@@ -330,7 +330,7 @@ placed-cut place at zero (o ∷ os) (c ∷ bs) b rest h e =
     let same : c ≡ b = head e in
     let more : bs ≡ rest = tail e in
     let q : c.start < c.inside = subst (λ m. c.start < m) (sym h.0.in_text) (opening-up c.is_image c.start) in
-    let i : IsCut place at (o ∷ os) (c ∷ bs) 0 c bs = record { before = h.1; further = q; ends = (q, tt); behind = h.2 } in
+    let i : IsCut place at (o ∷ os) (c ∷ bs) 0 c bs = record { before = h.1; further = q; ends = (q, tt); following = h.2 } in
     subst (λ (l : List Bracket). IsCut place at (o ∷ os) (c ∷ bs) 0 b l) more (subst (λ (x : Bracket). IsCut place at (o ∷ os) (c ∷ bs) 0 x bs) same i)
   where
     head : (c ∷ bs) ≡ (b ∷ rest) → c ≡ b
@@ -346,7 +346,7 @@ placed-cut place at (suc n) (o ∷ os) (c ∷ bs) b rest h e =
       before = (let q : b.inside ≤ at = omega (arith, x, up, w) in q);
       further = y;
       ends = ((let q : b.start < c.inside = omega (arith, x, y, up) in q), i.ends);
-      behind = i.behind;
+      following = i.following;
     }
 
 pub placed-lower : (place : ℕ → ℕ) (at more : ℕ) (os : List Opener) (bs : List Bracket) → at ≤ more → ArePlaced place at os bs → ArePlaced place more os bs
@@ -360,12 +360,12 @@ fresh-past place at more inactive_below [] bs lt h = tt
 fresh-past place at more inactive_below (o ∷ os) [] lt h = tt
 fresh-past place at more inactive_below (o ∷ os) (b ∷ bs) lt h = λ e. absurd (let x = h.1 in omega (arith, x, lt, e))
 
--- brackets that all end up to a place, and brackets that all end behind it
+-- brackets that all end by an offset, and brackets that all end after it
 abbrev pub AllUpTo : ℕ → List Bracket → Type 0
 AllUpTo place bs = (k : ℕ) (d : Bracket) → k < length bs → (get_or bs k d).inside ≤ place
 
-abbrev pub AllBehind : ℕ → List Bracket → Type 0
-AllBehind place bs = (k : ℕ) (d : Bracket) → k < length bs → place < (get_or bs k d).inside
+abbrev pub AllAfter : ℕ → List Bracket → Type 0
+AllAfter place bs = (k : ℕ) (d : Bracket) → k < length bs → place < (get_or bs k d).inside
 
 up_to_last : (place : ℕ) (z : Bool) (b : Bracket) (bs : List Bracket) → b.inside ≤ place → AllUpTo place bs → AllUpTo place (with_last z b bs)
 up_to_last place false b bs le h = h
@@ -379,9 +379,9 @@ up_to_last place true b bs le h = λ k d lt. go k d (nat_lt k (length bs)) refl 
         let same : k - length bs ≡ 0 = omega (arith, g, n, lt) in
         subst (λ (x : Bracket). x.inside ≤ place) (sym (get_or-append_right bs (b ∷ []) (length bs) k d refl g ∙ ap (λ j. get_or (b ∷ []) j d) same)) le
 
-behind_last : (place : ℕ) (z : Bool) (b : Bracket) (bs : List Bracket) → place < b.inside → AllBehind place bs → AllBehind place (with_last z b bs)
-behind_last place false b bs le h = h
-behind_last place true b bs le h = λ k d lt. go k d (nat_lt k (length bs)) refl lt
+after_last : (place : ℕ) (z : Bool) (b : Bracket) (bs : List Bracket) → place < b.inside → AllAfter place bs → AllAfter place (with_last z b bs)
+after_last place false b bs le h = h
+after_last place true b bs le h = λ k d lt. go k d (nat_lt k (length bs)) refl lt
   where
     go : (k : ℕ) (d : Bracket) (z : Bool) → nat_lt k (length bs) ≡ z → k < length (bs ++ (b ∷ [])) → place < (get_or (bs ++ (b ∷ [])) k d).inside
     go k d true e lt = let l = ltb-true k (length bs) e in subst (λ (x : Bracket). place < x.inside) (sym (get_or_append_left bs (b ∷ []) d k l)) (h k d l)
@@ -391,15 +391,15 @@ behind_last place true b bs le h = λ k d lt. go k d (nat_lt k (length bs)) refl
         let same : k - length bs ≡ 0 = omega (arith, g, n, lt) in
         subst (λ (x : Bracket). place < x.inside) (sym (get_or-append_right bs (b ∷ []) (length bs) k d refl g ∙ ap (λ j. get_or (b ∷ []) j d) same)) le
 
--- a list of those before and those behind a place, where the first stand first
+-- a list of brackets: the first ones end by an offset, and all others after it
 pub record IsSplit (place : ℕ) (all kept : List Bracket) : Type 0 where
   pub gone : List Bracket
   pub is : all ≡ kept ++ gone
   pub up_to : AllUpTo place kept
-  pub behind : AllBehind place gone
+  pub following : AllAfter place gone
 
 split_none : (place : ℕ) (kept : List Bracket) → AllUpTo place kept → IsSplit place kept kept
-split_none place kept h = record { gone = []; is = sym (append-nil kept); up_to = h; behind = λ k d lt. absurd (omega (arith, lt)) }
+split_none place kept h = record { gone = []; is = sym (append-nil kept); up_to = h; following = λ k d lt. absurd (omega (arith, lt)) }
 
 split_last : (place : ℕ) (z : Bool) (b : Bracket) (all kept : List Bracket) → place < b.inside → IsSplit place all kept → IsSplit place (with_last z b all) kept
 split_last place false b all kept lt h = h
@@ -407,7 +407,7 @@ split_last place true b all kept lt h = record {
   gone = h.gone ++ (b ∷ []);
   is = ap (λ l. l ++ (b ∷ [])) h.is ∙ append_assoc kept h.gone (b ∷ []);
   up_to = h.up_to;
-  behind = behind_last place true b h.gone lt h.behind;
+  following = after_last place true b h.gone lt h.following;
 }
 
 pub standing-up-to : (place : ℕ → ℕ) (at : ℕ) (os : List Opener) (bs : List Bracket) → ArePlaced place at os bs → AllUpTo at (standing_of os bs)
@@ -419,16 +419,16 @@ standing-up-to place at (o ∷ os) (b ∷ bs) h =
     let w = h.1 in
     up_to_last at o.stands b (standing_of os bs) h.1 (λ k d lt. (let x = i k d lt in let q : (get_or (standing_of os bs) k d).inside ≤ at = omega (arith, x, up, w) in q))
 
-pairs_up_to : (place : ℕ → ℕ) (at : ℕ) (second : Opener) (inside : ℕ) (os : List Opener) (bs : List Bracket) → inside ≤ at → ArePlaced place at os bs → AllUpTo at (pairs_behind second inside os bs)
+pairs_up_to : (place : ℕ → ℕ) (at : ℕ) (second : Opener) (inside : ℕ) (os : List Opener) (bs : List Bracket) → inside ≤ at → ArePlaced place at os bs → AllUpTo at (pairs_following second inside os bs)
 pairs_up_to place at second inside [] bs le h = λ k d lt. absurd (omega (arith, lt))
 pairs_up_to place at second inside (o ∷ os) [] le h = λ k d lt. absurd (omega (arith, lt))
 pairs_up_to place at second inside (o ∷ os) (b ∷ bs) le h =
     let up : b.start < b.inside = subst (λ m. b.start < m) (sym h.0.in_text) (opening-up b.is_image b.start) in
     let w = h.1 in
-    up_to_last at (o.doubles && touches second o) (record b { inside = inside }) (pairs_behind o b.inside os bs) le
+    up_to_last at (o.doubles && touches second o) (record b { inside = inside }) (pairs_following o b.inside os bs) le
     (pairs_up_to place at o b.inside os bs h.1 (placed-lower place b.start at os bs (let q : b.start ≤ at = omega (arith, up, w) in q) h.2))
 
-pub standing-split : (place : ℕ → ℕ) (at n : ℕ) (os : List Opener) (bs : List Bracket) → EndBehind at n bs → ArePlaced place at (drop n os) (drop n bs) → IsSplit at (standing_of os bs) (standing_of (drop n os) (drop n bs))
+pub standing-split : (place : ℕ → ℕ) (at n : ℕ) (os : List Opener) (bs : List Bracket) → EndAfter at n bs → ArePlaced place at (drop n os) (drop n bs) → IsSplit at (standing_of os bs) (standing_of (drop n os) (drop n bs))
 standing-split place at zero os bs e h = split_none at (standing_of os bs) (standing-up-to place at os bs h)
 standing-split place at (suc n) [] bs e h = split_none at [] (λ k d lt. absurd (omega (arith, lt)))
 standing-split place at (suc n) (o ∷ os) [] e h =
@@ -439,13 +439,13 @@ standing-split place at (suc n) (o ∷ os) [] e h =
     none (x ∷ l) = refl
 standing-split place at (suc n) (o ∷ os) (b ∷ bs) e h = split_last at o.stands b (standing_of os bs) (standing_of (drop n os) (drop n bs)) e.0 (standing-split place at n os bs e.1 h)
 
-pub pairs-split : (place : ℕ → ℕ) (at n : ℕ) (os : List Opener) (bs : List Bracket) → EndBehind at n bs → ArePlaced place at (drop n os) (drop n bs) → IsSplit at (pairs_of os bs) (pairs_of (drop n os) (drop n bs))
+pub pairs-split : (place : ℕ → ℕ) (at n : ℕ) (os : List Opener) (bs : List Bracket) → EndAfter at n bs → ArePlaced place at (drop n os) (drop n bs) → IsSplit at (pairs_of os bs) (pairs_of (drop n os) (drop n bs))
 pairs-split place at zero [] bs e h = split_none at [] (λ k d lt. absurd (omega (arith, lt)))
 pairs-split place at zero (o ∷ os) [] e h = split_none at [] (λ k d lt. absurd (omega (arith, lt)))
 pairs-split place at zero (o ∷ os) (b ∷ bs) e h =
     let up : b.start < b.inside = subst (λ m. b.start < m) (sym h.0.in_text) (opening-up b.is_image b.start) in
     let w = h.1 in
-    split_none at (pairs_behind o b.inside os bs) (pairs_up_to place at o b.inside os bs h.1 (placed-lower place b.start at os bs (let q : b.start ≤ at = omega (arith, up, w) in q) h.2))
+    split_none at (pairs_following o b.inside os bs) (pairs_up_to place at o b.inside os bs h.1 (placed-lower place b.start at os bs (let q : b.start ≤ at = omega (arith, up, w) in q) h.2))
 pairs-split place at (suc n) [] bs e h = split_none at [] (λ k d lt. absurd (omega (arith, lt)))
 pairs-split place at (suc n) (o ∷ os) [] e h =
     subst (IsSplit at []) (sym (none (drop n os))) (split_none at [] (λ k d lt. absurd (omega (arith, lt))))
@@ -461,13 +461,13 @@ pairs-split place at (suc n) (o ∷ os) (b ∷ bs) e h = front os bs (pairs-spli
     nothing (x ∷ l) zero = refl
     nothing (x ∷ l) (suc k) = nothing l k
 
-    front : (ps : List Opener) (cs : List Bracket) → IsSplit at (pairs_of ps cs) (pairs_of (drop n ps) (drop n cs)) → IsSplit at (pairs_behind o b.inside ps cs) (pairs_of (drop n ps) (drop n cs))
+    front : (ps : List Opener) (cs : List Bracket) → IsSplit at (pairs_of ps cs) (pairs_of (drop n ps) (drop n cs)) → IsSplit at (pairs_following o b.inside ps cs) (pairs_of (drop n ps) (drop n cs))
     front [] cs i = i
     front (p ∷ ps) [] i = i
-    front (p ∷ ps) (c ∷ cs) i = split_last at (p.doubles && touches o p) (record c { inside = b.inside }) (pairs_behind p c.inside ps cs) (pairs_of (drop n (p ∷ ps)) (drop n (c ∷ cs))) e.0 i
+    front (p ∷ ps) (c ∷ cs) i = split_last at (p.doubles && touches o p) (record c { inside = b.inside }) (pairs_following p c.inside ps cs) (pairs_of (drop n (p ∷ ps)) (drop n (c ∷ cs))) e.0 i
 
--- so many last ones are dropped
-pub drops-split : (place : ℕ) (old kept new : List Bracket) → IsSplit place old kept → DropsBehind place old new → new ≡ kept
+-- the brackets at the end of the list that end after the offset are removed
+pub drops-split : (place : ℕ) (old kept new : List Bracket) → IsSplit place old kept → DropsAfter place old new → new ≡ kept
 drops-split place old kept new s d = go (nat_lt d.count (length kept)) refl (nat_lt (length kept) d.count) refl
   where
     n : length old ≡ length kept + length s.gone
@@ -480,7 +480,7 @@ drops-split place old kept new s d = go (nat_lt d.count (length kept)) refl (nat
     go true e z f =
         let lt = ltb-true d.count (length kept) e in
         let m = n in
-        let a = d.behind d.count none (let q : d.count ≤ d.count = omega arith in q) (let q : d.count < length old = omega (arith, lt, m) in q) in
+        let a = d.following d.count none (let q : d.count ≤ d.count = omega arith in q) (let q : d.count < length old = omega (arith, lt, m) in q) in
         let b = s.up_to d.count none lt in
         let same = ap (λ l. get_or l d.count none) s.is ∙ get_or_append_left kept s.gone none d.count lt in
         let c = subst (λ (x : Bracket). place < x.inside) same a in
@@ -492,7 +492,7 @@ drops-split place old kept new s d = go (nat_lt d.count (length kept)) refl (nat
         let j : ℕ = d.count - 1 in
         let a = d.before none (let q : 0 < d.count = omega (arith, lt) in q) in
         let low : length kept ≤ j = omega (arith, lt) in
-        let b = s.behind (j - length kept) none (let q : j - length kept < length s.gone = omega (arith, lt, m, w) in q) in
+        let b = s.following (j - length kept) none (let q : j - length kept < length s.gone = omega (arith, lt, m, w) in q) in
         let same = ap (λ l. get_or l j none) s.is ∙ get_or-append_right kept s.gone (length kept) j none refl low in
         let c = subst (λ (x : Bracket). x.inside ≤ place) same a in
         absurd (omega (arith, b, c))

@@ -1,4 +1,4 @@
--- Bytes at a place of a text, and runs of them.
+-- Bytes at an offset of a text, and runs of them.
 use Rattle.std.proofs.Common.{◌≡◌, ◌⊎◌, inl, inr, ℕ, zero, suc, ◌+◌, ◌-◌, ◌<◌, ◌≤◌, ◌==◌, ◌||◌, Bool, true, false, List, [], ◌∷◌, length, take, drop, get_or, refl, sym, ap, ◌∙◌, arith, cond, length-drop}
 use Rattle.std.specs.List.{prefix_len, take_while}
 use Rattle.std.specs.Prelude.{reverse}
@@ -10,17 +10,17 @@ use Rattle.std.proofs.lemmas.List.{length-take-le, reverse-append, get_or-drop}
 use Rattle.std.proofs.lemmas.List.Sums.{take_while-cons}
 use Rattle.cmark_grammar.specs.Columns.{is_blank_byte}
 use Rattle.cmark_grammar.specs.Letters.{first_is}
-use Rattle.cmark_grammar.specs.LinkDefinitions.{behind_blanks}
+use Rattle.cmark_grammar.specs.LinkDefinitions.{after_leading_blanks}
 use Rattle.cmark_grammar.specs.Tokens.{is_punctuation}
 
--- a byte more of a run
+-- a run with one byte more
 pub prefix-more : (p : ℕ → Bool) (bs : List ℕ) (k : ℕ) → k < length bs → p (get_or bs k 0) ≡ true → prefix_len p (drop k bs) ≡ 1 + prefix_len p (drop (k + 1) bs)
 prefix-more p bs k lt is =
     ap (prefix_len p) (drop-cons bs k 0 lt)
     ∙ ap (λ t. cond t (1 + prefix_len p (drop (suc k) bs)) 0) is
     ∙ ap (λ n. 1 + prefix_len p (drop n bs)) (let e : suc k ≡ k + 1 = omega arith in e)
 
--- the first byte from a place on
+-- the first byte from an offset on
 pub first-at : (p : ℕ → Bool) (bs : List ℕ) (k : ℕ) → k < length bs → first_is p (drop k bs) ≡ p (get_or bs k 0)
 first-at p bs k lt = ap (first_is p) (drop-cons bs k 0 lt)
 
@@ -33,7 +33,7 @@ none-left (b ∷ bs) (suc k) le = none-left bs k (let e : length bs ≤ k = omeg
 pub first-past : (p : ℕ → Bool) (bs : List ℕ) (k : ℕ) → length bs ≤ k → first_is p (drop k bs) ≡ false
 first-past p bs k le = ap (first_is p) (none-left bs k le)
 
--- the blanks in front are these, behind which none stands
+-- the leading blanks are the first `n` bytes, if the next one is no blank
 pub blanks-are : (bs : List ℕ) (n : ℕ) → n ≤ length bs → ((k : ℕ) → k < n → is_blank_byte (get_or bs k 0) ≡ true) → is_blank_byte (get_or bs n 0) ≡ false → take_while is_blank_byte bs ≡ take n bs
 blanks-are [] zero le all e = refl
 blanks-are [] (suc n) le all e = absurd (omega (arith, le))
@@ -43,29 +43,29 @@ blanks-are (b ∷ bs) (suc n) le all e =
     ∙ ap (λ t. cond t (b ∷ take_while is_blank_byte bs) []) (all 0 (omega arith))
     ∙ ap (λ l. b ∷ l) (blanks-are bs n (let q : n ≤ length bs = omega (arith, le) in q) (λ k lt. all (suc k) (let q : suc k < suc n = omega (arith, lt) in q)) e)
 
-pub behind-are : (bs : List ℕ) (n : ℕ) → n ≤ length bs → ((k : ℕ) → k < n → is_blank_byte (get_or bs k 0) ≡ true) → is_blank_byte (get_or bs n 0) ≡ false → behind_blanks bs ≡ drop n bs
-behind-are bs n le all e = ap (λ l. drop (length l) bs) (blanks-are bs n le all e) ∙ ap (λ k. drop k bs) (length-take-le n bs le)
+pub following-are : (bs : List ℕ) (n : ℕ) → n ≤ length bs → ((k : ℕ) → k < n → is_blank_byte (get_or bs k 0) ≡ true) → is_blank_byte (get_or bs n 0) ≡ false → after_leading_blanks bs ≡ drop n bs
+following-are bs n le all e = ap (λ l. drop (length l) bs) (blanks-are bs n le all e) ∙ ap (λ k. drop k bs) (length-take-le n bs le)
 
--- a blank more, and no blank
-pub behind-more : (bs : List ℕ) (k : ℕ) → k < length bs → is_blank_byte (get_or bs k 0) ≡ true → behind_blanks (drop k bs) ≡ behind_blanks (drop (k + 1) bs)
-behind-more bs k lt is =
+-- one blank more, and then a byte that is no blank
+pub following-more : (bs : List ℕ) (k : ℕ) → k < length bs → is_blank_byte (get_or bs k 0) ≡ true → after_leading_blanks (drop k bs) ≡ after_leading_blanks (drop (k + 1) bs)
+following-more bs k lt is =
     let rest : List ℕ = drop (suc k) bs in
     let b : ℕ = get_or bs k 0 in
-    ap behind_blanks (drop-cons bs k 0 lt)
+    ap after_leading_blanks (drop-cons bs k 0 lt)
     ∙ ap (λ l. drop (length l) (b ∷ rest)) (take_while-cons is_blank_byte b rest ∙ ap (λ t. cond t (b ∷ take_while is_blank_byte rest) []) is)
-    ∙ ap (λ n. behind_blanks (drop n bs)) (let e : suc k ≡ k + 1 = omega arith in e)
+    ∙ ap (λ n. after_leading_blanks (drop n bs)) (let e : suc k ≡ k + 1 = omega arith in e)
 
-pub behind-none : (bs : List ℕ) (k : ℕ) → k < length bs → is_blank_byte (get_or bs k 0) ≡ false → behind_blanks (drop k bs) ≡ drop k bs
-behind-none bs k lt is =
+pub following-none : (bs : List ℕ) (k : ℕ) → k < length bs → is_blank_byte (get_or bs k 0) ≡ false → after_leading_blanks (drop k bs) ≡ drop k bs
+following-none bs k lt is =
     let rest : List ℕ = drop (suc k) bs in
     let b : ℕ = get_or bs k 0 in
     let none : take_while is_blank_byte (b ∷ rest) ≡ [] = take_while-cons is_blank_byte b rest ∙ ap (λ t. cond t (b ∷ take_while is_blank_byte rest) []) is in
-    ap behind_blanks (drop-cons bs k 0 lt) ∙ ap (λ l. drop (length l) (b ∷ rest)) none ∙ sym (drop-cons bs k 0 lt)
+    ap after_leading_blanks (drop-cons bs k 0 lt) ∙ ap (λ l. drop (length l) (b ∷ rest)) none ∙ sym (drop-cons bs k 0 lt)
 
-pub behind-end : (bs : List ℕ) (k : ℕ) → length bs ≤ k → behind_blanks (drop k bs) ≡ drop k bs
-behind-end bs k le = ap behind_blanks (none-left bs k le) ∙ sym (none-left bs k le)
+pub following-end : (bs : List ℕ) (k : ℕ) → length bs ≤ k → after_leading_blanks (drop k bs) ≡ drop k bs
+following-end bs k le = ap after_leading_blanks (none-left bs k le) ∙ sym (none-left bs k le)
 
--- the last byte before a place
+-- the last byte before an offset
 pub last-before : (p : ℕ → Bool) (bs : List ℕ) (at : ℕ) → 0 < at → at ≤ length bs → first_is p (reverse (take at bs)) ≡ p (get_or bs (at - 1) 0)
 last-before p bs zero some le = absurd (omega (arith, some))
 last-before p bs (suc k) some le =
@@ -81,7 +81,7 @@ or-assoc false y z = refl
 pub punctuation-same : (b : ℕ) → is_ascii_punctuation b ≡ is_punctuation b
 punctuation-same b = or-assoc (is_in_range 33 47 b) (is_in_range 58 64 b) (is_in_range 91 96 b || is_in_range 123 126 b)
 
--- a run of bytes that pass, up to one that does not
+-- a run of bytes that pass a test, up to a byte that does not
 pub prefix-run : (p : ℕ → Bool) (bs : List ℕ) (n : ℕ) → n ≤ length bs → ((k : ℕ) → k < n → p (get_or bs k 0) ≡ true) → (n < length bs → p (get_or bs n 0) ≡ false) → prefix_len p bs ≡ n
 prefix-run p [] zero le all stop = refl
 prefix-run p [] (suc n) le all stop = absurd (omega (arith, le))

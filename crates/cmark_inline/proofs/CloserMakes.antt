@@ -1,4 +1,4 @@
--- A closing bracket comes to what the grammar says.
+-- A closing bracket has the outcome that the grammar gives it.
 use Rattle.std.specs.Prelude.{if◌then◌else◌, nat_lt, not, ◌&&◌, ◌||◌, drop, map, min, take, Option, Some, None, option_map, IfSome}
 use Rattle.std.proofs.Common.{◌≡◌, ◌++◌, ℕ, suc, ◌+◌, ◌-◌, ◌<◌, ◌≤◌, ◌==◌, Bool, true, false, true≢false, List, [], ◌∷◌, length, get_or, refl, sym, ap, subst, ◌∙◌, arith, eqb-true}
 use Rattle.std.proofs.lemmas.Bool.{ltb-true, ltb-false, eq-eqb}
@@ -6,7 +6,7 @@ use Rattle.std.proofs.lemmas.List.{get_or-drop, length-drop}
 use Rattle.cmark_emphasis.specs.Least.{least_examined}
 use Rattle.cmark_grammar.specs.Answers.{Lookup}
 use Rattle.cmark_grammar.specs.BracketDecisions as decisions
-use Rattle.cmark_grammar.specs.BracketDecisions.{decide, taking, wikilink_or, with_taken, link_or, stays, links, forms, wikilink, name_in, behind_pipe, is_there}
+use Rattle.cmark_grammar.specs.BracketDecisions.{decide, taking, wikilink_or, with_taken, link_or, stays, links, forms, wikilink, name_in, after_pipe, is_there}
 use Rattle.cmark_grammar.specs.BracketReading.{Comes}
 use Rattle.cmark_grammar.specs.BracketStates.{Opener, State, Decision, Settled, Outcome, StaysText, Forms}
 use Rattle.cmark_grammar.specs.Emphasis.{runs_of}
@@ -15,7 +15,7 @@ use Rattle.cmark_grammar.specs.Labels.{fold, normal_form}
 use Rattle.cmark_grammar.specs.LeafText.{Leaf}
 use Rattle.cmark_grammar.specs.Letters.{first_is}
 use Rattle.cmark_grammar.specs.LinkTails.{link_tail_in}
-use Rattle.cmark_grammar.specs.OpenBrackets.{Taken, nearest, used_up, doubled, tried, undoubled, inactive, dropped, behind_link}
+use Rattle.cmark_grammar.specs.OpenBrackets.{Taken, nearest, used_up, doubled, tried, undoubled, inactive, dropped, after_link}
 use Rattle.cmark_grammar.specs.Options.{Options}
 use Rattle.cmark_grammar.specs.Parts.{Footnote, Linking}
 use Rattle.cmark_grammar.specs.Questions.{AnyAnswer}
@@ -27,7 +27,7 @@ use Rattle.cmark_references.specs.declared.footnotes.FootnoteDefs.{FootnoteDefs}
 use Rattle.cmark_leaf_text.specs.Reads as reads
 use Rattle.cmark_leaf_text.specs.Reads.{text_of, source_of, is_cell_of}
 use Rattle.cmark_leaf_text.specs.declared.leaf_text.LeafText.{LeafText}
-use Rattle.cmark_text_parts.specs.declared.text.CowStr.{CowStr}
+use Rattle.cmark_values.specs.declared.text.CowStr.{CowStr}
 use Rattle.cmark_inline.specs.BracketViews.{IsFresh, IsPlaced, IsTaken, StandFor, TakenAs, standing_of}
 use Rattle.cmark_inline.specs.Closers.{AsksOfLink, ClosesAs, ReadsOn, Formed, FormsTarget, LeavesElement, LeavesFootnote, LeavesWikilink, LinksTaken, NoneStand, ShowsState, TriesDoubled}
 use Rattle.cmark_inline_model.specs.TextPlaces.{ArePlaces}
@@ -55,7 +55,7 @@ use Rattle.cmark_inline.proofs.AsksSteps.{asks-none}
 use Rattle.cmark_inline.proofs.BracketSteps.{Takes, takes, and-right, fresh-past, placed-lower, tried-rest, tried-standing}
 use Rattle.cmark_inline.proofs.ClosingReads.{IsFlushed, SameRows, comes-any, link-reads, rows-on}
 use Rattle.cmark_inline.proofs.HidingReads.{footnote-reads, wikilink-reads}
-use Rattle.cmark_inline.proofs.TargetSteps.{behind-is, closer-end, footnote-named, next-of, there-same}
+use Rattle.cmark_inline.proofs.TargetSteps.{following-is, closer-end, footnote-named, next-of, there-same}
 use Rattle.cmark_inline.proofs.UsesCounted.{rise-none, rise-one}
 
 abbrev pub with_openers : List Opener → State → State
@@ -99,13 +99,13 @@ module _ (options : Options) (lookup : Lookup) (references : RefDefs) (footnotes
   abbrev tests : Bool
   tests = options.wikilinks && first_is (λ b. b == 93) (drop (close + 1) text)
 
-  tests_are : (reader.options.wikilinks && first_is (λ b. b == 93) (decisions.behind reader read closer.end)) ≡ tests
-  tests_are = ap (λ o. o.wikilinks && first_is (λ b. b == 93) (decisions.behind reader read closer.end)) r.options_are ∙ ap (λ l. options.wikilinks && first_is (λ b. b == 93) l) (behind-is reader read text place p close closer c)
+  tests_are : (reader.options.wikilinks && first_is (λ b. b == 93) (decisions.following reader read closer.end)) ≡ tests
+  tests_are = ap (λ o. o.wikilinks && first_is (λ b. b == 93) (decisions.following reader read closer.end)) r.options_are ∙ ap (λ l. options.wikilinks && first_is (λ b. b == 93) l) (following-is reader read text place p close closer c)
 
   none_stand : (t : Taken) → tk ≡ Some t → NoneStand (suc t.nearer) os bs
   none_stand t e =
       let i = subst (Takes place s.openers bs old.brackets.inactive_below) e (takes place close s.openers bs old.brackets.inactive_below shows.openers.placed shows.openers.inactive) in
-      ap (λ l. standing_of l (drop (suc t.nearer) bs)) i.behind ∙ i.rest
+      ap (λ l. standing_of l (drop (suc t.nearer) bs)) i.following ∙ i.rest
 
   -- no wikilink is formed
   pub record IsReady (st db : Brackets) : Type 0 where
@@ -114,7 +114,7 @@ module _ (options : Options) (lookup : Lookup) (references : RefDefs) (footnotes
     pub view : StandFor options.wikilinks place close openers bs st db
     pub none : (t : Taken) → tk ≡ Some t → NoneStand (suc t.nearer) openers bs
 
-  -- the name of a wikilink is the same
+  -- the name of a wikilink begins at the same place
   start_same : (first : Taken) (e : Option (Bracket × Bool)) (i : IsTried place close bs first e) → suc first.opener.bracket.end ≡ wiki_start leaf (record i.bracket { inside = i.inner + 1 })
   start_same first e i =
       let w = c.within in
@@ -132,7 +132,7 @@ module _ (options : Options) (lookup : Lookup) (references : RefDefs) (footnotes
       ∙ ap (λ n. slice (source_of leaf) n closer.start) (start_same first e i)
       ∙ ap (λ n. slice (source_of leaf) (wiki_start leaf (record i.bracket { inside = i.inner + 1 })) n) end
 
-  -- where the doubled bracket ends at the closing one, the name has no byte
+  -- if the doubled bracket ends at the closing one, the name is empty
   no_text : (first : Taken) (e : Option (Bracket × Bool)) (i : IsTried place close bs first e) → close ≤ i.inner + 1 → decisions.wiki_text reader read first closer ≡ []
   no_text first e i le =
       let b = i.before in
@@ -140,7 +140,7 @@ module _ (options : Options) (lookup : Lookup) (references : RefDefs) (footnotes
       let end : closer.start ≡ suc first.opener.bracket.end = c.start ∙ ap place at ∙ i.next ∙ ap suc i.meets in
       ap (λ n. slice reader.source (suc first.opener.bracket.end) n) end ∙ ap (λ n. take n (drop (suc first.opener.bracket.end) reader.source)) (let q : suc first.opener.bracket.end - suc first.opener.bracket.end ≡ 0 = omega arith in q)
 
-  -- whether it is formed
+  -- whether a wikilink is formed
   forms_same : (first : Taken) (e : Option (Bracket × Bool)) (i : IsTried place close bs first e) (z : Bool) → is_wikilink leaf close e ≡ z → (first.opener.is_inactive || (length (name_in (decisions.wiki_text reader read first closer)) == 0)) ≡ not z
   forms_same first e i z f =
       go first.opener.is_inactive refl (nat_lt (i.inner + 1) close) refl (nat_lt 0 (length (name_in (wiki_text leaf entry close)))) refl (sym f ∙ ap (is_wikilink leaf close) i.is)
@@ -187,7 +187,7 @@ module _ (options : Options) (lookup : Lookup) (references : RefDefs) (footnotes
           let n = name_is in
           ap (λ x. x || (name == 0)) a ∙ some_name (let g : 0 < name = omega (arith, lt, n) in g) ∙ ap not (sym q)
 
-  -- the doubled bracket that is tried forms none
+  -- the doubled bracket that is tried forms no wikilink
   pub ready : (st db db2 : Brackets) → StandFor options.wikilinks place close os bs st db → TriesDoubled tests db db2 → false ≡ forms_wikilink options leaf close db → IsReady st db2
   ready st db db2 h tries none = go tests refl tries
     where
@@ -233,7 +233,7 @@ module _ (options : Options) (lookup : Lookup) (references : RefDefs) (footnotes
                 none = λ t q. tried-rest (suc t.nearer) first.nearer os (drop (suc t.nearer) bs) ∙ none_stand t q ∙ sym (tried-standing first.nearer os bs);
               }
 
-  -- the taken bracket is there, and forms what it can
+  -- the taken bracket exists, and can form a link or an image
   taken_is : (t : Taken) (taken : Option Bracket) (b : Bracket) → IsTaken place bs t taken → taken ≡ Some b → (t.opener.is_inactive ≡ false) × (drop t.nearer bs ≡ b ∷ drop (suc t.nearer) bs) × IsPlaced place t.opener b
   taken_is t taken b i e = go t.opener.is_inactive refl (sym e ∙ i.is)
     where
@@ -241,17 +241,17 @@ module _ (options : Options) (lookup : Lookup) (references : RefDefs) (footnotes
       go true f q = absurd (let z : ⊥ = cc in z)
       go false f q = let o : i.bracket ≡ b = cc in (f, i.there ∙ ap (λ x. x ∷ drop (suc t.nearer) bs) o, subst (IsPlaced place t.opener) o i.placed)
 
-  -- ## The four ways out
+  -- ## The four outcomes
 
   module _ {F : Type 0} (R : F → BrokenLink → Option (CowStr × CowStr) → F → Type 0) (next : Cursor) (others : FootnoteDefs) (new : InlineState) (before after : F) (from : ℕ) where
     abbrev Goal : Type 0
     Goal = ClosesAs R options.wikilinks leaf text reader read place from close closer s bs next footnotes others old new before after
 
-    -- what was read where the decision comes to this
+    -- the parts that were read, if the decision has this outcome
     abbrev ReadsFor : Outcome → Type 0
     ReadsFor outcome = Comes AnyAnswer s.asked (decide reader read s closer) outcome → ReadsOn leaf reader read place from close closer s bs outcome old new
 
-    -- the state of an outcome
+    -- the state after an outcome
     shown : (os2 : List Opener) (bs2 : List Bracket) (s2 : State) → s2.openers ≡ os2 → close < next.at → StandFor options.wikilinks place close os2 bs2 new.brackets new.doubled → Remembers text place s2 new
         → ShowsState options.wikilinks text place next.at s2 bs2 new
     shown os2 bs2 s2 e lt h m = record {
@@ -263,7 +263,7 @@ module _ (options : Options) (lookup : Lookup) (references : RefDefs) (footnotes
     here : close ≤ close
     here = omega arith
 
-    -- what was examined up to the slots that are pending stays examined
+    -- flushing the pending text examines no open runs
     same-seen : (mine mid : InlineState) → IsFlushed from close old mine → SameRows mine mid → mid.delimiters.examined ≡ old.delimiters.examined
     same-seen mine mid flushed rows = rows.examined ∙ ap (λ (x : InlineState). x.delimiters.examined) flushed.others
 
@@ -327,17 +327,17 @@ module _ (options : Options) (lookup : Lookup) (references : RefDefs) (footnotes
                   wikilink-reads leaf reader read place closer s bs from close old mine mid new flushed rows text same c (let q : close + 1 < length text = omega (arith, some, size) in q) first i sound stands options (sym r.options_are)
                   (subst (λ (o : Option (Bracket × Bool)). IfSome o (λ t. WritesWikilink options leaf text t.0 close mid new)) i.is writes)
                   (name_in shown_text) (ap name_in (text_same first (stacks.nearest mid.doubled) i))
-                  (behind_pipe (suc first.opener.bracket.end) shown_text)
-                  (ap (λ n. behind_pipe n shown_text) (start_same first (stacks.nearest mid.doubled) i) ∙ ap (behind_pipe (wiki_start leaf (record i.bracket { inside = i.inner + 1 }))) (text_same first (stacks.nearest mid.doubled) i))
+                  (after_pipe (suc first.opener.bracket.end) shown_text)
+                  (ap (λ n. after_pipe n shown_text) (start_same first (stacks.nearest mid.doubled) i) ∙ ap (after_pipe (wiki_start leaf (record i.bracket { inside = i.inner + 1 }))) (text_same first (stacks.nearest mid.doubled) i))
                   (wikilink reader read first closer used).after (comes-any R (decide reader read s closer) (wikilink reader read first closer used) s.asked before after comes) ended;
             }
 
-    -- nothing can be formed
+    -- no bracket can form anything
     none_taken : (d : Option Taken) (taken : Option Bracket) (s2 : State) → TakenAs place bs d taken → taken ≡ None → with_taken reader read d closer s2 ≡ Settled (stays reader read closer s2)
     none_taken None taken s2 as_is e = refl
     none_taken (Some t) taken s2 i e = go t.opener.is_inactive (sym e ∙ i.is)
       where
-        go : (z : Bool) → None ≡ (if z then None else Some i.bracket) → (if z then Settled (stays reader read closer s2) else link_or reader read (link_tail_in (decisions.behind reader read closer.end)) t closer s2) ≡ Settled (stays reader read closer s2)
+        go : (z : Bool) → None ≡ (if z then None else Some i.bracket) → (if z then Settled (stays reader read closer s2) else link_or reader read (link_tail_in (decisions.following reader read closer.end)) t closer s2) ≡ Settled (stays reader read closer s2)
         go true q = refl
         go false q = absurd (let z : ⊥ = cc in z)
 
@@ -379,7 +379,7 @@ module _ (options : Options) (lookup : Lookup) (references : RefDefs) (footnotes
                 let to : Outcome = forms reader read t (Footnote (normal_form note) closer.end) closer.end (map dropped) s2 in
                 let comes : ComesTo R (decide reader read s closer) to before after = subst (λ (d : Decision). ComesTo R d to before after)
                 (sym (decide-is reader read s closer ∙ ready.decision ∙ ap (λ d. with_taken reader read d closer s2) f
-                ∙ ap (λ z. if z then Settled (stays reader read closer s2) else link_or reader read (link_tail_in (decisions.behind reader read closer.end)) t closer s2) i.0
+                ∙ ap (λ z. if z then Settled (stays reader read closer s2) else link_or reader read (link_tail_in (decisions.following reader read closer.end)) t closer s2) i.0
                 ∙ footnote-named options (is_cell_of leaf) reader read text place p r.options_are r.cell close closer c t b i.2 le footnotes s2 (is_there close mid.label_close) note inactive_below r.footnotes_are g (sym h)))
                 (refl, same_callback) in
                 record {
@@ -399,7 +399,7 @@ module _ (options : Options) (lookup : Lookup) (references : RefDefs) (footnotes
 
     -- a link or an image, or nothing
     element : (z : Bool) (n : ℕ) (os2 : List Opener) (b : Bracket) (mid : InlineState) → StandFor options.wikilinks place close os2 bs mid.brackets mid.doubled → drop n bs ≡ b ∷ drop (suc n) bs → NoneStand (suc n) os2 bs → LeavesElement z b.start mid new
-        → StandFor options.wikilinks place close (behind_link z (drop (suc n) os2)) (drop (suc n) bs) new.brackets new.doubled
+        → StandFor options.wikilinks place close (after_link z (drop (suc n) os2)) (drop (suc n) bs) new.brackets new.doubled
     element true n os2 b mid h there none leaves =
         subst (λ (v : Brackets). StandFor options.wikilinks place close (drop (suc n) os2) (drop (suc n) bs) v new.doubled) (sym leaves.same)
         (image-formed options.wikilinks place close close n os2 bs b mid.brackets mid.doubled h here there new.doubled none leaves.drops)
@@ -426,7 +426,7 @@ module _ (options : Options) (lookup : Lookup) (references : RefDefs) (footnotes
             let to : Outcome = target_outcome reader read place t closer (with_left between.expansion_left (option_map place between.label_close) l.asked s2) (Some target) in
             let comes : ComesTo R (decide reader read s closer) to before after = subst (λ (d : Decision). ComesTo R d to before after)
             (sym (decide-is reader read s closer ∙ ready.decision ∙ ap (λ d. with_taken reader read d closer s2) f
-            ∙ ap (λ z. if z then Settled (stays reader read closer s2) else link_or reader read (link_tail_in (decisions.behind reader read closer.end)) t closer s2) i.0))
+            ∙ ap (λ z. if z then Settled (stays reader read closer s2) else link_or reader read (link_tail_in (decisions.following reader read closer.end)) t closer s2) i.0))
             l.comes in
             record {
               outcome = target_outcome reader read place t closer (with_left between.expansion_left (option_map place between.label_close) l.asked s2) (Some target);
@@ -434,9 +434,9 @@ module _ (options : Options) (lookup : Lookup) (references : RefDefs) (footnotes
               reads = λ ended. reading t.nearer i.1 all.1 to.after (comes-any R (decide reader read s closer) to s.asked before after comes);
               at = ap place (sym at);
               pending = formed.pending ∙ sym at;
-              shows = shown (behind_link t.opener.bracket.is_image (drop (suc t.nearer) ready.openers)) (drop (suc t.nearer) bs)
+              shows = shown (after_link t.opener.bracket.is_image (drop (suc t.nearer) ready.openers)) (drop (suc t.nearer) bs)
                   (target_outcome reader read place t closer (with_left between.expansion_left (option_map place between.label_close) l.asked s2) (Some target)).after refl (let q : close < next.at = omega (arith, lt, at) in q)
-                  (subst (λ z. StandFor options.wikilinks place close (behind_link z (drop (suc t.nearer) ready.openers)) (drop (suc t.nearer) bs) new.brackets new.doubled) (sym (ap (λ (x : items.Bracket). x.is_image) i.2.bracket))
+                  (subst (λ z. StandFor options.wikilinks place close (after_link z (drop (suc t.nearer) ready.openers)) (drop (suc t.nearer) bs) new.brackets new.doubled) (sym (ap (λ (x : items.Bracket). x.is_image) i.2.bracket))
                   (element b.is_image t.nearer ready.openers b between
                   (subst (λ (v : Brackets). StandFor options.wikilinks place close ready.openers bs v between.doubled) (sym same_brackets) (subst (λ (v : Brackets). StandFor options.wikilinks place close ready.openers bs st.brackets v) (sym same_doubled) ready.view))
                   i.1 (ready.none t f) formed.leaves))
@@ -501,7 +501,7 @@ module _ (options : Options) (lookup : Lookup) (references : RefDefs) (footnotes
                 let s3 : State = with_left l.between.expansion_left (option_map place l.between.label_close) k.asked s2 in
                 let comes : ComesTo R (decide reader read s closer) (stays reader read closer s3) before after = subst (λ (d : Decision). ComesTo R d (stays reader read closer s3) before after)
                 (sym (decide-is reader read s closer ∙ ready.decision ∙ ap (λ d. with_taken reader read d closer s2) f
-                ∙ ap (λ z. if z then Settled (stays reader read closer s2) else link_or reader read (link_tail_in (decisions.behind reader read closer.end)) t closer s2) i.0))
+                ∙ ap (λ z. if z then Settled (stays reader read closer s2) else link_or reader read (link_tail_in (decisions.following reader read closer.end)) t closer s2) i.0))
                 k.comes in
                 record {
                   outcome = stays reader read closer s3;
@@ -520,7 +520,7 @@ module _ (options : Options) (lookup : Lookup) (references : RefDefs) (footnotes
                   uses = rise-none footnotes others unused;
                 }
 
-    -- what `link` did
+    -- the result of `link`
     pub linked-closes : (st : InlineState) (taken : Option Bracket) → IsReady st.brackets st.doubled → TakenAs place bs tk taken → Remembers text place s st → false ≡ forms_footnote options footnotes (footnote_of options (is_cell_of leaf) (is_there close st.label_close) text close taken)
         → LinksTaken R options lookup references leaf text taken close st new (Some next) before after → close < next.at → next.at ≤ length text → st.links ≡ old.links → Keeps footnotes others
         → (mine : InlineState) → IsFlushed from close old mine → SameRows mine st → IfSome taken (IsTakenFrom st) → Goal
@@ -550,7 +550,7 @@ module _ (options : Options) (lookup : Lookup) (references : RefDefs) (footnotes
                 (λ nearer there ends after comes. link-reads leaf reader read place closer s bs from close old mine l.between new flushed (rows-on mine st l.between rows between) b target (subst (λ o. WritesElement o b target l.between new) (sym r.options_are) f.writes)
                 (subst (λ (x : List Slot). b.slot < length x) (sym between.slots) placed.there) (λ d. subst (λ (x : List Slot). (get_or x b.slot d).kind ≡ kind.Text) (sym between.slots) (placed.text d)) nearer there ends after comes)
 
-  -- ## The calls on the way
+  -- ## The calls in between
 
   pub remembers-on : (st new : InlineState) → Remembers text place s st → new.expansion_left ≡ st.expansion_left → new.label_close ≡ st.label_close → Remembers text place s new
   remembers-on st new m e f = record { expansion_left = m.expansion_left ∙ sym e; label = m.label ∙ ap (option_map place) (sym f); within = subst (EndsWithin text) (sym f) m.within }
@@ -594,7 +594,7 @@ module _ (options : Options) (lookup : Lookup) (references : RefDefs) (footnotes
 
   -- ## If memory is refused
 
-  -- what was asked with the bracket that was taken is what the grammar asks
+  -- the grammar asks the questions that were asked with the bracket that was taken
   pub linked-asks : {F : Type 0} (R : F → BrokenLink → Option (CowStr × CowStr) → F → Type 0) (before after : F) (st : InlineState) (taken : Option Bracket) → IsTriedStage st taken
       → false ≡ forms_footnote options footnotes (footnote_of options (is_cell_of leaf) (is_there close st.label_close) text close taken)
       → AsksOfLink R options lookup references leaf text taken close st before after → AsksOf R (decide reader read s closer) before after
@@ -614,7 +614,7 @@ module _ (options : Options) (lookup : Lookup) (references : RefDefs) (footnotes
               let m = i.remembers in
               subst (λ (d : Decision). AsksOf R d before after)
               (sym (decide-is reader read s closer ∙ i.ready.decision ∙ ap (λ d. with_taken reader read d closer s2) f
-              ∙ ap (λ z. if z then Settled (stays reader read closer s2) else link_or reader read (link_tail_in (decisions.behind reader read closer.end)) t closer s2) k.0))
+              ∙ ap (λ z. if z then Settled (stays reader read closer s2) else link_or reader read (link_tail_in (decisions.following reader read closer.end)) t closer s2) k.0))
               (target footnotes reader read place t closer s2 r c k.2 (record { expansion_left = m.expansion_left; label = m.label; within = m.within }) (sym (no_note ∙ ap (λ o. forms_footnote options footnotes (footnote_of options (is_cell_of leaf) (is_there close st.label_close) text close o)) e)))
 
 pub inside-up : (text : List ℕ) (close : ℕ) (taken : Option Bracket) → IfSome taken (IsBracket text close) → IfSome taken (λ b. b.inside ≤ close)

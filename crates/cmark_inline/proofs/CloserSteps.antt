@@ -1,4 +1,4 @@
--- What a closing bracket comes to, by the calls for it.
+-- The effect of a closing bracket, from its calls.
 use Rattle.std.specs.Prelude.{if◌then◌else◌, not, ◌&&◌, option_map, Option, Some, None}
 use Rattle.std.proofs.Common.{◌≡◌, ℕ, Bool, List, [], ◌∷◌, ◌++◌, refl, sym, ap, subst, ◌∙◌}
 use Rattle.cmark_grammar.specs.Answers.{Lookup}
@@ -6,8 +6,8 @@ use Rattle.cmark_grammar.specs.BracketStates.{new_opener}
 use Rattle.cmark_grammar.specs.Options.{Options}
 use Rattle.cmark_references.specs.declared.definitions.RefDefs.{RefDefs}
 use Rattle.cmark_leaf_text.specs.declared.leaf_text.LeafText.{LeafText}
-use Rattle.cmark_text_parts.specs.declared.text.CowStr.{CowStr}
-use Rattle.cmark_inline.specs.BracketViews.{IsFresh, IsPlaced, StandFor, behind_opening}
+use Rattle.cmark_values.specs.declared.text.CowStr.{CowStr}
+use Rattle.cmark_inline.specs.BracketViews.{IsFresh, IsPlaced, StandFor, after_opening}
 use Rattle.cmark_inline.specs.Closers.{FormsTarget, LinksTaken, OpensAs}
 use Rattle.cmark_slots.specs.Doubled.{touching, with_double}
 use Rattle.cmark_inline.proofs.OpenSteps.{pushed}
@@ -40,8 +40,8 @@ pub opens-as : (wikilinks is_image : Bool) (text : List ℕ) (at inside : ℕ) (
 opens-as wikilinks is_image text at inside old new b image start end are inactive_below pairs inactive_pairs left label = λ place bracket s bs order shows is in_text in_source.
     let placed : IsPlaced place (new_opener bracket) b = record {
       bracket = is ∙ ap (λ z. record { is_image = z; start = place at; end = place inside }) (sym image) ∙ ap (λ n. record { is_image = b.is_image; start = place n; end = place inside }) (sym start) ∙ ap (λ n. record { is_image = b.is_image; start = place b.start; end = place n }) (sym end);
-      in_text = end ∙ in_text ∙ ap (λ z. behind_opening z at) (sym image) ∙ ap (behind_opening b.is_image) (sym start);
-      in_source = ap place end ∙ in_source ∙ ap (λ z. behind_opening z (place at)) (sym image) ∙ ap (λ n. behind_opening b.is_image (place n)) (sym start);
+      in_text = end ∙ in_text ∙ ap (λ z. after_opening z at) (sym image) ∙ ap (after_opening b.is_image) (sym start);
+      in_source = ap place end ∙ in_source ∙ ap (λ z. after_opening z (place at)) (sym image) ∙ ap (λ n. after_opening b.is_image (place n)) (sym start);
     } in
     let r = pushed wikilinks place at s.openers bs old.brackets new.brackets old.doubled new.doubled bracket b shows.openers shows.fresh placed start order are inactive_below pairs inactive_pairs in (
       b,

@@ -1,4 +1,4 @@
--- What the grammar's pass has read with a closing bracket that stays a text, or that forms a link or an image.
+-- The parts that the grammar's pass has read with a closing bracket that remains a text, or forms a link or an image.
 use Rattle.std.specs.Prelude.{map, drop, take, Option, Some, None}
 use Rattle.std.proofs.Common.{◌≡◌, ◌⊎◌, inl, inr, ℕ, zero, suc, ◌+◌, ◌-◌, ◌<◌, ◌≤◌, List, [], ◌∷◌, ◌++◌, length, get_or, refl, sym, ap, subst, ◌∙◌, arith, length-drop, length-append}
 use Rattle.std.proofs.Math.Seq.{drop-cons}
@@ -8,7 +8,7 @@ use Rattle.cmark_grammar.specs.Answers.{Lookup}
 use Rattle.cmark_grammar.specs.BracketDecisions.{decide}
 use Rattle.cmark_grammar.specs.BracketReading.{Comes}
 use Rattle.cmark_grammar.specs.BracketStates.{State, Decision, Settled, Asks, Outcome, StaysText, Forms}
-use Rattle.cmark_grammar.specs.EmphasisModel.{pairs_of, spans_of}
+use Rattle.cmark_inline_model.specs.EmphasisModel.{pairs_of, spans_of}
 use Rattle.cmark_grammar.specs.Event as event
 use Rattle.cmark_grammar.specs.InlineTokens.{token}
 use Rattle.cmark_grammar.specs.Items as items
@@ -20,11 +20,11 @@ use Rattle.cmark_grammar.specs.Questions.{AnyAnswer, Exchange}
 use Rattle.cmark_grammar.specs.Readers.{Reader}
 use Rattle.cmark_grammar.specs.Siblings.{tag_by}
 use Rattle.cmark_grammar.specs.Tokens.{slice}
-use Rattle.cmark_grammar.proofs.EmphasisSound.{sound}
+use Rattle.cmark_inline_model.proofs.EmphasisSound.{sound}
 use Rattle.cmark_references.specs.declared.definitions.RefDefs.{RefDefs}
 use Rattle.cmark_leaf_text.specs.Reads.{place_of, text_of}
 use Rattle.cmark_leaf_text.specs.declared.leaf_text.LeafText.{LeafText}
-use Rattle.cmark_text_parts.specs.declared.text.CowStr.{CowStr}
+use Rattle.cmark_values.specs.declared.text.CowStr.{CowStr}
 use Rattle.cmark_inline_model.specs.BracketPass.{Pass}
 use Rattle.cmark_inline_model.specs.LikeSlots.{AreLike, IsLike}
 use Rattle.cmark_inline_model.specs.RowParts.{BracketPlace, text_slot}
@@ -39,7 +39,7 @@ use Rattle.cmark_references.specs.Links.{shown_link}
 use Rattle.cmark_slots.specs.SlotViews.{first_of, shown_slot, shown_slots, slot_as}
 use Rattle.cmark_slots.specs.Slots.{PushesText}
 use Rattle.cmark_inline.specs.Tokens.{Puts}
-use Rattle.cmark_inline.specs.FormedSlots.{WritesElement, dressed_behind, wrapped}
+use Rattle.cmark_inline.specs.FormedSlots.{WritesElement, dressed_after, wrapped}
 use Rattle.cmark_slots.specs.declared.bracket.Bracket.{Bracket}
 use Rattle.cmark_inline.specs.declared.callback.BrokenLink.{BrokenLink}
 use Rattle.cmark_slots.specs.declared.delimiter.PlacedRun.{PlacedRun}
@@ -97,7 +97,7 @@ rows-same one two e = record {
   quotes = ap (λ (s : InlineState). s.quotes.placed.items) e;
 }
 
--- where no link is formed
+-- no link is formed
 pub rows-unlinked : {F : Type 0} (R : F → BrokenLink → Option (CowStr × CowStr) → F → Type 0) (options : Options) (lookup : Lookup) (references : RefDefs) (leaf : LeafText) (text : List ℕ) (taken : Option Bracket) (close : ℕ) (old new : InlineState) (before after : F)
     → LinksTaken R options lookup references leaf text taken close old new None before after → SameRows old new
 rows-unlinked R options lookup references leaf text None close old new before after l = rows-same old new l.1
@@ -115,11 +115,11 @@ rows-unlinked R options lookup references leaf text (Some b) close old new befor
     formed None e f = subst (λ t. Formed options b t l.between new None) e f
     formed (Some target) e f = absurd (subst (λ t. Formed options b t l.between new None) e f)
 
--- a slot that is put where nothing is pending
+-- a slot that is put if nothing is pending
 pub puts-one : (at : ℕ) (slot : Slot) (old new : List Slot) → Puts at at slot old new → new ≡ old ++ (slot ∷ [])
 puts-one at slot old new h = h.slot_is ∙ ap (λ l. l ++ (slot ∷ [])) (h.text.1 (let q : at ≤ at = omega arith in q))
 
--- behind the same text that was pending
+-- the pending text has its slot
 pub record IsFlushed (from close : ℕ) (old flushed : InlineState) : Type 0 where
   pub pushes : PushesText from close old.slots.items flushed.slots.items
   pub others : flushed ≡ record old { slots = flushed.slots }
@@ -157,7 +157,7 @@ pub comes-any : {F : Type 0} (R : F → BrokenLink → Option (CowStr × CowStr)
 comes-any R (Settled settled) o asked before after h = h.0
 comes-any R (Asks question answered) o asked before after h = (h.0, tt, h.2)
 
--- ## Where the slot of an opening bracket begins
+-- ## The begin of an opening bracket's slot
 
 like-at : (source : List ℕ) (slots others : List row.Slot) (k : ℕ) (d e : row.Slot) → AreLike source slots others → k < length others → IsLike source (get_or slots k d) (get_or others k e)
 like-at source [] others k d e h lt = absurd (let n = ap length h in omega (arith, n, lt))
@@ -185,13 +185,13 @@ opener-first leaf reader read place before p bs state h b nearer there within d 
     (let q : nearer < length brackets = omega (arith, m, n, l) in q) h.is_row in
     let is : c.place ≡ bracket_place place b = same-head c.place (bracket_place place b) (drop (suc nearer) brackets) (map (bracket_place place) (drop (suc nearer) bs)) (sym c.place_is ∙ drop-map (bracket_place place) nearer bs ∙ ap (map (bracket_place place)) there) in
     let at : length c.front ≡ b.slot = sym c.slot_is ∙ ap (λ (x : BracketPlace). x.slot) is in
-    let size = length-append c.front (text_slot c.cut.opener ∷ c.behind) in
-    let longer : b.slot < length (c.front ++ (text_slot c.cut.opener ∷ c.behind)) = omega (arith, at, size) in
-    let like : AreLike reader.source (shown_slots leaf texts links slots) (c.front ++ (text_slot c.cut.opener ∷ c.behind)) = subst (AreLike reader.source (shown_slots leaf texts links slots)) c.slots_are h.like in
-    let one = like-at reader.source (shown_slots leaf texts links slots) (c.front ++ (text_slot c.cut.opener ∷ c.behind)) b.slot row.NothingSlot row.NothingSlot like longer in
+    let size = length-append c.front (text_slot c.cut.opener ∷ c.following) in
+    let longer : b.slot < length (c.front ++ (text_slot c.cut.opener ∷ c.following)) = omega (arith, at, size) in
+    let like : AreLike reader.source (shown_slots leaf texts links slots) (c.front ++ (text_slot c.cut.opener ∷ c.following)) = subst (AreLike reader.source (shown_slots leaf texts links slots)) c.slots_are h.like in
+    let one = like-at reader.source (shown_slots leaf texts links slots) (c.front ++ (text_slot c.cut.opener ∷ c.following)) b.slot row.NothingSlot row.NothingSlot like longer in
     let here : IsLike reader.source (shown_slot leaf texts links (get_or slots b.slot d)) (text_slot c.cut.opener) =
     subst (λ x. IsLike reader.source x (text_slot c.cut.opener)) (get_or-map (shown_slot leaf texts links) slots b.slot d row.NothingSlot within)
-    (subst (λ x. IsLike reader.source (get_or (shown_slots leaf texts links slots) b.slot row.NothingSlot) x) (get_or_at c.front (text_slot c.cut.opener) c.behind row.NothingSlot b.slot at) one) in
+    (subst (λ x. IsLike reader.source (get_or (shown_slots leaf texts links slots) b.slot row.NothingSlot) x) (get_or_at c.front (text_slot c.cut.opener) c.following row.NothingSlot b.slot at) one) in
     text-first leaf reader.source texts links (get_or slots b.slot d) (get_or slots b.slot d).kind c.cut.opener text here
     ∙ sym (ap (λ (x : items.Bracket). x.start) c.opener_is) ∙ ap (λ (x : BracketPlace). x.bracket.start) is
 
@@ -223,12 +223,12 @@ closer-like leaf reader read place text close closer texts links same places c =
     }
 
 module _ (leaf : LeafText) (reader : Reader) (read : Leaf) (place : ℕ → ℕ) (closer : items.Bracket) (s : State) (bs : List Bracket) (from close : ℕ) (old mine st new : InlineState) (is : IsFlushed from close old mine) (rows : SameRows mine st) where
-  -- the state before
+  -- the state before the call
   pub read-before : (before : Between) (p : Pass) (flushed : InlineState) → PushesText from close old.slots.items flushed.slots.items → flushed ≡ record old { slots = flushed.slots } → HasRead leaf reader read place before p bs flushed → HasRead leaf reader read place before p bs st
   read-before before p flushed pushes others h =
       rows-read leaf reader read place before p bs mine st rows (rows-read leaf reader read place before p bs flushed mine (rows-flushed from close old flushed mine (record { pushes = pushes; others = others }) is) h)
 
-  -- the closing bracket stays a text
+  -- the closing bracket remains a text
   pub text-reads : (text : List ℕ) → text ≡ text_of leaf → IsCloser text place close closer → new.slots.items ≡ st.slots.items ++ (record { kind = kind.Text; start = close; end = close + 1 } ∷ [])
       → new.texts.items ≡ st.texts.items → new.links.items ≡ st.links.items → new.delimiters.placed.items ≡ st.delimiters.placed.items → new.quotes.placed.items ≡ st.quotes.placed.items
       → (next : State) → Comes AnyAnswer s.asked (decide reader read s closer) (record { result = StaysText; after = next }) → ReadsOn leaf reader read place from close closer s bs (record { result = StaysText; after = next }) old new
@@ -239,7 +239,7 @@ module _ (leaf : LeafText) (reader : Reader) (read : Leaf) (place : ℕ → ℕ)
       (subst (λ (x : State). Comes AnyAnswer x.asked (decide reader read x closer) (record { result = StaysText; after = next })) (sym state_is) comes)
       (closer-like leaf reader read place text close closer new.texts.items new.links.items same places c) slots runs quotes
 
-  -- it forms a link or an image
+  -- the closing bracket forms a link or an image
   pub link-reads : (b : Bracket) (target : Target) → WritesElement reader.options b target st new → b.slot < length st.slots.items → ((d : Slot) → (get_or st.slots.items b.slot d).kind ≡ kind.Text)
       → (nearer : ℕ) → drop nearer bs ≡ b ∷ drop (suc nearer) bs → place_of leaf (target.end - 1) + 1 ≡ place target.end
       → (next : State) → Comes AnyAnswer s.asked (decide reader read s closer) (record { result = Forms nearer (Linking (record { linked = shown_link target.link; end = place target.end })); after = next })
@@ -251,7 +251,7 @@ module _ (leaf : LeafText) (reader : Reader) (read : Leaf) (place : ℕ → ℕ)
       let siblings = siblings_from 0 (drop b.runs runs) in
       let read_so = read-before before p flushed pushes others h in
       let first = opener-first leaf reader read place before p bs st read_so b nearer there within no-slot (text no-slot) in
-      let dressed = dressed_behind reader.options b (pairs_of siblings) runs quotes (shown_slots leaf st.texts.items st.links.items st.slots.items) in
+      let dressed = dressed_after reader.options b (pairs_of siblings) runs quotes (shown_slots leaf st.texts.items st.links.items st.slots.items) in
       link-read leaf reader read place before p bs st new read_so b closer nearer (record { linked = linked; end = place target.end }) next there
       (ap (λ (x : State). token reader read x.at) state_is ∙ t)
       (subst (λ (x : State). Comes AnyAnswer x.asked (decide reader read x closer) (record { result = Forms nearer (Linking (record { linked = linked; end = place target.end })); after = next })) (sym state_is) comes)

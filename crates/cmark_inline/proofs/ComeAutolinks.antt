@@ -1,4 +1,4 @@
--- With the slots of an autolink the pass of the grammar has come behind that.
+-- With the slots of an autolink, the grammar's pass has read the autolink.
 use Rattle.std.specs.Prelude.{Option, map}
 use Rattle.std.proofs.Common.{◌≡◌, ℕ, zero, suc, ◌+◌, ◌-◌, ◌<◌, ◌≤◌, Bool, false, List, [], ◌∷◌, ◌++◌, length, drop, refl, sym, ap, ◌∙◌, subst, arith, append_assoc, get_or, true}
 use Rattle.std.proofs.lemmas.List.{append-nil, map-append}
@@ -15,8 +15,8 @@ use Rattle.cmark_grammar.specs.Tag as tag
 use Rattle.cmark_grammar.specs.Tokens.{slice}
 use Rattle.cmark_leaf_text.specs.Reads.{is_cell_of, place_of, text_of}
 use Rattle.cmark_leaf_text.specs.declared.leaf_text.LeafText.{LeafText}
-use Rattle.cmark_text_parts.specs.Shown.{text_bytes}
-use Rattle.cmark_text_parts.specs.declared.text.CowStr.{CowStr}
+use Rattle.cmark_values.specs.Shown.{text_bytes}
+use Rattle.cmark_values.specs.declared.text.CowStr.{CowStr}
 use Rattle.cmark_inline_model.specs.BracketPass.{pass}
 use Rattle.cmark_inline_model.specs.LikeSlots.{IsLike}
 use Rattle.cmark_inline_model.specs.PartLists.{join}
@@ -59,7 +59,7 @@ module _ (leaf : LeafText) (reader : Reader) (read : Leaf) (place : ℕ → ℕ)
   abbrev cell : Bool
   cell = is_cell_of leaf
 
-  -- places rise by one at least
+  -- each place is at least one more than the place before
   rises : (n k : ℕ) → k + n ≤ length text → place k + n ≤ place (k + n)
   rises zero k le = let q = ap place (let z : k + 0 ≡ k = omega arith in z) in omega (arith, q)
   rises (suc n) k le =
@@ -67,7 +67,7 @@ module _ (leaf : LeafText) (reader : Reader) (read : Leaf) (place : ℕ → ℕ)
       let o = r.places.places.order (k + n) (k + suc n) (omega arith) le in
       omega (arith, i, o)
 
-  -- of bytes side by side those between the first and the last are so too
+  -- of adjacent bytes, those between the first and the last are adjacent too
   inner-side : (s e : ℕ) → Together reader read text place r.places s e → s + 1 < e - 1 → Together reader read text place r.places (s + 1) (e - 1)
   inner-side s e t some =
       let w = t.within in

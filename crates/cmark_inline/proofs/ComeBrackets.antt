@@ -1,4 +1,4 @@
--- With the slot of an opening bracket the pass of the grammar has come behind that.
+-- With the slot of an opening bracket, the grammar's pass has read the bracket.
 use Rattle.std.specs.Prelude.{Option}
 use Rattle.std.proofs.Common.{◌≡◌, ℕ, suc, ◌+◌, ◌-◌, ◌<◌, ◌≤◌, Bool, true, false, List, [], ◌∷◌, ◌++◌, length, get_or, refl, sym, ap, ◌∙◌, subst, arith}
 use Rattle.std.proofs.lemmas.List.{get_or_push}
@@ -12,13 +12,13 @@ use Rattle.cmark_grammar.specs.Parts.{Nil, Opening}
 use Rattle.cmark_grammar.specs.Readers.{Reader}
 use Rattle.cmark_leaf_text.specs.Reads.{is_cell_of, text_of}
 use Rattle.cmark_leaf_text.specs.declared.leaf_text.LeafText.{LeafText}
-use Rattle.cmark_text_parts.specs.declared.text.CowStr.{CowStr}
+use Rattle.cmark_values.specs.declared.text.CowStr.{CowStr}
 use Rattle.cmark_inline_model.specs.BracketPass.{pass}
 use Rattle.cmark_inline_model.specs.LikeSlots.{IsLike}
 use Rattle.cmark_inline_model.specs.PartLists.{join}
 use Rattle.cmark_inline_model.specs.PlacedTokens.{placed, one_stretch, text_reader}
 use Rattle.cmark_inline_model.specs.SlotRows.{ItemSlot}
-use Rattle.cmark_inline.specs.BracketViews.{behind_opening}
+use Rattle.cmark_inline.specs.BracketViews.{after_opening}
 use Rattle.cmark_inline.specs.Closers.{ShowsState}
 use Rattle.cmark_inline.specs.CursorProgress.{HasReached}
 use Rattle.cmark_inline.specs.Reached.{ReadsPlaces}
@@ -41,11 +41,11 @@ use Rattle.cmark_inline.proofs.PlainChains.{IsHeld}
 use Rattle.cmark_inline.proofs.ReachedItems.{shows-on}
 use Rattle.cmark_inline.proofs.ReachedSteps.{opening-read}
 
--- the last of a list
+-- the last element of a list
 last-same : {X : Type 0} (xs : List X) (a b : X) → xs ++ (a ∷ []) ≡ xs ++ (b ∷ []) → a ≡ b
 last-same xs a b e = sym (get_or_push xs a a (length xs) refl) ∙ ap (λ l. get_or l (length xs) a) e ∙ get_or_push xs b a (length xs) refl
 
-past-size : (is_image : Bool) (at : ℕ) → (at < behind_opening is_image at) × ((n : ℕ) → behind_opening is_image n ≡ n + (behind_opening is_image at - at))
+past-size : (is_image : Bool) (at : ℕ) → (at < after_opening is_image at) × ((n : ℕ) → after_opening is_image n ≡ n + (after_opening is_image at - at))
 past-size true at = (omega arith, λ n. (let q : n + 2 ≡ n + (at + 2 - at) = omega arith in q))
 past-size false at = (omega arith, λ n. (let q : n + 1 ≡ n + (at + 1 - at) = omega arith in q))
 
@@ -78,7 +78,7 @@ module _ (leaf : LeafText) (reader : Reader) (read : Leaf) (place : ℕ → ℕ)
         let others = a.puts.others in
         let shows : ShowsState reader.options.wikilinks text place here.at f.p.state f.bs old =
         shows-on reader.options.wikilinks text place here.at here.at f.p.state f.p.state f.bs mid old (omega arith) (record { examined = refl; brackets = refl; doubled = refl; expansion_left = refl; label = refl }) refl refl refl f.shows in
-        let source : place next.at ≡ behind_opening a.is_image (place here.at) =
+        let source : place next.at ≡ after_opening a.is_image (place here.at) =
         ap place (let q : next.at ≡ here.at + (next.at - here.at) = omega (arith, further) in q)
         ∙ steps leaf reader read place r (next.at - here.at) here.at (omega (arith, further, within)) (λ k low high. a.bytes k low (omega (arith, high, further)))
         ∙ ap (λ n. place here.at + (n - here.at)) inside ∙ sym (size.1 (place here.at)) in

@@ -1,4 +1,4 @@
--- What a call that reads on behind the next special byte gives.
+-- The results of a call that reads the next special byte.
 use Rattle.std.specs.Prelude.{Option, IfOk, Ok, Err, Result as Answer}
 use Rattle.std.specs.List.{position_or_len}
 use Rattle.std.proofs.Common.{◌≡◌, ℕ, ◌+◌, ◌<◌, ◌≤◌, Bool, true, List, length, drop, get_or, sym, ap, ◌∙◌, subst, arith, length-drop}
@@ -6,13 +6,13 @@ use Rattle.std.proofs.lemmas.List.{get_or-drop}
 use Rattle.std.proofs.lemmas.List.Sums.{passes_at_first}
 use Rattle.cmark_grammar.specs.Answers.{Lookup}
 use Rattle.cmark_grammar.specs.Options.{Options}
-use Rattle.cmark_grammar.specs.SpecialBytes.{is_special}
+use Rattle.cmark_inline_model.specs.SpecialBytes.{is_special}
 use Rattle.cmark_references.specs.declared.definitions.RefDefs.{RefDefs}
 use Rattle.cmark_references.specs.declared.footnotes.FootnoteDefs.{FootnoteDefs}
 use Rattle.cmark_leaf_text.specs.Reads.{is_cell_of, text_of}
 use Rattle.cmark_leaf_text.specs.declared.leaf_text.LeafText.{LeafText}
 use Rattle.cmark_search.specs.Sets.{in_rows}
-use Rattle.cmark_text_parts.specs.declared.text.CowStr.{CowStr}
+use Rattle.cmark_values.specs.declared.text.CowStr.{CowStr}
 use Rattle.cmark_grammar.specs.LeafText.{Leaf}
 use Rattle.cmark_grammar.specs.Readers.{Reader}
 use Rattle.cmark_inline.specs.Closers.{AsksOfCloser, Closes}
@@ -33,7 +33,7 @@ pub both-ok : {X E : Type 0} (r : Answer X E) (P Q S : X → Type 0) → ((x : X
 both-ok (Ok x) P Q S f p q = f x p q
 both-ok (Err e) P Q S f p q = tt
 
--- the next special byte from a place on, of which the rows are those of the set; the bytes before it stand for themselves
+-- the offset of the next special byte, from the rows of the set. The bytes before it are literal
 pub record IsNextAt (rows text : List ℕ) (from at : ℕ) : Type 0 where
   pub value : at ≡ from + position_or_len (in_rows rows) (drop from text)
   pub plain : (o : Options) (l : Lookup) (cell : Bool) → IsSetOf o rows → StandUpTo o l cell text from at
@@ -41,7 +41,7 @@ pub record IsNextAt (rows text : List ℕ) (from at : ℕ) : Type 0 where
   pub within : at ≤ length text
   pub ascii : at < length text → get_or text at 0 < 128
 
--- it is special
+-- the byte at this offset is special
 pub special-there : (options : Options) (rows text : List ℕ) (from at : ℕ) → IsSetOf options rows → IsNextAt rows text from at → at < length text → is_special options (get_or text at 0) ≡ true
 special-there options rows text from at set h lt =
     let n : ℕ = position_or_len (in_rows rows) (drop from text) in
@@ -83,7 +83,7 @@ module _ {F : Type 0} (R : F → BrokenLink → Option (CowStr × CowStr) → F 
       (subst (λ t. AsksOfCloser R reader.options reader.lookup references notes leaf t at old now later) same_text
       (subst (λ o. AsksOfCloser R o reader.lookup references notes leaf text at old now later) (sym reads.options_are) (subst (λ l. AsksOfCloser R options l references notes leaf text at old now later) (sym reads.lookup_is) asks)))
 
-  -- ## If it is not
+  -- ## If memory is not refused
   module _ (now : F) (new : InlineState) (next : Cursor) (lt : at < length text) (sound : IsSound old) (moves : Moves text at new next) where
     own_lt : at < length (text_of leaf)
     own_lt = let m = ap length same_text in omega (arith, lt, m)

@@ -1,4 +1,4 @@
--- Behind a closing bracket the pass of the grammar has read what the new state stands for, with what was asked there.
+-- After a closing bracket, the grammar's pass has read what the new state represents, with the questions that were asked.
 use Rattle.std.specs.Prelude.{Option, drop, map}
 use Rattle.std.proofs.Common.{◌≡◌, ℕ, suc, ◌+◌, ◌<◌, Bool, false, List, [], ◌∷◌, ◌++◌, length, get_or, Some, refl, sym, ap, ◌∙◌, subst, arith}
 use Rattle.std.proofs.lemmas.List.{length-map}
@@ -17,7 +17,7 @@ use Rattle.cmark_references.specs.declared.definitions.RefDefs.{RefDefs}
 use Rattle.cmark_references.specs.declared.footnotes.FootnoteDefs.{FootnoteDefs}
 use Rattle.cmark_leaf_text.specs.Reads.{is_cell_of, text_of}
 use Rattle.cmark_leaf_text.specs.declared.leaf_text.LeafText.{LeafText}
-use Rattle.cmark_text_parts.specs.declared.text.CowStr.{CowStr}
+use Rattle.cmark_values.specs.declared.text.CowStr.{CowStr}
 use Rattle.cmark_inline_model.specs.BracketPass.{Pass, closed_by, formed_by, resulting}
 use Rattle.cmark_inline_model.specs.PartLists.{Cut, cut_at}
 use Rattle.cmark_inline_model.specs.PlacedTokens.{placed, one_stretch, text_reader}
@@ -48,7 +48,7 @@ use Rattle.cmark_inline.proofs.PlainChains.{IsHeld}
 use Rattle.cmark_inline.proofs.ReachedItems.{shows-on}
 use Rattle.cmark_inline.proofs.SpecialSteps.{bracket-closes}
 
--- ## What was asked
+-- ## Questions
 module _ {F : Type 0} (R : F → BrokenLink → Option (CowStr × CowStr) → F → Type 0) where
   -- one question more
   pub answered-more : (xs : List Exchange) (first mid last : F) (question : Question) (answer : Option Destination) → Answered R xs first mid → AsksThis R question answer mid last
@@ -66,7 +66,7 @@ module _ {F : Type 0} (R : F → BrokenLink → Option (CowStr × CowStr) → F 
   always-comes Holds (Settled settled) outcome mid last h c = subst Holds (sym c.0) h
   always-comes Holds (Asks question answered) outcome mid last h c = subst Holds (sym c.2) (h c.0)
 
--- ## The state behind it
+-- ## The state afterwards
 placed-count : (place : ℕ → ℕ) (at : ℕ) (os : List Opener) (bs : List Bracket) → ArePlaced place at os bs → length os ≡ length bs
 placed-count place at [] [] h = refl
 placed-count place at [] (b ∷ bs) h = absurd h
@@ -118,7 +118,7 @@ module _ (leaf : LeafText) (reader : Reader) (read : Leaf) (place : ℕ → ℕ)
         let runs-cut : (nearer : ℕ) → nearer < length f.p.state.openers → CutsRuns reader.options place nearer f.bs f.p.here old.delimiters.placed.items = λ nearer low.
         (let k = cut-row reader.options nearer brackets f.p.here f.has_read.row (places_of flush.flushed.delimiters.placed.items) (map (λ (x : PlacedQuote). x.slot) flush.flushed.quotes.placed.items)
         (runs_of flush.flushed.delimiters.placed.items) (quotes_of flush.flushed.quotes.placed.items) (omega (arith, low, count)) f.has_read.is_row in
-        record { cut = k.cut; cut_is = k.cut_is; place_at = k.place; place_is = k.place_is; runs_behind = k.runs_behind ∙ ap (λ (s : InlineState). drop k.place.runs (runs_of s.delimiters.placed.items)) others }) in
+        record { cut = k.cut; cut_is = k.cut_is; place_at = k.place; place_is = k.place_is; runs_after = k.runs_after ∙ ap (λ (s : InlineState). drop k.place.runs (runs_of s.delimiters.placed.items)) others }) in
         let fits : Fits (length f.p.state.openers) c.outcome = always-comes R (Fits (length f.p.state.openers)) (decide reader read f.p.state closer) c.outcome now later (decide-fits reader read f.p.state closer) c.comes in
         let state_is : (closed_by f.p closer c.outcome).state ≡ c.outcome.after = closed-state f.p closer c.outcome.result c.outcome.after (length f.p.state.openers) cuts fits in (
           record {

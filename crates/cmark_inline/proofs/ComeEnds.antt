@@ -1,11 +1,11 @@
--- Before a leaf is read nothing of it is; at its end it is read as the events that are still to come.
+-- Before a leaf is read, no part of it is read. At its end, it is read as the events of its slots.
 use Rattle.std.specs.Prelude.{Option, map, option_map}
 use Rattle.std.proofs.Common.{◌≡◌, inl, inr, ℕ, ◌+◌, ◌-◌, ◌≤◌, Bool, List, [], ◌∷◌, ◌++◌, length, drop, refl, sym, ap, ◌∙◌, subst, arith, length-drop}
 use Rattle.cmark_emphasis.specs.Least.{least_examined}
 use Rattle.cmark_grammar.specs.BracketDecisions.{decide}
 use Rattle.cmark_grammar.specs.Emphasis as emphasis
-use Rattle.cmark_grammar.specs.EmphasisModel.{pairs_of, spans_of}
-use Rattle.cmark_grammar.proofs.EmphasisSound.{sound}
+use Rattle.cmark_inline_model.specs.EmphasisModel.{pairs_of, spans_of}
+use Rattle.cmark_inline_model.proofs.EmphasisSound.{sound}
 use Rattle.cmark_grammar.specs.InlineTokens.{begins, longest, token}
 use Rattle.cmark_grammar.specs.Items.{Ends}
 use Rattle.cmark_grammar.specs.LeafReading.{Between, ReadsLeaf, entering}
@@ -13,11 +13,11 @@ use Rattle.cmark_grammar.specs.LeafText.{Leaf}
 use Rattle.cmark_grammar.specs.Parts.{Nil}
 use Rattle.cmark_grammar.specs.Questions.{AnyAnswer, IsNext}
 use Rattle.cmark_grammar.specs.Readers.{Reader}
-use Rattle.cmark_grammar.specs.SiblingsModel.{siblings_of}
+use Rattle.cmark_inline_model.specs.SiblingsModel.{siblings_of}
 use Rattle.cmark_references.specs.declared.footnotes.FootnoteDefs.{FootnoteDefs}
 use Rattle.cmark_leaf_text.specs.Reads.{is_cell_of, source_of, text_of}
 use Rattle.cmark_leaf_text.specs.declared.leaf_text.LeafText.{LeafText}
-use Rattle.cmark_text_parts.specs.declared.text.CowStr.{CowStr}
+use Rattle.cmark_values.specs.declared.text.CowStr.{CowStr}
 use Rattle.cmark_inline_model.specs.BracketPass.{pass}
 use Rattle.cmark_inline_model.specs.PlacedTokens.{may_open_markup, placed, one_stretch, text_reader}
 use Rattle.cmark_inline_model.specs.RowParts.{counted}
@@ -111,7 +111,7 @@ module _ (leaf : LeafText) (reader : Reader) (read : Leaf) (place : ℕ → ℕ)
         flushed-reached leaf reader read place r R before tally initial now come.from cursor.pending (length text) old mid come.reached (end-held come.pending) (omega arith)
         (stops-there reader.options reader.lookup cell text (length text) Ends end-begins tt) pushes others
 
-    -- what was read is the whole leaf
+    -- the parts that were read are the whole leaf
     end-read-as : IsReadAs R reader read expansion_left reached.p.here initial now
     end-read-as =
         let h = reached in
@@ -125,7 +125,7 @@ module _ (leaf : LeafText) (reader : Reader) (read : Leaf) (place : ℕ → ℕ)
           };
         }
 
-    -- the counters have grown by what was passed, examined and visited, for the runs of the outermost list too
+    -- the counters have grown by the steps that were taken, including those for the runs of the outermost list
     pub end-takes : (were are : Steps) (examined : ℕ) → were.html + tally.sought.unclosed.passed ≤ are.html → mid.delimiters.examined + least_examined (emphasis.runs_of (siblings_from 0 mid.delimiters.placed.items)) ≤ examined → were.openers + examined ≤ are.openers → were.closers + visited_in tally.sought ≤ are.closers
         → TakesSteps R reader read expansion_left were are initial now
     end-takes were are examined html more openers closers =
@@ -143,7 +143,7 @@ module _ (leaf : LeafText) (reader : Reader) (read : Leaf) (place : ℕ → ℕ)
           closers = omega (arith, visited, closers);
         }
 
-    -- each use is one of a reference that was formed
+    -- each use is the use of a footnote reference that was formed
     pub end-uses : TakesUses R reader read expansion_left tally.begun tally.notes initial now
     end-uses = record { parts = reached.p.here; read_as = end-read-as; uses = reached.counted.uses }
 

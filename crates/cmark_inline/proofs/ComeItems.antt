@@ -1,4 +1,4 @@
--- With the slot of an item the pass of the grammar has come behind that item.
+-- With the slot of an item, the grammar's pass has read the item.
 use Rattle.std.specs.Prelude.{Option, ◌==◌, ◌&&◌, is_none, if◌then◌else◌}
 use Rattle.std.proofs.Common.{◌≡◌, ◌⊎◌, inl, inr, ℕ, suc, ◌+◌, ◌-◌, ◌<◌, ◌≤◌, Bool, true, false, List, [], ◌∷◌, ◌++◌, length, drop, get_or, refl, sym, ap, ◌∙◌, subst, arith, eqb-true, true≢false}
 use Rattle.std.proofs.Math.Seq.{drop-cons}
@@ -13,7 +13,7 @@ use Rattle.cmark_grammar.specs.Lines.{is_content}
 use Rattle.cmark_grammar.specs.Readers.{Reader}
 use Rattle.cmark_leaf_text.specs.Reads.{text_of, is_cell_of}
 use Rattle.cmark_leaf_text.specs.declared.leaf_text.LeafText.{LeafText}
-use Rattle.cmark_text_parts.specs.declared.text.CowStr.{CowStr}
+use Rattle.cmark_values.specs.declared.text.CowStr.{CowStr}
 use Rattle.cmark_inline_model.specs.PlacedTokens.{StopsAt, may_open_markup, placed, placed_item, one_stretch, text_reader}
 use Rattle.cmark_inline_model.specs.RowPasses.{has_own_slot}
 use Rattle.cmark_inline.specs.CursorProgress.{HasReached}
@@ -34,11 +34,11 @@ use Rattle.cmark_inline.proofs.Keeping.{keeps-pending}
 use Rattle.cmark_inline.proofs.PassedTags.{tag-passes}
 use Rattle.cmark_slots.proofs.Longer.{shown-longer}
 use Rattle.cmark_inline.proofs.PendingReads.{flushed-reached, item-within, stops-there, token-placed}
-use Rattle.cmark_inline.proofs.PlainChains.{IsHeld, before-or-behind}
+use Rattle.cmark_inline.proofs.PlainChains.{IsHeld, before-or-following}
 use Rattle.cmark_inline.proofs.ReachedItems.{item-reached}
 use Rattle.cmark_inline.proofs.VisitedTokens.{starts-there}
 
--- a slot that stands for an item is its own
+-- an item that a slot represents has a slot of its own
 pub says-own : (cell : Bool) (text : List ℕ) (texts : List CowStr) (start end : ℕ) (x : ItemKind) (k : SlotKind) → Says cell text texts start end x k → has_own_slot x ≡ true
 says-own cell text texts start end (Quoted quote) k h = absurd h
 says-own cell text texts start end (Delimiters run) k h = absurd h
@@ -55,7 +55,7 @@ says-own cell text texts start end (OwnedHtml bytes) k h = refl
 says-own cell text texts start end SoftBreak k h = refl
 says-own cell text texts start end HardBreak k h = refl
 
--- at a byte that is no `<` no markup opens that is sought in the source, nor at one behind which neither `!` nor `?` stands
+-- a byte opens markup only if it is a `<` with a `!` or a `?` after it
 pub no-markup-at : (emails : Bool) (text : List ℕ) (at : ℕ) → at < length text → (get_or text at 0 ≡ 60 → opens_markup (drop (at + 1) text) ≡ false) → may_open_markup emails (drop at text) ≡ false
 no-markup-at emails text at lt h = ap (may_open_markup emails) (drop-cons text at 0 lt) ∙ go (get_or text at 0 == 60) refl
   where
@@ -73,7 +73,7 @@ no-markup-at emails text at lt h = ap (may_open_markup emails) (drop-cons text a
         ∙ ap (λ z. none && z) (ap (λ n. opens_markup (drop n text)) (let q : suc at ≡ at + 1 = omega arith in q) ∙ h (eqb-true (get_or text at 0) 60 e))
         ∙ never none
 
--- the state with these slots, which are no more than those of another one
+-- the state `old` with these slots, which fit into the capacity of `new`
 abbrev pub with_slots : (old new : InlineState) → (front : List Slot) → length front ≤ new.slots.cap → InlineState
 with_slots old new front le = record old { slots = record new.slots { len = length front; items = front; ok = (refl, le) } }
 
@@ -87,7 +87,7 @@ module _ (leaf : LeafText) (reader : Reader) (read : Leaf) (place : ℕ → ℕ)
   abbrev cell : Bool
   cell = is_cell_of leaf
 
-  -- an item that is no text is read as it begins
+  -- an item that is no literal text is the token at its place of the source
   pub other-token : (at : ℕ) (x : Item) (resume : ℕ) → at ≤ length text → begins_at reader.options reader.lookup cell text at ≡ Stands x resume → is_plain x.kind ≡ false → may_open_markup reader.options.email_autolinks (drop at text) ≡ false
       → token reader read (place at) ≡ Stands (placed_item place x) (place resume)
   unfolding token
@@ -100,7 +100,7 @@ module _ (leaf : LeafText) (reader : Reader) (read : Leaf) (place : ℕ → ℕ)
     abbrev Reached : ℕ → InlineState → Type 0
     Reached at state = HasReached R leaf reader read place before tally initial at state now
 
-    -- the text that was pending has its slot
+    -- the pending text has its slot
     pub flushed : (m start to : ℕ) (old new : InlineState) (front : List Slot) (le : length front ≤ new.slots.cap) → Reached m old → IsHeld reader.options reader.lookup cell text m start to → to ≤ length text
         → StopsAt (text_reader reader.options reader.lookup text) (one_stretch cell text) to → PushesText start to old.slots.items front → Reached to (with_slots old new front le)
     flushed m start to old new front le h held within stops pushes = flushed-reached leaf reader read place r R before tally initial now m start to old (with_slots old new front le) h held within stops pushes refl
@@ -137,7 +137,7 @@ module _ (leaf : LeafText) (reader : Reader) (read : Leaf) (place : ℕ → ℕ)
           (record { html = (let n = tag-passes leaf reader read place r a.from a.item.start a.item.end a.item.kind lt inside (starts-there reader.options reader.lookup cell text a.from lt a.item next.at a.token) (no-less a) in omega (arith, n, passes)); closers = visited })
         where
           no-less : (a : Appends reader.options reader.lookup cell text here old new next) → get_or text a.from 0 ≡ 60 → opens_markup (drop (a.from + 1) text) ≡ false
-          no-less a is = go a.there (before-or-behind here.at a.from)
+          no-less a is = go a.there (before-or-following here.at a.from)
             where
               go : BeginsThere text here a.from → (here.at ≤ a.from) ⊎ (a.from < here.at) → opens_markup (drop (a.from + 1) text) ≡ false
               go (inl t) x = ap (λ n. opens_markup (drop (n + 1) text)) t.0 ∙ t.2 (ap (λ n. get_or text n 0) (sym t.0) ∙ is)

@@ -1,4 +1,4 @@
--- Calls that read a leaf on, one after the other.
+-- Calls that continue the reading of a leaf, one after the other.
 use Rattle.std.specs.Prelude.{Option}
 use Rattle.std.proofs.Common.{ℕ, [], length, refl, sym, ◌∙◌}
 use Rattle.cmark_grammar.specs.Answers.{Lookup}
@@ -8,7 +8,7 @@ use Rattle.cmark_grammar.specs.Readers.{Reader}
 use Rattle.cmark_references.specs.declared.definitions.RefDefs.{RefDefs}
 use Rattle.cmark_references.specs.declared.footnotes.FootnoteDefs.{FootnoteDefs}
 use Rattle.cmark_leaf_text.specs.declared.leaf_text.LeafText.{LeafText}
-use Rattle.cmark_text_parts.specs.declared.text.CowStr.{CowStr}
+use Rattle.cmark_values.specs.declared.text.CowStr.{CowStr}
 use Rattle.cmark_slots.specs.Standing.{AreEnded}
 use Rattle.cmark_inline.specs.CursorProgress.{ComesOn, ComesTo, IsCleared, IsUnderWay, StopsOn}
 use Rattle.cmark_inline.specs.Decided.{ReadsSame}
@@ -23,7 +23,7 @@ use Rattle.cmark_inline.proofs.ComeEnds.{begin-come}
 use Rattle.cmark_inline.proofs.ReadingFrom.{nothing-stops, read-from}
 
 module _ {F : Type 0} (R : F → BrokenLink → Option (CowStr × CowStr) → F → Type 0) (options : Options) (lookup : Lookup) (references : RefDefs) where
-  -- footnotes of the same labels are read as the same
+  -- footnotes with the same labels give the same reading
   reads-notes : (one other : FootnoteDefs) (leaf : LeafText) (reader : Reader) (read : Leaf) (place : ℕ → ℕ) → SameFootnotes one other → ReadsSame options lookup references one leaf reader read place → ReadsSame options lookup references other leaf reader read place
   reads-notes one other leaf reader read place e h = record {
     source = h.source;
@@ -48,7 +48,7 @@ module _ {F : Type 0} (R : F → BrokenLink → Option (CowStr × CowStr) → F 
 
   -- ## If memory is refused
 
-  -- a leaf of which the grammar has read a part is read to its end
+  -- a leaf that was read in part can be read to its end
   goes-under-way : (leaf : LeafText) (reader : Reader) (read : Leaf) (place : ℕ → ℕ) (expansion_left : ℕ) (initial now : F) → ReadsPlaces leaf reader read place
       → IsUnderWay R reader read (record { expansion_left = expansion_left; asked = [] }) initial now → StopsAs R reader read expansion_left initial now
   goes-under-way leaf reader read place expansion_left initial now places h = record {

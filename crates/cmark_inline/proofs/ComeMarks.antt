@@ -1,4 +1,4 @@
--- With the slots of a delimiter run, of a quote, or of an opening bracket the pass of the grammar has come behind that.
+-- With the slots of a delimiter run, of a quote or of an opening bracket, the grammar's pass has read it.
 use Rattle.std.specs.Prelude.{Option}
 use Rattle.std.proofs.Common.{◌≡◌, ℕ, zero, suc, ◌+◌, ◌-◌, ◌<◌, ◌≤◌, Bool, true, List, [], ◌∷◌, ◌++◌, length, get_or, refl, sym, ap, ◌∙◌, subst, arith, false}
 use Rattle.std.proofs.lemmas.List.{get_or_push}
@@ -18,7 +18,7 @@ use Rattle.cmark_grammar.specs.Siblings.{item}
 use Rattle.cmark_grammar.specs.Tokens.{slice}
 use Rattle.cmark_leaf_text.specs.Reads.{is_cell_of, text_of}
 use Rattle.cmark_leaf_text.specs.declared.leaf_text.LeafText.{LeafText}
-use Rattle.cmark_text_parts.specs.declared.text.CowStr.{CowStr}
+use Rattle.cmark_values.specs.declared.text.CowStr.{CowStr}
 use Rattle.cmark_inline_model.specs.BracketPass.{pass}
 use Rattle.cmark_inline_model.specs.LikeSlots.{AreLike, IsLike, is_html}
 use Rattle.cmark_inline_model.specs.PartLists.{join}
@@ -44,11 +44,11 @@ use Rattle.cmark_inline.proofs.PlainChains.{IsHeld}
 use Rattle.cmark_inline.proofs.ReachedItems.{shows-on}
 use Rattle.cmark_inline.proofs.ReachedSteps.{quote-read, run-read}
 
--- the last of a list
+-- the last element of a list
 last-same : {X : Type 0} (xs : List X) (a b : X) → xs ++ (a ∷ []) ≡ xs ++ (b ∷ []) → a ≡ b
 last-same xs a b e = sym (get_or_push xs a a (length xs) refl) ∙ ap (λ l. get_or l (length xs) a) e ∙ get_or_push xs b a (length xs) refl
 
--- what gives a text is no HTML
+-- an item whose event is a text is no HTML
 no-html : (source : List ℕ) (x : Item) (bytes : List ℕ) (k : ItemKind) → event_of source x k ≡ event.Text bytes → false ≡ is_html k
 no-html source x bytes items.Html h = absurd (let z : ⊥ = cc in z)
 no-html source x bytes items.Plain h = refl
@@ -72,7 +72,7 @@ module _ (leaf : LeafText) (reader : Reader) (read : Leaf) (place : ℕ → ℕ)
   abbrev cell : Bool
   cell = is_cell_of leaf
 
-  -- ## Bytes that end no line stand side by side
+  -- ## Bytes that end no line are adjacent
   pub steps : (n s : ℕ) → s + n ≤ length text → ((k : ℕ) → s ≤ k → k < s + n → is_content (get_or text k 0) ≡ true) → place (s + n) ≡ place s + n
   steps zero s within all = ap place (let q : s + 0 ≡ s = omega arith in q) ∙ (let q : place s ≡ place s + 0 = omega arith in q)
   steps (suc n) s within all =

@@ -1,11 +1,10 @@
--- With the slot of markup that the source closes, or of a `<` that opens markup which it does not close, the pass of the grammar has come
--- behind that.
+-- With the slot of markup that the source closes, or of a `<` that opens unclosed markup, the grammar's pass has read the token.
 use Rattle.std.specs.Prelude.{Option, IfSome, ◌&&◌, is_none, if◌then◌else◌}
 use Rattle.std.proofs.Common.{◌≡◌, ◌⊎◌, inl, inr, ℕ, suc, ◌+◌, ◌-◌, ◌<◌, ◌≤◌, ◌==◌, Bool, true, false, List, [], ◌∷◌, length, drop, get_or, Some, None, refl, sym, ap, ◌∙◌, subst, arith, eqb-true, length-drop}
 use Rattle.std.proofs.Math.Seq.{drop-cons}
 use Rattle.std.proofs.lemmas.Bool.{or_cases}
 use Rattle.cmark_grammar.specs.Autolinks.{autolink_in}
-use Rattle.cmark_grammar.specs.InlineHtml.{behind_markup}
+use Rattle.cmark_grammar.specs.InlineHtml.{after_markup}
 use Rattle.cmark_grammar.specs.InlineReading.{event_of}
 use Rattle.cmark_grammar.specs.InlineTokens as grammar
 use Rattle.cmark_grammar.specs.InlineTokens.{begins, from, longest, markup_or, read_on, tag_or_text, token}
@@ -15,11 +14,11 @@ use Rattle.cmark_grammar.specs.LeafText.{Leaf, end_of}
 use Rattle.cmark_grammar.specs.Lines.{is_content}
 use Rattle.cmark_grammar.specs.Readers.{Reader}
 use Rattle.cmark_grammar.specs.Siblings.{item}
-use Rattle.cmark_grammar.specs.Tags.{behind_tag, no_prefix}
+use Rattle.cmark_grammar.specs.Tags.{after_tag, no_prefix}
 use Rattle.cmark_grammar.specs.Tokens.{slice}
 use Rattle.cmark_leaf_text.specs.Reads.{is_cell_of, place_of, source_of, text_of}
 use Rattle.cmark_leaf_text.specs.declared.leaf_text.LeafText.{LeafText}
-use Rattle.cmark_text_parts.specs.declared.text.CowStr.{CowStr}
+use Rattle.cmark_values.specs.declared.text.CowStr.{CowStr}
 use Rattle.cmark_inline_model.specs.LikeSlots.{IsLike}
 use Rattle.cmark_inline_model.specs.PlacedTokens.{IsParted, may_open_markup}
 use Rattle.cmark_inline_model.specs.RowPasses.{has_own_slot}
@@ -50,13 +49,13 @@ use Rattle.cmark_inline.proofs.PlainChains.{IsHeld}
 use Rattle.cmark_inline.proofs.ReachedItems.{item-reached}
 
 -- no tag begins with `<!` or `<?`
-no-tag : (bs : List ℕ) → opens_markup bs ≡ true → behind_tag no_prefix (60 ∷ bs) ≡ None
+no-tag : (bs : List ℕ) → opens_markup bs ≡ true → after_tag no_prefix (60 ∷ bs) ≡ None
 no-tag [] e = refl
 no-tag (c ∷ cs) e = go (or_cases (c == 33) (c == 63) e)
   where
-    go : ((c == 33) ≡ true) ⊎ ((c == 63) ≡ true) → behind_tag no_prefix (60 ∷ (c ∷ cs)) ≡ None
-    go (inl h) = ap (λ d. behind_tag no_prefix (60 ∷ (d ∷ cs))) (eqb-true c 33 h)
-    go (inr h) = ap (λ d. behind_tag no_prefix (60 ∷ (d ∷ cs))) (eqb-true c 63 h)
+    go : ((c == 33) ≡ true) ⊎ ((c == 63) ≡ true) → after_tag no_prefix (60 ∷ (c ∷ cs)) ≡ None
+    go (inl h) = ap (λ d. after_tag no_prefix (60 ∷ (d ∷ cs))) (eqb-true c 33 h)
+    go (inr h) = ap (λ d. after_tag no_prefix (60 ∷ (d ∷ cs))) (eqb-true c 63 h)
 
 module _ (leaf : LeafText) (reader : Reader) (read : Leaf) (place : ℕ → ℕ) (r : ReadsPlaces leaf reader read place) (source : reader.source ≡ source_of leaf) where
   abbrev text : List ℕ
@@ -72,7 +71,7 @@ module _ (leaf : LeafText) (reader : Reader) (read : Leaf) (place : ℕ → ℕ)
     pub opens-there : may_open_markup reader.options.email_autolinks (drop at text) ≡ true
     opens-there = ap (may_open_markup reader.options.email_autolinks) front ∙ ap (λ m. is_none m && opens_markup (drop (at + 1) text)) link ∙ opens
 
-    -- the source from there on, up to the end of the leaf
+    -- the source from there to the end of the leaf
     source-there : grammar.source_from reader read (place at) ≡ source_from leaf at
     source-there =
         ap (λ (s : List ℕ). slice s (place at) (end_of read.stretches)) source
@@ -91,26 +90,26 @@ module _ (leaf : LeafText) (reader : Reader) (read : Leaf) (place : ℕ → ℕ)
             ap (λ (l : List ℕ). grammar.place_of reader read l) (sym none-left) ∙ r.places.places.ends (length text) (omega arith) ∙ r.last (omega (arith, lt))
             ∙ (let q = r.bytes (length text - 1) (omega (arith, lt)) in let z : suc (place (length text - 1)) ≡ place_of leaf (length text - 1) + 1 = omega (arith, q) in z)
 
-    there : grammar.begins_at reader read (place at) ≡ markup_or reader read (place at) (behind_markup (source_from leaf at)) (tag_or_text reader read (place at) (behind_tag no_prefix (from reader read (place at))))
+    there : grammar.begins_at reader read (place at) ≡ markup_or reader read (place at) (after_markup (source_from leaf at)) (tag_or_text reader read (place at) (after_tag no_prefix (from reader read (place at))))
     there =
         ap (begins reader read (place at)) (from-place reader read text place r.places at (omega (arith, lt)) ∙ front) ∙ less-is reader read (place at) (drop (at + 1) text) link (no-slash-there (drop (at + 1) text) opens)
-        ∙ ap (λ s. markup_or reader read (place at) (behind_markup s) (tag_or_text reader read (place at) (behind_tag no_prefix (from reader read (place at))))) source-there
+        ∙ ap (λ s. markup_or reader read (place at) (after_markup s) (tag_or_text reader read (place at) (after_tag no_prefix (from reader read (place at))))) source-there
 
-    pub closed-token : (size end : ℕ) → size ≤ length (source_from leaf at) → behind_markup (source_from leaf at) ≡ Some (drop size (source_from leaf at)) → IsParted (length text) place (place at + size) end
+    pub closed-token : (size end : ℕ) → size ≤ length (source_from leaf at) → after_markup (source_from leaf at) ≡ Some (drop size (source_from leaf at)) → IsParted (length text) place (place at + size) end
         → token reader read (place at) ≡ Stands (record { kind = Html; start = place at; end = place at + size }) (place (tokens.read_on text end))
     unfolding token
     closed-token size end fits closes parted =
         let d = length-drop size (source_from leaf at) in
-        ap (longest reader read) there ∙ ap (λ m. longest reader read (markup_or reader read (place at) m (tag_or_text reader read (place at) (behind_tag no_prefix (from reader read (place at)))))) closes
+        ap (longest reader read) there ∙ ap (λ m. longest reader read (markup_or reader read (place at) m (tag_or_text reader read (place at) (after_tag no_prefix (from reader read (place at)))))) closes
         ∙ ap (λ n. Stands (record { kind = Html; start = place at; end = place at + n }) (read_on reader read (place at + n)))
         (ap (λ s. length s - length (drop size (source_from leaf at))) source-there ∙ (let q : length (source_from leaf at) - length (drop size (source_from leaf at)) ≡ size = omega (arith, d, fits) in q))
         ∙ ap (Stands (record { kind = Html; start = place at; end = place at + size })) (places.read-on reader read text place r.places (place at + size) end parted)
 
-    pub unclosed-token : behind_markup (source_from leaf at) ≡ None → token reader read (place at) ≡ Stands (record { kind = Own; start = place at; end = suc (place at) }) (place (at + 1))
+    pub unclosed-token : after_markup (source_from leaf at) ≡ None → token reader read (place at) ≡ Stands (record { kind = Own; start = place at; end = suc (place at) }) (place (at + 1))
     unfolding token
     unclosed-token closes =
-        ap (longest reader read) there ∙ ap (λ m. longest reader read (markup_or reader read (place at) m (tag_or_text reader read (place at) (behind_tag no_prefix (from reader read (place at)))))) closes
-        ∙ ap (λ l. longest reader read (tag_or_text reader read (place at) (behind_tag no_prefix l))) (from-place reader read text place r.places at (omega (arith, lt)) ∙ front)
+        ap (longest reader read) there ∙ ap (λ m. longest reader read (markup_or reader read (place at) m (tag_or_text reader read (place at) (after_tag no_prefix (from reader read (place at)))))) closes
+        ∙ ap (λ l. longest reader read (tag_or_text reader read (place at) (after_tag no_prefix l))) (from-place reader read text place r.places at (omega (arith, lt)) ∙ front)
         ∙ ap (λ m. longest reader read (tag_or_text reader read (place at) m)) (no-tag (drop (at + 1) text) opens)
         ∙ ap (Stands (record { kind = Own; start = place at; end = suc (place at) }))
         (sym (ap place (let q : at + 1 ≡ suc at = omega arith in q) ∙ r.places.places.next at lt (ap is_content byte)))
@@ -144,8 +143,8 @@ module _ (leaf : LeafText) (reader : Reader) (read : Leaf) (place : ℕ → ℕ)
         (subst (λ n. IsLike reader.source (shown_slot leaf new.texts.items new.links.items (text_slot here.at next.at)) (ItemSlot (record { kind = Own; start = place here.at; end = suc (place n) }))) (let q : next.at - 1 ≡ here.at = omega (arith, at) in q) like)
         (record { html = omega arith; closers = omega arith })
 
-    -- what was found was passed, but for the two bytes with which it opens
-    markup-takes : (found : Sought) (start size : ℕ) → size ≤ length (source_from leaf here.at) → behind_markup (source_from leaf here.at) ≡ Some (drop size (source_from leaf here.at)) → tally.sought.unclosed.passed ≤ found.unclosed.passed → visited_in tally.sought ≤ visited_in found
+    -- the bytes of the markup were passed, except the two with which it opens
+    markup-takes : (found : Sought) (start size : ℕ) → size ≤ length (source_from leaf here.at) → after_markup (source_from leaf here.at) ≡ Some (drop size (source_from leaf here.at)) → tally.sought.unclosed.passed ≤ found.unclosed.passed → visited_in tally.sought ≤ visited_in found
         → PassesFound (source_from leaf here.at) tally.sought.unclosed found.unclosed → TakesFor reader.source (record { kind = Html; start = start; end = start + size }) tally.sought found
     markup-takes found start size fits closes grows visited passes =
         let all : List ℕ = source_from leaf here.at in
@@ -170,7 +169,7 @@ module _ (leaf : LeafText) (reader : Reader) (read : Leaf) (place : ℕ → ℕ)
         let parted : IsParted (length text) place end a.found.end = record {
           within = i.goes_on.within;
           earlier = λ k low. (let p = i.goes_on.before k low in let w = i.goes_on.within in let q = r.bytes k (omega (arith, low, w)) in omega (arith, p, q, byte));
-          later = λ k low high. (let p = i.goes_on.behind k low high in let q = r.bytes k high in omega (arith, p, q, byte));
+          later = λ k low high. (let p = i.goes_on.following k low high in let q = r.bytes k high in omega (arith, p, q, byte));
         } in
         let like : IsLike reader.source (shown_slot leaf new.texts.items new.links.items (record { kind = kind.SourceHtml (place_of leaf here.at + i.size); start = here.at; end = a.found.end })) (ItemSlot x) =
         record { start = byte; end = ap (λ n. n + i.size) byte; event = ap (λ n. event_of reader.source (item Html n (place_of leaf here.at + i.size)) Html) byte ∙ ap (λ n. event_of reader.source (item Html (place here.at) (n + i.size)) Html) byte; lines = λ q. refl } in

@@ -1,4 +1,4 @@
--- Behind each special byte but a closing bracket the leaf is read on as the grammar's pass reads it.
+-- After each special byte except a closing bracket, the leaf is read on as the grammar's pass reads it.
 use Rattle.std.specs.Prelude.{Option, codes, is_some, not}
 use Rattle.std.proofs.Common.{◌≡◌, ◌⊎◌, inl, inr, ℕ, suc, ◌+◌, ◌-◌, ◌<◌, ◌≤◌, ◌==◌, ◌||◌, Bool, true, false, List, [], ◌∷◌, ◌++◌, length, drop, get_or, Some, None, refl, sym, ap, ◌∙◌, subst, arith, eqb-true, true≢false, length-drop}
 use Rattle.std.proofs.lemmas.Bool.{not-true}
@@ -10,18 +10,18 @@ use Rattle.cmark_grammar.specs.InlineTokens.{bracket, code_or, item_at}
 use Rattle.cmark_grammar.specs.Items.{ItemKind, Plain, Own, Code, Autolink, Delimiters, Quoted, Item, Token, Stands, Opens, Closes, Ends}
 use Rattle.cmark_grammar.specs.LeafReading.{Between}
 use Rattle.cmark_grammar.specs.LeafText.{Leaf}
-use Rattle.cmark_grammar.specs.LinkDefinitions.{Parsed, behind_blanks}
+use Rattle.cmark_grammar.specs.LinkDefinitions.{Parsed, after_leading_blanks}
 use Rattle.cmark_grammar.specs.Lines.{is_content}
 use Rattle.cmark_grammar.specs.Options.{Options}
 use Rattle.cmark_grammar.specs.Readers.{Reader}
-use Rattle.cmark_grammar.specs.SpecialBytes.{is_special}
-use Rattle.cmark_grammar.specs.Tags.{behind_ending}
+use Rattle.cmark_inline_model.specs.SpecialBytes.{is_special}
+use Rattle.cmark_grammar.specs.Tags.{after_ending}
 use Rattle.cmark_grammar.specs.Tokens.{slice}
 use Rattle.cmark_references.specs.declared.definitions.RefDefs.{RefDefs}
 use Rattle.cmark_references.specs.declared.footnotes.FootnoteDefs.{FootnoteDefs}
 use Rattle.cmark_leaf_text.specs.Reads.{is_cell_of, source_of, text_of}
 use Rattle.cmark_leaf_text.specs.declared.leaf_text.LeafText.{LeafText}
-use Rattle.cmark_text_parts.specs.declared.text.CowStr.{CowStr}
+use Rattle.cmark_values.specs.declared.text.CowStr.{CowStr}
 use Rattle.cmark_inline_model.specs.PlacedTokens.{may_open_markup}
 use Rattle.cmark_inline.specs.Closers as closers
 use Rattle.cmark_inline.specs.Decided.{ReadsSame}
@@ -55,7 +55,7 @@ use Rattle.cmark_inline.proofs.ItemSlots.{slot-like}
 use Rattle.cmark_inline.proofs.LeastCounted.{counted-more}
 use Rattle.cmark_inline.proofs.PendingReads.{flushed-reached, item-within}
 use Rattle.cmark_inline.proofs.PlainBytes.{breaks, content-there, ending-there, plain-tick}
-use Rattle.cmark_inline.proofs.PlainChains.{IsHeld, Reaches, before-or-behind, begun-order, held-further}
+use Rattle.cmark_inline.proofs.PlainChains.{IsHeld, Reaches, before-or-following, begun-order, held-further}
 use Rattle.cmark_inline.proofs.PlainUpTo.{reaches-to}
 use Rattle.cmark_inline.proofs.ReachedItems.{item-reached}
 use Rattle.cmark_inline.proofs.SpecialSteps.{Kinds, sign-passes, special-kinds}
@@ -114,7 +114,7 @@ module _ (leaf : LeafText) (reader : Reader) (read : Leaf) (place : ℕ → ℕ)
     abbrev Held : ℕ → Type 0
     Held to = IsHeld reader.options reader.lookup cell text m start to
 
-    -- nothing, or a text that has begun: it goes on
+    -- if nothing is pending, or a text that has begun, the text continues
     goes-on : (to : ℕ) → Reaches reader.options reader.lookup cell text cursor.at to → (HasEscaped reader.options reader.lookup cell text m start cursor.at → Held cursor.at) → Held to
     goes-on to reach escaped = held-further reader.options reader.lookup cell text m start cursor.at to (by come.pending) reach
       where
@@ -137,16 +137,16 @@ module _ (leaf : LeafText) (reader : Reader) (read : Leaf) (place : ℕ → ℕ)
         by : IsPending reader.options reader.lookup cell text m cursor → start ≤ cursor.at
         by (inl h) = let e = h.1 in omega (arith, e)
         by (inr (inl h)) = let lt = begun-order reader.options reader.lookup cell text m start cursor.at h.0 in omega (arith, lt)
-        by (inr (inr h)) = let b = h.behind in omega (arith, b)
+        by (inr (inr h)) = let b = h.following in omega (arith, b)
 
-    -- before the leaf ends, a pending text ends with no blank
+    -- a pending text does not end with a blank, unless the leaf ends there
     no-blank-before : start < cursor.at → cursor.at < length text → is_blank_byte (get_or text (cursor.at - 1) 0) ≡ false
     no-blank-before some lt = by come.pending
       where
         by : IsPending reader.options reader.lookup cell text m cursor → is_blank_byte (get_or text (cursor.at - 1) 0) ≡ false
         by (inl h) = absurd (let e = h.1 in omega (arith, e, some))
         by (inr (inl h)) = h.2 lt
-        by (inr (inr h)) = ap (λ n. is_blank_byte (get_or text n 0)) (let b = h.behind in let q : cursor.at - 1 ≡ start = omega (arith, b) in q) ∙ ap is_blank_byte h.byte
+        by (inr (inr h)) = ap (λ n. is_blank_byte (get_or text n 0)) (let b = h.following in let q : cursor.at - 1 ≡ start = omega (arith, b) in q) ∙ ap is_blank_byte h.byte
 
     module _ (at : ℕ) (order : cursor.at ≤ at) (lt : at < length text) (stands : StandUpTo reader.options reader.lookup cell text cursor.at at) (special : is_special reader.options (get_or text at 0) ≡ true) (new : InlineState) (next : Cursor) (sound : IsSound old)
         (moves : Moves text at new next) where
@@ -166,7 +166,7 @@ module _ (leaf : LeafText) (reader : Reader) (read : Leaf) (place : ℕ → ℕ)
       reach content =
           reaches-to reader.options reader.lookup cell text cursor.at at at (omega (arith, lt)) stands order (omega arith) (λ j a b. absurd (omega (arith, a, b))) (λ some blank. ending-there text at lt content none)
 
-      -- behind a backtick that is escaped the special byte is the next one of its run
+      -- after an escaped backtick, the special byte is the next one of its run
       module _ (h : HasEscaped reader.options reader.lookup cell text m start cursor.at) where
         same : at ≡ cursor.at
         same = escaped-next reader.options reader.lookup cell text m start cursor.at h at order (omega (arith, lt)) stands
@@ -190,7 +190,7 @@ module _ (leaf : LeafText) (reader : Reader) (read : Leaf) (place : ℕ → ℕ)
         held-code : is_some (code_in (drop at text)) ≡ true → Held cursor.at
         held-code e = inr (escaped-begun reader.options reader.lookup cell text m start cursor.at h (ap (λ n. is_some (code_in (drop n text))) (sym same) ∙ e))
 
-      -- up to the special byte
+      -- the text up to the special byte is pending
       held-there : is_content (get_or text at 0) ≡ true → (HasEscaped reader.options reader.lookup cell text m start cursor.at → ⊥) → Held at
       held-there content never = goes-on at (reach content) (λ h. absurd (never h))
 
@@ -200,7 +200,7 @@ module _ (leaf : LeafText) (reader : Reader) (read : Leaf) (place : ℕ → ℕ)
       from-token : (t : Token) → begins_at reader.options reader.lookup cell text at ≡ t → breaks t ≡ false → is_content (get_or text at 0) ≡ true
       from-token t e f = content-there reader.options reader.lookup cell text at lt t e f
 
-      -- ## What stands for itself
+      -- ## Literal bytes
       come-passes : Passes reader.options reader.lookup cell text here old new next → HasCome R leaf reader read place before tally initial next new now
       come-passes p =
           let never = λ (h : HasEscaped reader.options reader.lookup cell text m start cursor.at). not-plain h at next.at p.token in
@@ -245,9 +245,9 @@ module _ (leaf : LeafText) (reader : Reader) (read : Leaf) (place : ℕ → ℕ)
       -- ## Items
       come-appends : (found : Sought) → VisitsAt text at tally.sought found → PassesAt reader.options.email_autolinks leaf at tally.sought.unclosed found.unclosed → Appends reader.options reader.lookup cell text here old new next → HasCome R leaf reader read place before (record tally { sought = found }) initial next new now
       come-appends found visits passes a =
-          nothing-pending found (appends-reached leaf reader read place r R before (record tally { sought = found }) initial now tally.sought here m old new next sound come.reached moves.stands a (by a.there) passes.grows (visited a.there (before-or-behind at a.from))) a.pending
+          nothing-pending found (appends-reached leaf reader read place r R before (record tally { sought = found }) initial now tally.sought here m old new next sound come.reached moves.stands a (by a.there) passes.grows (visited a.there (before-or-following at a.from))) a.pending
         where
-          -- it was visited if it is a code span or a formula; a line break is none
+          -- its closing run was visited if it is a code span or a formula; a line break is neither
           visited : BeginsThere text here a.from → (at ≤ a.from) ⊎ (a.from < at) → closers_of a.item.kind + visited_in tally.sought ≤ visited_in found
           visited (inl t) order = there-visited reader.options reader.lookup cell text at lt a.item next.at (ap (begins_at reader.options reader.lookup cell text) (sym t.0) ∙ a.token) tally.sought found visits
           visited (inr t) (inl le) =
@@ -262,15 +262,15 @@ module _ (leaf : LeafText) (reader : Reader) (read : Leaf) (place : ℕ → ℕ)
           by : BeginsThere text here a.from → Held a.from
           by (inl t) =
               subst Held (sym t.0) (goes-on at (reach t.1)
-              (λ h. held-code h (t.3 (tick h) (let e = same h in let b = h.behind in omega (arith, e, b)) h.byte)))
-          by (inr t) = goes-on a.from (go (before-or-behind cursor.at a.from)) (λ h. absurd (true≢false (sym (ap is_content (tick h)) ∙ t.0)))
+              (λ h. held-code h (t.3 (tick h) (let e = same h in let b = h.following in omega (arith, e, b)) h.byte)))
+          by (inr t) = goes-on a.from (go (before-or-following cursor.at a.from)) (λ h. absurd (true≢false (sym (ap is_content (tick h)) ∙ t.0)))
             where
               go : (cursor.at ≤ a.from) ⊎ (a.from < cursor.at) → Reaches reader.options reader.lookup cell text cursor.at a.from
               go (inl le) =
                   reaches-to reader.options reader.lookup cell text cursor.at a.from at (omega (arith, lt)) stands le a.before a.blanks
                   (λ some blank. absurd (true≢false (sym blank ∙ t.1 (let s = come-order in omega (arith, s, some)))))
               go (inr low) =
-                  absurd (let s = a.behind in true≢false (sym (a.blanks (cursor.at - 1) (omega (arith, low)) (omega (arith, low, order))) ∙ no-blank-before (omega (arith, s, low)) (omega (arith, order, lt))))
+                  absurd (let s = a.following in true≢false (sym (a.blanks (cursor.at - 1) (omega (arith, low)) (omega (arith, low, order))) ∙ no-blank-before (omega (arith, s, low)) (omega (arith, order, lt))))
 
       come-autolink : AppendsAutolink reader.options reader.lookup cell text here old new next → HasCome R leaf reader read place before tally initial next new now
       come-autolink a =
@@ -319,7 +319,7 @@ module _ (leaf : LeafText) (reader : Reader) (read : Leaf) (place : ℕ → ℕ)
           let never = λ (h : HasEscaped reader.options reader.lookup cell text m start cursor.at). no-other h (Opens (bracket a.is_image at next.at)) a.token refl in
           nothing-pending tally.sought (opening-reached leaf reader read place r R before tally initial now here m old new next come.reached (held-there (from-token (Opens (bracket a.is_image at next.at)) a.token refl) never) a within) a.pending
 
-      -- the rest of a run of backticks of which the first is escaped
+      -- the rest of a run of backticks whose first one is escaped
       come-taken : TakesEscaped reader.options reader.lookup cell text here old new next → HasCome R leaf reader read place before tally initial next new now
       come-taken a = nothing-pending tally.sought (by come.pending) a.pending
         where
@@ -349,7 +349,7 @@ module _ (leaf : LeafText) (reader : Reader) (read : Leaf) (place : ℕ → ℕ)
               (slot-like leaf reader read place r.places r.cell r.bytes new.texts.items new.links.items slot x m next.at t.0 none (record { start = refl; end = refl; says = tt }) some within)
               a.slots (ap (λ (s : InlineState). s.delimiters.placed.items) others) (ap (λ (s : InlineState). s.quotes.placed.items) others) (record { html = omega arith; closers = omega arith })
 
-      -- no fewer were visited, and no less was passed
+      -- the counts do not fall
       more : (found : Sought) → VisitsAt text at tally.sought found → PassesAt reader.options.email_autolinks leaf at tally.sought.unclosed found.unclosed → HasCome R leaf reader read place before tally initial next new now → HasCome R leaf reader read place before (record tally { sought = found }) initial next new now
       more found visits passes c =
           let runs = visits.runs in
@@ -395,12 +395,12 @@ module _ (leaf : LeafText) (reader : Reader) (read : Leaf) (place : ℕ → ℕ)
           let c = closing-reached leaf reader read place r R before tally initial now later here m old new next come.reached (held-there (ap is_content byte) never) lt byte references others same_reading flush closes ended in
           record { from = next.at; reached = c.0; pending = inl (sym c.1, c.1) }
 
-    -- where no special byte is left
+    -- no special byte is left
     pub come-rest : cursor.at < length text → StandUpTo reader.options reader.lookup cell text cursor.at (length text) → HasCome R leaf reader read place before tally initial (record { pending = start; at = length text }) old now
     come-rest lt stands =
         let never = λ (h : HasEscaped reader.options reader.lookup cell text m start cursor.at). (let q = escaped-next reader.options reader.lookup cell text m start cursor.at h (length text) (omega (arith, lt)) (omega arith) stands in absurd (omega (arith, q, lt))) in
         let order = come-order in
-        let reach = reaches-to reader.options reader.lookup cell text cursor.at (length text) (length text) (omega arith) stands (omega (arith, lt)) (omega arith) (λ j a b. absurd (omega (arith, a, b))) (λ some blank. ap (λ l. behind_ending (behind_blanks l)) none-left) in
+        let reach = reaches-to reader.options reader.lookup cell text cursor.at (length text) (length text) (omega arith) stands (omega (arith, lt)) (omega arith) (λ j a b. absurd (omega (arith, a, b))) (λ some blank. ap (λ l. after_ending (after_leading_blanks l)) none-left) in
         record {
           from = m;
           reached = come.reached;

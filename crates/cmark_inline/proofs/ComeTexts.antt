@@ -1,4 +1,4 @@
--- What is pending behind bytes that stand for themselves, and behind a backslash with what it escapes.
+-- The pending text after literal bytes, and after a backslash with the byte that it escapes.
 use Rattle.std.specs.Prelude.{Option, is_some}
 use Rattle.std.proofs.Common.{◌≡◌, ◌⊎◌, inl, inr, ℕ, suc, ◌+◌, ◌-◌, ◌<◌, ◌≤◌, ◌==◌, Bool, true, false, List, [], ◌∷◌, length, take, drop, get_or, Some, None, refl, sym, ap, ◌∙◌, subst, arith, eqb-true, true≢false, length-drop}
 use Rattle.std.proofs.lemmas.Bool.{eq-eqb, or_cases}
@@ -24,7 +24,7 @@ use Rattle.cmark_inline.specs.declared.step.Cursor.{Cursor}
 use Rattle.cmark_inline.proofs.Bytes.{first-at, first-past, prefix-more}
 use Rattle.cmark_inline.proofs.PendingReads.{stops-before, stops-there}
 use Rattle.cmark_inline.proofs.PlainBytes.{plain-last, plain-tick}
-use Rattle.cmark_inline.proofs.PlainChains.{IsHeld, Reaches, before-or-behind, held-further, held-order, reaches-all, reaches-one}
+use Rattle.cmark_inline.proofs.PlainChains.{IsHeld, Reaches, before-or-following, held-further, held-order, reaches-all, reaches-one}
 use Rattle.cmark_inline.proofs.TokenSteps.{code-begins}
 
 abbrev resume_of : Token → ℕ
@@ -40,7 +40,7 @@ is_code (Stands x resume) = code_kind x.kind
 is_code other = false
 
 module _ (o : Options) (l : Lookup) (cell : Bool) (text : List ℕ) where
-  -- a pending text begins where the pass stands, or with no backtick
+  -- a pending text begins at the offset of the pass, or with another byte than a backtick
   abbrev pub IsFree : (at start : ℕ) → Type 0
   IsFree at start = (at ≡ start) ⊎ (get_or text start 0 ≡ 96 → ⊥)
 
@@ -53,7 +53,7 @@ module _ (o : Options) (l : Lookup) (cell : Bool) (text : List ℕ) where
       tick (inr f) is = f is
       tick (inl e) is = plain-tick o l cell text at (omega (arith, e, some, within)) next.pending h.end h.token (ap (λ n. get_or text n 0) e ∙ is)
 
-  -- bytes more that stand for themselves
+  -- more literal bytes
   pub more-pending : (at : ℕ) (here next : Cursor) → IsHeld o l cell text at here.pending here.at → IsFree at here.pending → Reaches o l cell text here.at next.at → here.at < next.at → next.at ≤ length text
       → (next.at < length text → is_blank_byte (get_or text (next.at - 1) 0) ≡ false) → next.pending ≡ here.pending → IsPending o l cell text at next
   more-pending at here next held free reach further within word e =
@@ -72,9 +72,9 @@ module _ (o : Options) (l : Lookup) (cell : Bool) (text : List ℕ) where
         each : (k : ℕ) → here.at ≤ k → k < next.at → StandsForItself o l cell text k next.at
         each k low high = record { end = k + 1; further = omega arith; within = omega (arith, high); token = p.plain k low high }
 
-  -- ## Behind a backslash
+  -- ## After a backslash
   first-there : (p : ℕ → Bool) (at : ℕ) → first_is p (drop at text) ≡ true → (at < length text) × (p (get_or text at 0) ≡ true)
-  first-there p at e = go (before-or-behind (length text) at)
+  first-there p at e = go (before-or-following (length text) at)
     where
       go : (length text ≤ at) ⊎ (at < length text) → (at < length text) × (p (get_or text at 0) ≡ true)
       go (inl le) = absurd (true≢false (sym e ∙ first-past p text at le))
@@ -113,7 +113,7 @@ module _ (o : Options) (l : Lookup) (cell : Bool) (text : List ℕ) where
         by true e = inr (inr (record {
           slash = x.byte;
           token = (x.run e).0;
-          behind = (let a = x.pending in let b = x.at in omega (arith, a, b));
+          following = (let a = x.pending in let b = x.at in omega (arith, a, b));
           byte = ap (λ n. get_or text n 0) x.pending ∙ eqb-true (get_or text (here.at + 1) 0) 96 (first-there is_backtick (here.at + 1) e).1;
           several = (x.run e).1;
         }))
@@ -143,14 +143,14 @@ module _ (o : Options) (l : Lookup) (cell : Bool) (text : List ℕ) where
             second (a ∷ []) e = absurd (let n : 1 ≡ 2 = ap length e in omega (arith, n))
             second (a ∷ (b ∷ bs)) e = ap (λ (p : List ℕ). get_or p 1 0) e
 
-  -- ## A run of backticks of which the first is escaped
+  -- ## A run of backticks whose first one is escaped
   module _ (at start to : ℕ) (h : HasEscaped o l cell text at start to) where
     rest_size : backticks (drop start text) ≡ 1 + backticks (drop to text)
     rest_size =
         let n = h.several in
         let w = prefix_len-le-length is_backtick (drop start text) in
         let d = length-drop start text in
-        prefix-more is_backtick text start (omega (arith, n, w, d)) (eq-eqb (get_or text start 0) 96 h.byte) ∙ ap (λ k. 1 + backticks (drop k text)) (sym h.behind)
+        prefix-more is_backtick text start (omega (arith, n, w, d)) (eq-eqb (get_or text start 0) 96 h.byte) ∙ ap (λ k. 1 + backticks (drop k text)) (sym h.following)
 
     pub tick-there : (to < length text) × (get_or text to 0 ≡ 96)
     tick-there =
@@ -164,7 +164,7 @@ module _ (o : Options) (l : Lookup) (cell : Bool) (text : List ℕ) where
 
     -- the special byte is the next one of the run
     pub escaped-next : (text_end : ℕ) → to ≤ text_end → text_end ≤ length text → StandUpTo o l cell text to text_end → text_end ≡ to
-    escaped-next text_end le within stands = go (before-or-behind text_end to)
+    escaped-next text_end le within stands = go (before-or-following text_end to)
       where
         go : (text_end ≤ to) ⊎ (to < text_end) → text_end ≡ to
         go (inl below) = omega (arith, below, le)
@@ -176,7 +176,7 @@ module _ (o : Options) (l : Lookup) (cell : Bool) (text : List ℕ) where
     code-there : begins_at o l cell text to ≡ code_or (reading o l text) (whole cell text) to (backticks (drop to text)) (code_in (drop to text))
     code-there = let t = tick-there in code-begins o l cell text to t.0 t.1
 
-    -- it stands for itself where the rest opens a code span
+    -- the escaped backtick is literal if the rest of the run opens a code span
     pub escaped-begun : is_some (code_in (drop to text)) ≡ true → HasBegun o l cell text at start to
     escaped-begun e = go (code_in (drop to text)) refl
       where
@@ -187,10 +187,10 @@ module _ (o : Options) (l : Lookup) (cell : Bool) (text : List ℕ) where
           some = omega arith;
           token = h.token ∙ ap (escaped_backtick (reading o l text) (whole cell text) start (backticks (drop start text))) q;
           ends = [];
-          texts = (let b = h.behind in omega (arith, b));
+          texts = (let b = h.following in omega (arith, b));
         }
 
-    -- where it does not, the whole run is a text
+    -- otherwise the whole run is a text
     pub escaped-own : (resume : ℕ) → begins_at o l cell text to ≡ item_at Own to resume → (begins_at o l cell text at ≡ item_at Own start resume) × (start < resume)
     escaped-own resume t = go (code_in (drop to text)) refl
       where
@@ -199,7 +199,7 @@ module _ (o : Options) (l : Lookup) (cell : Bool) (text : List ℕ) where
         go None q =
             let is : resume ≡ to + backticks (drop to text) = ap resume_of (sym t ∙ code-there ∙ ap (code_or (reading o l text) (whole cell text) to (backticks (drop to text))) q) in
             let n = rest_size in
-            let b = h.behind in (
+            let b = h.following in (
               h.token ∙ ap (escaped_backtick (reading o l text) (whole cell text) start (backticks (drop start text))) q ∙ ap (item_at Own start) (let e : start + backticks (drop start text) ≡ resume = omega (arith, is, n, b) in e),
               (let e : start < resume = omega (arith, is, b) in e),
             )

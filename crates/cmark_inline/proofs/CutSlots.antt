@@ -21,7 +21,7 @@ use Rattle.cmark_grammar.specs.Tokens.{slice}
 use Rattle.cmark_leaf_text.specs.Reads.{is_cell_of, place_of, text_of}
 use Rattle.cmark_leaf_text.specs.declared.leaf_text.LeafText.{LeafText}
 use Rattle.cmark_leaf_text.proofs.StretchSteps.{slice-length, byte-in-slice}
-use Rattle.cmark_text_parts.specs.declared.text.CowStr.{CowStr}
+use Rattle.cmark_values.specs.declared.text.CowStr.{CowStr}
 use Rattle.cmark_inline_model.specs.Displays.{CutFacts, CutKind, OwnedFacts}
 use Rattle.cmark_inline_model.specs.LikeSlots.{IsLike, is_html}
 use Rattle.cmark_inline_model.specs.SlotRows as row
@@ -55,9 +55,9 @@ one-at bs e =
     let a = Any-from_list_any ends_line bs e in
     (a.0, a.2, ap ends_line (get_or_default bs a.0 0 a.1 a.2 ∙ a.3) ∙ a.4)
 
--- the last ones of bytes among which no line ends
-none-behind : (bs : List ℕ) (s e t : ℕ) → e ≤ length bs → s ≤ t → takes_lines (slice bs s e) ≡ false → takes_lines (slice bs t e) ≡ false
-none-behind bs s e t within le none = list_any_none ends_line (slice bs t e) (λ k d lt.
+-- the last of some bytes that end no line
+none-following : (bs : List ℕ) (s e t : ℕ) → e ≤ length bs → s ≤ t → takes_lines (slice bs s e) ≡ false → takes_lines (slice bs t e) ≡ false
+none-following bs s e t within le none = list_any_none ends_line (slice bs t e) (λ k d lt.
     let m = slice-length bs t e within in
     let n = slice-length bs s e within in
     let less : k < e - t = omega (arith, lt, m) in
@@ -75,7 +75,7 @@ none-behind bs s e t within le none = list_any_none ends_line (slice bs t e) (λ
         go false true f = absurd (true≢false (sym f))
         go false false f = refl
 
--- ## Bytes that stand side by side
+-- ## Adjacent bytes
 
 module _ (leaf : LeafText) (reader : Reader) (read : Leaf) (place : ℕ → ℕ) (places : ReadsPlaces leaf reader read place) (s e : ℕ) (some : s < e) (within : e ≤ length (text_of leaf)) where
   abbrev text : List ℕ
@@ -90,7 +90,7 @@ module _ (leaf : LeafText) (reader : Reader) (read : Leaf) (place : ℕ → ℕ)
   past-within : past ≤ length source
   past-within = let q = places.places.inside (e - 1) (omega (arith, some, within)) in omega (arith, q)
 
-  -- places rise by one at least
+  -- each place is at least one more than the place before
   rises : (n k : ℕ) → k + n < e → place k + n ≤ place (k + n)
   rises zero k lt = let q = ap place (let z : k + 0 ≡ k = omega arith in z) in omega (arith, q)
   rises (suc n) k lt =
@@ -101,7 +101,7 @@ module _ (leaf : LeafText) (reader : Reader) (read : Leaf) (place : ℕ → ℕ)
   abbrev IsTogether : Type 0
   IsTogether = (t : ℕ) → s ≤ t → t < e → place t ≡ place s + (t - s)
 
-  -- where as many bytes stand in the source as in the text
+  -- the bytes are adjacent in the source if they take equally much of it as of the text
   by-size : past - place s ≡ e - s → IsTogether
   by-size size = λ t low lt.
       let a = rises (t - s) s (omega (arith, low, lt)) in
@@ -110,7 +110,7 @@ module _ (leaf : LeafText) (reader : Reader) (read : Leaf) (place : ℕ → ℕ)
       let d = ap place (let q : t + (e - 1 - t) ≡ e - 1 = omega (arith, lt) in q) in
       omega (arith, a, b, c, d, size, low, lt)
 
-  -- where they are the same
+  -- they are adjacent if the source has the bytes of the text there
   by-bytes : slice source (place s) past ≡ slice text s e → IsTogether
   by-bytes same =
       let a = slice-length source (place s) past past-within in
@@ -118,7 +118,7 @@ module _ (leaf : LeafText) (reader : Reader) (read : Leaf) (place : ℕ → ℕ)
       let c = ap length same in
       by-size (omega (arith, a, b, c))
 
-  -- where no line ends among them
+  -- they are adjacent if they end no line
   by-content : takes_lines (slice text s e) ≡ false → IsTogether
   by-content none = λ t low lt. go (t - s) (omega (arith, low, lt)) t (omega (arith, low))
     where
@@ -138,9 +138,9 @@ module _ (leaf : LeafText) (reader : Reader) (read : Leaf) (place : ℕ → ℕ)
       go : (n : ℕ) → s + n < e → (t : ℕ) → t ≡ s + n → place t ≡ place s + n
       go n lt t q = ap place q ∙ from n lt
 
-  -- the last of them are the same in the source as in the text
-  behind : IsTogether → (t : ℕ) → s ≤ t → t < e → slice source (place t) past ≡ slice text t e
-  behind h t low lt =
+  -- the last of them are equal in the source and in the text
+  following : IsTogether → (t : ℕ) → s ≤ t → t < e → slice source (place t) past ≡ slice text t e
+  following h t low lt =
       let a = slice-length source (place t) past past-within in
       let b = slice-length text t e within in
       let u = h t low lt in
@@ -173,7 +173,7 @@ module _ (leaf : LeafText) (reader : Reader) (read : Leaf) (place : ℕ → ℕ)
       ∙ sym (byte-in-slice text s e k.0 (omega (arith, less)) within) in
       list_any_at ends_line (slice source (place s) past) n 0 (omega (arith, long, low, up, last)) (ap ends_line at ∙ k.2)
 
--- ## Kinds by their events
+-- ## Kinds, by their events
 
 -- a text of the bytes themselves
 abbrev IsText : ItemKind → Type 0
@@ -238,7 +238,7 @@ IsOther (event.Text bytes) = ⊥
 IsOther (event.InlineHtml bytes) = ⊥
 IsOther _ = Unit {0}
 
--- it does not hang on where the item stands
+-- this event does not depend on the range of the item
 other-event : (source : List ℕ) (x y : Item) (k : ItemKind) (e : Event) → IsOther e → e ≡ event_of source x k → e ≡ event_of source y k
 other-event source x y (items.Code text) e o h = h
 other-event source x y (items.InlineMath text) e o h = h
@@ -271,7 +271,7 @@ other-html source x (items.FootnoteReference label) e o h = refl
 other-html source x items.SoftBreak e o h = refl
 other-html source x items.HardBreak e o h = refl
 
--- inline HTML is a part of the source, or has a text of its own
+-- inline HTML is a part of the source, or owns its bytes
 data HtmlKind (source bytes : List ℕ) (x : Item) (k : ItemKind) : Type 0 where
   Part : (k ≡ items.Html) → (bytes ≡ slice source x.start x.end) → HtmlKind source bytes x k
   Owned : (k ≡ items.OwnedHtml bytes) → HtmlKind source bytes x k
@@ -336,9 +336,9 @@ module _ (leaf : LeafText) (reader : Reader) (read : Leaf) (place : ℕ → ℕ)
   bytes-are : place_of leaf s ≡ x.start → place_of leaf (e - 1) + 1 ≡ x.end → slice src x.start x.end ≡ slice src (place s) (suc (place (e - 1)))
   bytes-are a b = ap (λ n. slice src n x.end) (begins-at a) ∙ ap (slice src (place s)) (ends-at b)
 
-  -- what stands behind the place
+  -- the bytes from the place on
   later : slice src (place s) (suc (place (e - 1))) ≡ slice txt s e → place_of leaf (e - 1) + 1 ≡ x.end → slice txt t e ≡ slice src (place t) x.end
-  later same b = sym (ap (slice src (place t)) (ends-at b) ∙ behind leaf reader read place places s e some within (by-bytes leaf reader read place places s e some within same) t (omega (arith, low)) high)
+  later same b = sym (ap (slice src (place t)) (ends-at b) ∙ following leaf reader read place places s e some within (by-bytes leaf reader read place places s e some within same) t (omega (arith, low)) high)
 
   -- a text of the bytes of its range
   as-bytes : slice src (place s) (suc (place (e - 1))) ≡ slice txt s e → IsText x.kind → place_of leaf (e - 1) + 1 ≡ x.end → Goal kind.Text
@@ -348,7 +348,7 @@ module _ (leaf : LeafText) (reader : Reader) (read : Leaf) (place : ℕ → ℕ)
   as-source : (end : ℕ) → end ≡ x.end → IsText x.kind → IsLike src (row.ItemSlot (item items.Own (place_of leaf t) end)) (row.ItemSlot cut_item)
   as-source end b is = record { start = first-is; end = b; event = ap event.Text (ap (λ n. slice src n end) first-is ∙ ap (slice src (place t)) b) ∙ sym (text-event src cut_item x.kind is); lines = λ q. sym (text-html x.kind is) }
 
-  -- something else
+  -- an item of another kind
   as-other : (k : ItemKind) → is_html k ≡ false → place_of leaf (e - 1) + 1 ≡ x.end → (n : Event) → IsOther n → ((z : Item) → event_of src z k ≡ n) → n ≡ event_of src x x.kind → IsLike src (row.ItemSlot (item k (place_of leaf t) (place_of leaf (e - 1) + 1))) (row.ItemSlot cut_item)
   as-other k plain b n o same h = record { start = first-is; end = b; event = same (item k (place_of leaf t) (place_of leaf (e - 1) + 1)) ∙ other-event src x cut_item x.kind n o h; lines = λ q. plain ∙ sym (other-html src x x.kind n o h) }
 
@@ -397,14 +397,14 @@ module _ (leaf : LeafText) (reader : Reader) (read : Leaf) (place : ℕ → ℕ)
       go true f (Owned is) = subst Goal (sym (ap (λ z. if z then kind.CutHtml s else kind.InlineHtml) f)) (html-owned (place_of leaf (e - 1) + 1) h.end (written leaf s e) is)
       go false f (Part is same) =
           subst Goal (sym (ap (λ z. if z then kind.CutHtml s else kind.InlineHtml) f))
-          (html-part (place_of leaf (e - 1) + 1) h.end is (written leaf t e) (later (sym (same ∙ bytes-are h.start h.end)) h.end) (none-behind txt s e t within (omega (arith, low)) f))
+          (html-part (place_of leaf (e - 1) + 1) h.end is (written leaf t e) (later (sym (same ∙ bytes-are h.start h.end)) h.end) (none-following txt s e t within (omega (arith, low)) f))
       go false f (Owned is) = absurd (true≢false (sym (owned-lines (written leaf s e) is) ∙ f))
   cut-as (kind.CutHtml from) h = go (takes_lines (written leaf from e)) refl (html-kind src (written leaf from e) x x.kind h.event)
     where
-      -- no line ends among the bytes of the range
+      -- the bytes of the range end no line
       joined : takes_lines (slice src x.start x.end) ≡ false → (z : Bool) → takes_lines (slice txt s e) ≡ z → slice src (place s) (suc (place (e - 1))) ≡ slice txt s e
       joined n true f = absurd (true≢false (sym (ap takes_lines (bytes-are h.start h.end) ∙ ends-there leaf reader read place places s e some within f) ∙ n))
-      joined n false f = behind leaf reader read place places s e some within (by-content leaf reader read place places s e some within f) s (omega arith) some
+      joined n false f = following leaf reader read place places s e some within (by-content leaf reader read place places s e some within f) s (omega arith) some
 
       go : (z : Bool) → takes_lines (written leaf from e) ≡ z → HtmlKind src (written leaf from e) x x.kind → Goal (cut_kind txt s e (kind.CutHtml from))
       go true f (Part is same) = absurd (true≢false (sym (line-kinds _ _ false h.start h.end h.lines (ap takes_lines (sym same) ∙ f) ∙ ap is_html is)))
@@ -412,7 +412,7 @@ module _ (leaf : LeafText) (reader : Reader) (read : Leaf) (place : ℕ → ℕ)
       go false f (Part is same) =
           subst Goal (sym (ap (λ z. if z then kind.CutHtml from else kind.InlineHtml) f))
           (html-part (place_of leaf (e - 1) + 1) h.end is (written leaf t e) (later (joined (ap takes_lines (sym same) ∙ f) (takes_lines (slice txt s e)) refl) h.end)
-          (none-behind txt s e t within (omega (arith, low)) (ap takes_lines (sym (bytes-are h.start h.end ∙ joined (ap takes_lines (sym same) ∙ f) (takes_lines (slice txt s e)) refl)) ∙ ap takes_lines (sym same) ∙ f)))
+          (none-following txt s e t within (omega (arith, low)) (ap takes_lines (sym (bytes-are h.start h.end ∙ joined (ap takes_lines (sym same) ∙ f) (takes_lines (slice txt s e)) refl)) ∙ ap takes_lines (sym same) ∙ f)))
       go false f (Owned is) = absurd (true≢false (sym (owned-lines (written leaf from e) is) ∙ f))
   cut-as (kind.SourceHtml end) h = go (html-kind src _ x x.kind h.event)
     where

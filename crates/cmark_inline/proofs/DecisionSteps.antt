@@ -1,4 +1,4 @@
--- What a reference comes to, in the code and in the grammar.
+-- The outcome of a reference, in the code and in the grammar.
 use Rattle.std.specs.Prelude.{if◌then◌else◌, Option, Some, None, option_map}
 use Rattle.std.proofs.Common.{◌≡◌, ◌⊎◌, inl, inr, ℕ, ◌-◌, ◌==◌, true, false, List, [], ◌∷◌, ◌++◌, length, refl, sym, ap, subst, ◌∙◌}
 use Rattle.cmark_grammar.specs.Answers as given
@@ -13,11 +13,11 @@ use Rattle.cmark_grammar.specs.OpenBrackets.{Taken}
 use Rattle.cmark_grammar.specs.Questions.{Question, Exchange}
 use Rattle.cmark_grammar.specs.Readers.{Reader}
 use Rattle.cmark_references.specs.declared.definitions.LinkDef.{LinkDef}
-use Rattle.cmark_text_parts.specs.Shown.{shown_link_type, text_bytes}
-use Rattle.cmark_text_parts.specs.declared.kind.LinkType.{LinkType}
-use Rattle.cmark_text_parts.specs.declared.text.CowStr.{CowStr}
+use Rattle.cmark_values.specs.Shown.{shown_link_type, text_bytes}
+use Rattle.cmark_values.specs.declared.kind.LinkType.{LinkType}
+use Rattle.cmark_values.specs.declared.text.CowStr.{CowStr}
 use Rattle.cmark_inline.specs.Decided.{AsksOf, said, shown_answer, shown_question, target_outcome, with_left, LeadsTo}
-use Rattle.cmark_inline.specs.Linked.{AsksOfReference, Said, said_by, said_in, Refers, Answers, IsAnswered, IsQuestion, parted, left_behind, target_link}
+use Rattle.cmark_inline.specs.Linked.{AsksOfReference, Said, said_by, said_in, Refers, Answers, IsAnswered, IsQuestion, parted, left_after, target_link}
 use Rattle.cmark_inline.specs.declared.callback.BrokenLink.{BrokenLink}
 use Rattle.cmark_inline.specs.declared.reference.Destination.{Destination}
 use Rattle.cmark_inline.specs.declared.link.Target.{Target}
@@ -26,7 +26,7 @@ module _ {F : Type 0} (R : F → BrokenLink → Option (CowStr × CowStr) → F 
   abbrev Leads : (decision : Decision) (s : State) (expansion_left : ℕ) (label_close : Option ℕ) (found : Option Target) (before after : F) → Type 0
   Leads decision s expansion_left label_close found before after = LeadsTo R reader leaf place taken closer decision s expansion_left label_close found before after
 
-  -- nothing is formed, and nothing asked
+  -- nothing is formed, and nothing is asked
   pub stays-settled : (decision : Decision) (s : State) (expansion_left : ℕ) (label_close : Option ℕ) (found : Option Target) (before after : F) → decision ≡ Settled (stays reader leaf closer s)
       → found ≡ None → after ≡ before → expansion_left ≡ s.expansion_left → label_close ≡ s.label_close → Leads decision s expansion_left label_close found before after
   stays-settled decision s expansion_left label_close found before after e none same left label =
@@ -34,7 +34,7 @@ module _ {F : Type 0} (R : F → BrokenLink → Option (CowStr × CowStr) → F 
       (subst (λ (t : Option Target). Leads (Settled (stays reader leaf closer s)) s expansion_left label_close t before after) (sym none)
       (record { asked = s.asked; comes = (ap (λ n. stays reader leaf closer (with_left n label_close s.asked s)) left ∙ ap (λ l. stays reader leaf closer (with_left s.expansion_left l s.asked s)) label, same) }))
 
-  -- the same link
+  -- the links are equal
   same : (s : State) (label_close : Option ℕ) (asked : List Exchange) (t : Target) (form : link.LinkType) (destination title id : List ℕ) (left end resume : ℕ)
       → shown_link_type t.link.link_type ≡ form → text_bytes t.link.dest_url ≡ destination → text_bytes t.link.title ≡ title → text_bytes t.link.id ≡ id
       → left ≡ (s.expansion_left - length destination) - length title → place t.end ≡ end → place t.resume ≡ resume → label_close ≡ s.label_close
@@ -50,7 +50,7 @@ module _ {F : Type 0} (R : F → BrokenLink → Option (CowStr × CowStr) → F 
       ∙ ap (λ z. links reader leaf taken (record { link_type = form; destination = destination; title = title; id = id }) end resume (with_left z label_close asked s)) e
       ∙ ap (λ z. links reader leaf taken (record { link_type = form; destination = destination; title = title; id = id }) end resume (with_left ((s.expansion_left - length destination) - length title) z asked s)) h
 
-  -- the same question
+  -- the questions are equal
   same-question : (named : Named) (form : LinkType) → named.link_type ≡ shown_link_type form → (link : BrokenLink) → IsQuestion form (normal_form named.label) taken.opener.bracket.start named.end link
       → shown_question link ≡ question reader leaf named taken.opener.bracket
   same-question named form shown link q =
@@ -60,11 +60,11 @@ module _ {F : Type 0} (R : F → BrokenLink → Option (CowStr × CowStr) → F 
       ∙ ap (λ z. record { start = z; end = link.span.end; link_type = named.link_type; reference = normal_form named.label }) q.start
       ∙ ap (λ z. record { start = taken.opener.bracket.start; end = z; link_type = named.link_type; reference = normal_form named.label }) q.end
 
-  -- a reference with something left of the reference expansion limit
+  -- a reference, if something is left of the reference expansion limit
   led : (named : Named) (s : State) (form : LinkType) (defined : Option block.Reference) (def : Option LinkDef) (expansion_left : ℕ) (label_close : Option ℕ) (found : Option Target) (before after : F)
       → reader.has_callback ≡ true → option_map said defined ≡ option_map said_by def → named.link_type ≡ shown_link_type form
       → Refers R def form (normal_form named.label) taken.opener.bracket.start named.end before after (option_map target_link found)
-      → expansion_left ≡ left_behind s.expansion_left found → label_close ≡ s.label_close → ((t : Target) → found ≡ Some t → (place t.end ≡ named.end) × (place t.resume ≡ named.resume))
+      → expansion_left ≡ left_after s.expansion_left found → label_close ≡ s.label_close → ((t : Target) → found ≡ Some t → (place t.end ≡ named.end) × (place t.resume ≡ named.resume))
       → Leads (defined_or_asked reader leaf defined named taken closer s) s expansion_left label_close found before after
   led named s form None (Some def) expansion_left label_close found before after callback defs shown refers left label ends = absurd (let z : ⊥ = cc in z)
   led named s form (Some reference) None expansion_left label_close found before after callback defs shown refers left label ends = absurd (let z : ⊥ = cc in z)
@@ -99,7 +99,7 @@ module _ {F : Type 0} (R : F → BrokenLink → Option (CowStr × CowStr) → F 
       asked answer = s.asked ++ (record { question = asks; answer = answer } ∷ [])
 
       go : (d : Option Destination) (t : Option Target) → Answers R form (normal_form named.label) taken.opener.bracket.start named.end before after d × IsAnswered form (normal_form named.label) d (option_map target_link t)
-          → expansion_left ≡ left_behind s.expansion_left t → ((x : Target) → t ≡ Some x → (place x.end ≡ named.end) × (place x.resume ≡ named.resume)) → Leads (Asks asks replied) s expansion_left label_close t before after
+          → expansion_left ≡ left_after s.expansion_left t → ((x : Target) → t ≡ Some x → (place x.end ≡ named.end) × (place x.resume ≡ named.resume)) → Leads (Asks asks replied) s expansion_left label_close t before after
       go None None h l e = record {
         asked = asked None;
         comes = (
@@ -126,7 +126,7 @@ module _ {F : Type 0} (R : F → BrokenLink → Option (CowStr × CowStr) → F 
             );
           }
 
-  -- a reference: where nothing is left of the reference expansion limit nothing is looked up and nothing asked
+  -- a reference, if nothing is left of the reference expansion limit: nothing is looked up or asked
   pub refers-spent : (named : Named) (s : State) (expansion_left : ℕ) (label_close : Option ℕ) (before after : F) → s.expansion_left ≡ 0 → after ≡ before → expansion_left ≡ s.expansion_left → label_close ≡ s.label_close
       → Leads (refers reader leaf named taken closer s) s expansion_left label_close None before after
   refers-spent named s expansion_left label_close before after spent same left label =
@@ -136,14 +136,14 @@ module _ {F : Type 0} (R : F → BrokenLink → Option (CowStr × CowStr) → F 
   pub refers-led : (named : Named) (s : State) (form : LinkType) (def : Option LinkDef) (expansion_left : ℕ) (label_close : Option ℕ) (found : Option Target) (before after : F)
       → reader.has_callback ≡ true → option_map said (reader.definition (fold named.label)) ≡ option_map said_by def → (s.expansion_left == 0) ≡ false → named.link_type ≡ shown_link_type form
       → Refers R def form (normal_form named.label) taken.opener.bracket.start named.end before after (option_map target_link found)
-      → expansion_left ≡ left_behind s.expansion_left found → label_close ≡ s.label_close → ((t : Target) → found ≡ Some t → (place t.end ≡ named.end) × (place t.resume ≡ named.resume))
+      → expansion_left ≡ left_after s.expansion_left found → label_close ≡ s.label_close → ((t : Target) → found ≡ Some t → (place t.end ≡ named.end) × (place t.resume ≡ named.resume))
       → Leads (refers reader leaf named taken closer s) s expansion_left label_close found before after
   refers-led named s form def expansion_left label_close found before after callback defs some shown refers left label ends =
       subst (λ d. Leads d s expansion_left label_close found before after)
       (sym (ap (λ z. if z then Settled (stays reader leaf closer s) else defined_or_asked reader leaf (reader.definition (fold named.label)) named taken closer s) some))
       (led named s form (reader.definition (fold named.label)) def expansion_left label_close found before after callback defs shown refers left label ends)
 
-  -- what was asked for such a reference, if memory was refused
+  -- the questions for this reference, if memory was refused
   asks-led : (named : Named) (s : State) (form : LinkType) (defined : Option block.Reference) (def : Option LinkDef) (before after : F) → reader.has_callback ≡ true → option_map said defined ≡ option_map said_by def → named.link_type ≡ shown_link_type form
       → AsksOfReference R def form (normal_form named.label) taken.opener.bracket.start named.end before after → AsksOf R (defined_or_asked reader leaf defined named taken closer s) before after
   asks-led named s form None (Some def) before after callback defs shown asks = absurd (let z : ⊥ = cc in z)

@@ -1,12 +1,12 @@
--- What the grammar's pass has read with a closing bracket that forms a wikilink which shows what stands behind its pipe.
+-- The parts that the grammar's pass has read with a closing bracket that forms a wikilink with a display text.
 use Rattle.std.specs.Prelude.{drop, take, map, Some}
 use Rattle.std.proofs.Common.{◌≡◌, ◌⊎◌, inl, inr, ℕ, suc, ◌+◌, ◌-◌, ◌<◌, ◌≤◌, ◌==◌, Bool, true, false, true≢false, List, [], ◌∷◌, ◌++◌, length, get_or, refl, sym, ap, subst, ◌∙◌, arith, append_assoc, length-drop}
 use Rattle.std.proofs.lemmas.Bool.{cases_lt}
 use Rattle.std.proofs.lemmas.List.{ext_get_or, get_or-drop, get_or-take, length-take-le, take-append-drop}
-use Rattle.cmark_grammar.specs.BracketDecisions.{decide, behind_pipe, name_in}
+use Rattle.cmark_grammar.specs.BracketDecisions.{decide, after_pipe, name_in}
 use Rattle.cmark_grammar.specs.BracketReading.{Comes}
 use Rattle.cmark_grammar.specs.BracketStates.{State, Forms}
-use Rattle.cmark_grammar.specs.EmphasisModel.{pairs_of, spans_of}
+use Rattle.cmark_inline_model.specs.EmphasisModel.{pairs_of, spans_of}
 use Rattle.cmark_grammar.specs.InlineTokens.{token}
 use Rattle.cmark_grammar.specs.Items as items
 use Rattle.cmark_grammar.specs.Items.{Item}
@@ -18,10 +18,10 @@ use Rattle.cmark_grammar.specs.Parts.{Wiki}
 use Rattle.cmark_grammar.specs.Questions.{AnyAnswer}
 use Rattle.cmark_grammar.specs.Readers.{Reader}
 use Rattle.cmark_grammar.specs.Siblings.{item, wiki_tag}
-use Rattle.cmark_grammar.proofs.EmphasisSound.{sound}
+use Rattle.cmark_inline_model.proofs.EmphasisSound.{sound}
 use Rattle.cmark_leaf_text.specs.Reads.{IsFirstFrom, place_of, text_of}
 use Rattle.cmark_leaf_text.specs.declared.leaf_text.LeafText.{LeafText}
-use Rattle.cmark_inline_model.specs.CutRanges.{IsBehindPipe}
+use Rattle.cmark_inline_model.specs.CutRanges.{IsAfterPipe}
 use Rattle.cmark_inline_model.specs.Displays.{CutFacts, IsCutThere, ShowsLike}
 use Rattle.cmark_inline_model.specs.LikeSlots.{AreLike, IsLike}
 use Rattle.cmark_inline_model.specs.SlotRows as row
@@ -37,9 +37,9 @@ use Rattle.cmark_slots.specs.Standing.{AreEnded, IsTakenPair}
 use Rattle.cmark_inline.specs.Sound.{IsSound}
 use Rattle.cmark_slots.specs.Slots.{AreSlots}
 use Rattle.cmark_inline.specs.Stands.{Stands}
-use Rattle.cmark_slots.specs.Cuts.{Hides, IsFirstBehind, cut_at, cut_slot, ends_by, hidden}
+use Rattle.cmark_slots.specs.Cuts.{Hides, IsFirstAfter, cut_at, cut_slot, ends_by, hidden}
 use Rattle.cmark_inline.specs.Wikilinks.{Shows, ShowsFrom, display_place, has_pothole, shown_name, wiki_start, wiki_text}
-use Rattle.cmark_inline.specs.FormedSlots.{dressed_behind, wrapped}
+use Rattle.cmark_inline.specs.FormedSlots.{dressed_after, wrapped}
 use Rattle.cmark_slots.specs.declared.bracket.Bracket.{Bracket}
 use Rattle.cmark_slots.specs.declared.slot.Slot.{Slot}
 use Rattle.cmark_inline.specs.declared.state.InlineState.{InlineState}
@@ -57,7 +57,7 @@ use Rattle.cmark_slots.proofs.Opening.{is-pair, last-nearest}
 -- ## Slots of which some are hidden, and one is cut
 
 hides-mid : (mid rest new : List Slot) → Hides 0 (length mid) (mid ++ rest) new → new ≡ map hidden mid ++ rest
-hides-mid [] rest new h = ext_get_or no-slot new rest h.size (λ i lt. h.behind i no-slot (omega arith))
+hides-mid [] rest new h = ext_get_or no-slot new rest h.size (λ i lt. h.following i no-slot (omega arith))
 hides-mid (s ∷ mid) rest [] h = absurd (let n = h.size in omega (arith, n))
 hides-mid (s ∷ mid) rest (x ∷ new) h =
     let first : x ≡ hidden s = h.inside 0 no-slot (omega arith) (omega arith) in
@@ -81,7 +81,7 @@ length-hidden : (mid : List Slot) → length (map hidden mid) ≡ length mid
 length-hidden [] = refl
 length-hidden (s ∷ mid) = ap suc (length-hidden mid)
 
--- ## The place behind the pipe
+-- ## The place after the pipe
 
 module _ (leaf : LeafText) (reader : Reader) (read : Leaf) (place : ℕ → ℕ) (places : ReadsPlaces leaf reader read place) where
   byte-order : (j k : ℕ) → j < k → k < length (text_of leaf) → place_of leaf j < place_of leaf k
@@ -96,9 +96,9 @@ module _ (leaf : LeafText) (reader : Reader) (read : Leaf) (place : ℕ → ℕ)
     low : t ≤ close
     is : place_of leaf t ≡ display
 
-  -- it is that of a byte, since the pipe is one
-  display-there : (inner close display t : ℕ) → close < length (text_of leaf) → inner < length (text_of leaf) → place_of leaf inner < display → display ≤ place_of leaf close → IsFirstFrom leaf display t → IsBehindPipe reader.options reader.source display → IsThere close display t
-  display-there inner close display t close_fits inner_fits behind up first pipe = go (cases_lt close t)
+  -- it is the place of a byte of the text, since the pipe is a byte of the text
+  display-there : (inner close display t : ℕ) → close < length (text_of leaf) → inner < length (text_of leaf) → place_of leaf inner < display → display ≤ place_of leaf close → IsFirstFrom leaf display t → IsAfterPipe reader.options reader.source display → IsThere close display t
+  display-there inner close display t close_fits inner_fits following up first pipe = go (cases_lt close t)
     where
       found : t ≤ close → IsThere close display t
       found le = after (cases_lt inner t)
@@ -107,7 +107,7 @@ module _ (leaf : LeafText) (reader : Reader) (read : Leaf) (place : ℕ → ℕ)
           fits = omega (arith, le, close_fits)
 
           after : (inner < t) ⊎ (t ≤ inner) → IsThere close display t
-          after (inr g) = let a = first.behind inner g inner_fits in absurd (omega (arith, a, behind))
+          after (inr g) = let a = first.following inner g inner_fits in absurd (omega (arith, a, following))
           after (inl l) = here (cases_lt (place (t - 1)) (display - 1))
             where
               k_fits : suc (t - 1) < length (text_of leaf)
@@ -120,7 +120,7 @@ module _ (leaf : LeafText) (reader : Reader) (read : Leaf) (place : ℕ → ℕ)
               early = let a = first.before (t - 1) (omega (arith, l)) in let b = places.bytes (t - 1) (omega (arith, l, fits)) in omega (arith, a, b)
 
               late : display ≤ place (suc (t - 1))
-              late = let a = first.behind t (omega arith) fits in let b = places.bytes t fits in let c = ap place next in omega (arith, a, b, c)
+              late = let a = first.following t (omega arith) fits in let b = places.bytes t fits in let c = ap place next in omega (arith, a, b, c)
 
               here : (place (t - 1) < display - 1) ⊎ (display - 1 ≤ place (t - 1)) → IsThere close display t
               here (inl gap) =
@@ -169,17 +169,17 @@ module _ (leaf : LeafText) (reader : Reader) (read : Leaf) (place : ℕ → ℕ)
     from_is : b.slot + 1 ≡ n
     from_is = omega arith
 
-    first : IsFirstBehind slots n t at
-    first = subst (λ f. IsFirstBehind slots f t at) from_is (subst (λ p. IsFirstBehind slots (b.slot + 1) p at) place_is shows.first)
+    first : IsFirstAfter slots n t at
+    first = subst (λ f. IsFirstAfter slots f t at) from_is (subst (λ p. IsFirstAfter slots (b.slot + 1) p at) place_is shows.first)
 
     front-count : length front ≡ n
     front-count = length-take-le n slots (omega (arith, there))
 
-    behind-count : length (drop n slots) ≡ length slots - n
-    behind-count = length-drop n slots
+    following-count : length (drop n slots) ≡ length slots - n
+    following-count = length-drop n slots
 
     mid-count : length mid ≡ at - n
-    mid-count = length-take-le (at - n) (drop n slots) (let w = first.within in let c = behind-count in omega (arith, w, c))
+    mid-count = length-take-le (at - n) (drop n slots) (let w = first.within in let c = following-count in omega (arith, w, c))
 
     parts : slots ≡ front ++ (mid ++ rest)
     parts = sym (take-append-drop n slots) ∙ ap (λ l. front ++ l) (sym (take-append-drop (at - n) (drop n slots)))
@@ -223,7 +223,7 @@ module _ (leaf : LeafText) (reader : Reader) (read : Leaf) (place : ℕ → ℕ)
         let size = ap length same in
         record { some = s.part.some; within = omega (arith, p, size); ends = e }
 
-    -- each slot of the middle ends by the place
+    -- each slot before the display text ends by the place
     mid-past : Past leaf reader.source st.texts.items st.links.items order t display within is mid
     mid-past = by mid (λ k d lt. (one k d lt).0) (λ k d lt. (one k d lt).1)
       where
@@ -239,16 +239,16 @@ module _ (leaf : LeafText) (reader : Reader) (read : Leaf) (place : ℕ → ℕ)
         by [] f g = tt
         by (s ∷ l) f g = (f 0 no-slot (omega arith), g 0 no-slot (omega arith), by l (λ k d lt. f (suc k) d (omega (arith, lt))) (λ k d lt. g (suc k) d (omega (arith, lt))))
 
-    -- the first of the others begins at the place, if it is cut
+    -- the first slot of the display text begins at the place, if it is cut
     slot-cut : (k : ℕ) (d : Slot) → k < length slots → t < (get_or slots k d).end → (x : Item) → IsLike reader.source (shown_slot leaf st.texts.items st.links.items (get_or slots k d)) (row.ItemSlot x) → (get_or slots k d).start < t → display < x.end → CutFacts reader.source x
         → IsLike reader.source (shown_slot leaf st.texts.items st.links.items (cut_slot text t (get_or slots k d))) (row.ItemSlot (item x.kind display x.end))
-    slot-cut k d lt behind x like before past facts =
+    slot-cut k d lt following x like before past facts =
         let here : place t ≡ display = sym (places.bytes t within) ∙ is in
         let g = good k d lt in
         let further : place t < x.end = omega (arith, here, past) in
         subst (λ n. IsLike reader.source (shown_slot leaf st.texts.items st.links.items (cut_slot text t (get_or slots k d))) (row.ItemSlot (item x.kind n x.end))) here
         (subst (λ l. IsLike reader.source (shown_slot leaf st.texts.items st.links.items (cut_slot l t (get_or slots k d))) (row.ItemSlot (item x.kind (place t) x.end))) (sym same)
-        (cut-like leaf reader read place places st.texts.items st.links.items (get_or slots k d) t before behind g.within x facts further like))
+        (cut-like leaf reader read place places st.texts.items st.links.items (get_or slots k d) t before following g.within x facts further like))
 
     rest-first : (rows : List row.Slot) (like : AreLike reader.source (shown_slots leaf st.texts.items st.links.items (front ++ (mid ++ rest))) rows)
         → FirstShown leaf reader.source st.texts.items st.links.items order t display within is text front mid rest rows like mid-past rest
@@ -260,7 +260,7 @@ module _ (leaf : LeafText) (reader : Reader) (read : Leaf) (place : ℕ → ℕ)
             get_or-drop (at - n) (drop n slots) 0 d ∙ get_or-drop n slots (at - n + 0) d ∙ ap (λ k. get_or slots k d) (let q : n + (at - n + 0) ≡ at = omega (arith, o) in q)
 
         size : 0 < length rest → at < length slots
-        size lt = let a = length-drop (at - n) (drop n slots) in let c = behind-count in let o = first.order in omega (arith, lt, a, c, o)
+        size lt = let a = length-drop (at - n) (drop n slots) in let c = following-count in let o = first.order in omega (arith, lt, a, c, o)
 
         by : (l : List Slot) → ((d : Slot) → get_or l 0 d ≡ get_or slots at d) → (0 < length l → at < length slots)
             → FirstShown leaf reader.source st.texts.items st.links.items order t display within is text front mid rest rows like mid-past l
@@ -270,10 +270,10 @@ module _ (leaf : LeafText) (reader : Reader) (read : Leaf) (place : ℕ → ℕ)
             let one : slot ≡ get_or slots at no-slot = e no-slot in (
               subst Good (sym one) (good at no-slot lt),
               subst (λ s. ends_by t s ≡ false) (sym one) (first.shown no-slot lt),
-              subst (λ s. t < s.end) (sym one) (first.behind no-slot lt),
+              subst (λ s. t < s.end) (sym one) (first.following no-slot lt),
               (λ x like1 before1 past1 facts.
                   subst (λ (s : Slot). IsLike reader.source (shown_slot leaf st.texts.items st.links.items (cut_slot text t s)) (row.ItemSlot (item x.kind display x.end))) (sym one)
-                  (slot-cut at no-slot lt (first.behind no-slot lt) x (subst (λ (s : Slot). IsLike reader.source (shown_slot leaf st.texts.items st.links.items s) (row.ItemSlot x)) one like1) (subst (λ (s : Slot). s.start < t) one before1) past1 facts)),
+                  (slot-cut at no-slot lt (first.following no-slot lt) x (subst (λ (s : Slot). IsLike reader.source (shown_slot leaf st.texts.items st.links.items s) (row.ItemSlot x)) one like1) (subst (λ (s : Slot). s.start < t) one before1) past1 facts)),
             )
 
     pub shows-like : (start : ℕ) → start ≡ place_of leaf close → (rows : List row.Slot) → AreLike reader.source (shown_slots leaf st.texts.items st.links.items slots) rows → IsCutThere reader.source (suc b.slot) display rows
@@ -306,8 +306,8 @@ module _ (leaf : LeafText) (reader : Reader) (read : Leaf) (place : ℕ → ℕ)
   two-within : close + 1 < length (text_of leaf)
   two-within = let l = past in subst (λ (l : List ℕ). close + 1 < length l) same l
 
-  behind-close : ReadsPlaces leaf reader read place → place_of leaf (close + 1) + 1 ≡ suc closer.end
-  behind-close places =
+  following-close : ReadsPlaces leaf reader read place → place_of leaf (close + 1) + 1 ≡ suc closer.end
+  following-close places =
       let w = two-within in
       let content : is_content (get_or (text_of leaf) close 0) ≡ true = ap (λ (l : List ℕ). is_content (get_or l close 0)) (sym same) ∙ ap is_content c.byte in
       let e = places.bytes (close + 1) w in
@@ -319,7 +319,7 @@ module _ (leaf : LeafText) (reader : Reader) (read : Leaf) (place : ℕ → ℕ)
   ended-now : AreEnded leaf old.slots.items → AreEnded leaf st.slots.items
   ended-now ended = subst (AreEnded leaf) (sym rows.slots) (ended-pending leaf old.slots.items mine.slots.items from close is.pushes ended)
 
-  pub display-reads : (display t : ℕ) → writes.wikilink.display ≡ Some t → Some display ≡ behind_pipe (wiki_start leaf (record i.bracket { inside = i.inner + 1 })) (wiki_text leaf (record i.bracket { inside = i.inner + 1 }) close) → (next : State)
+  pub display-reads : (display t : ℕ) → writes.wikilink.display ≡ Some t → Some display ≡ after_pipe (wiki_start leaf (record i.bracket { inside = i.inner + 1 })) (wiki_text leaf (record i.bracket { inside = i.inner + 1 }) close) → (next : State)
       → Comes AnyAnswer s.asked (decide reader read s closer) (record { result = Forms first.nearer (Wiki name (Some display) (suc closer.end)); after = next }) → AreEnded leaf old.slots.items
       → ReadsOn leaf reader read place from close closer s bs (record { result = Forms first.nearer (Wiki name (Some display) (suc closer.end)); after = next }) old new
   display-reads display t shows_at display_is next comes ended = λ places tok before pass flushed state_is pushes others h.
@@ -335,10 +335,10 @@ module _ (leaf : LeafText) (reader : Reader) (read : Leaf) (place : ℕ → ℕ)
       let read_so = read-before leaf reader read place closer s bs from close old mine st new is rows before pass flushed pushes others h in
       let starts = opener-first leaf reader read place before pass bs st read_so b first.nearer i.there pair.placed.there no-slot (pair.placed.text no-slot) in
       let named : wikilink.name.now ≡ name = writes.is.name ∙ sym name_is in
-      let from_there : IsFirstFrom leaf display t = subst (λ o. ShowsFrom leaf o (Some t)) (sym display_is) (subst (ShowsFrom leaf (behind_pipe (wiki_start leaf entry) (wiki_text leaf entry close))) shows_at writes.is.display) in
-      let behind : place_of leaf i.inner < display = (let q = (pipe-is (wiki_start leaf entry) (wiki_text leaf entry close) display (sym display_is)).behind in let e = ap (place_of leaf) (let z : i.inner + 1 - 1 ≡ i.inner = omega arith in z) in omega (arith, q, e)) in
+      let from_there : IsFirstFrom leaf display t = subst (λ o. ShowsFrom leaf o (Some t)) (sym display_is) (subst (ShowsFrom leaf (after_pipe (wiki_start leaf entry) (wiki_text leaf entry close))) shows_at writes.is.display) in
+      let following : place_of leaf i.inner < display = (let q = (pipe-is (wiki_start leaf entry) (wiki_text leaf entry close) display (sym display_is)).following in let e = ap (place_of leaf) (let z : i.inner + 1 - 1 ≡ i.inner = omega arith in z) in omega (arith, q, e)) in
       let at_close : place_of leaf close ≡ closer.start = places.bytes close close_fits ∙ sym c.start in
-      let dressed : Options → List row.Slot = λ o. dressed_behind o left (pairs_of siblings) runs quotes now in
+      let dressed : Options → List row.Slot = λ o. dressed_after o left (pairs_of siblings) runs quotes now in
       let begin : List ℕ → Bool → ℕ → ℕ → row.Slot = λ n z a e. row.BeginSlot (wiki_tag b.is_image n z) a e in
       display-read leaf reader read place before pass bs st new read_so places.turn places.lines b closer first.nearer name display (suc closer.end) next i.there
       (ap (λ (x : State). token reader read x.at) state_is ∙ tok)
@@ -348,13 +348,13 @@ module _ (leaf : LeafText) (reader : Reader) (read : Leaf) (place : ℕ → ℕ)
         slot = w.left.slot;
         runs_order = w.left.runs_order;
         runs_before = w.left.runs_before;
-        runs_behind = w.left.runs_behind;
+        runs_after = w.left.runs_after;
         quotes_order = w.left.quotes_order;
         quotes_before = w.left.quotes_before;
-        quotes_behind = w.left.quotes_behind;
+        quotes_after = w.left.quotes_after;
       })
       (λ slots like cut pipe low.
-      let th = display-there leaf reader read place places i.inner close display t close_fits (let q = i.before in omega (arith, q, close_fits)) behind (omega (arith, low, at_close)) from_there pipe in
+      let th = display-there leaf reader read place places i.inner close display t close_fits (let q = i.before in omega (arith, q, close_fits)) following (omega (arith, low, at_close)) from_there pipe in
       shows-like leaf reader read place places text same st close close_fits stands.slots (ended-now ended) b pair.placed.there i.inner wikilink display t shows_at w.shown w.at w.shows th.within th.low th.is closer.start (sym at_close) slots like cut)
       (pairs_of siblings) (spans_of siblings) (sound siblings)
       (w.slots leaf (pairs_of siblings) (spans_of siblings) no-slot (sound siblings)
@@ -362,5 +362,5 @@ module _ (leaf : LeafText) (reader : Reader) (read : Leaf) (place : ℕ → ℕ)
       ∙ ap (λ n. wrapped b.slot (begin n (has_pothole wikilink.display) (first_of leaf (get_or st.slots.items b.slot no-slot)) (place_of leaf (close + 1) + 1)) (dressed reader.options)) named
       ∙ ap (λ o. wrapped b.slot (begin name (has_pothole o) (first_of leaf (get_or st.slots.items b.slot no-slot)) (place_of leaf (close + 1) + 1)) (dressed reader.options)) shows_at
       ∙ ap (λ n. wrapped b.slot (begin name true n (place_of leaf (close + 1) + 1)) (dressed reader.options)) starts
-      ∙ ap (λ n. wrapped b.slot (begin name true (place b.start) n) (dressed reader.options)) (behind-close places))
+      ∙ ap (λ n. wrapped b.slot (begin name true (place b.start) n) (dressed reader.options)) (following-close places))
       w.forgets.runs w.forgets.quotes

@@ -1,4 +1,4 @@
--- With a wikilink that shows what stands behind its pipe the state stands for one step more of the pass.
+-- With a wikilink that has a display text, the state represents one step more of the pass.
 use Rattle.std.specs.Prelude.{map, drop, take, get_or, Some}
 use Rattle.std.proofs.Common.{◌≡◌, ℕ, zero, suc, ◌+◌, ◌<◌, ◌≤◌, List, [], ◌∷◌, length, refl, sym, ap, ◌∙◌, subst, arith}
 use Rattle.std.proofs.lemmas.List.{drop-map, take-map, get_or-map, length-map}
@@ -19,7 +19,7 @@ use Rattle.cmark_grammar.specs.Spans.{Spans}
 use Rattle.cmark_emphasis.specs.Shown.{shown_quote, shown_run}
 use Rattle.cmark_leaf_text.specs.declared.leaf_text.LeafText.{LeafText}
 use Rattle.cmark_inline_model.specs.BracketPass.{Pass, closed_by}
-use Rattle.cmark_inline_model.specs.CutRanges.{IsBehindPipe}
+use Rattle.cmark_inline_model.specs.CutRanges.{IsAfterPipe}
 use Rattle.cmark_inline_model.specs.Displays.{IsCutThere, LeavesQuotes, LeavesRuns, ShowsLike, display_target}
 use Rattle.cmark_inline_model.specs.LeafModel.{HaveLineEnds}
 use Rattle.cmark_inline_model.specs.LikeSlots.{AreLike}
@@ -33,15 +33,15 @@ use Rattle.cmark_slots.specs.MarkedSlots.{places_of, siblings_from}
 use Rattle.cmark_inline.specs.Reached.{HasRead, bracket_place, runs_of, quotes_of}
 use Rattle.cmark_slots.specs.SlotViews.{shown_slots}
 use Rattle.cmark_slots.specs.Standing.{HaveSizes}
-use Rattle.cmark_inline.specs.FormedSlots.{dressed_behind}
+use Rattle.cmark_inline.specs.FormedSlots.{dressed_after}
 use Rattle.cmark_slots.specs.declared.bracket.Bracket.{Bracket}
 use Rattle.cmark_slots.specs.declared.delimiter.PlacedRun.{PlacedRun}
 use Rattle.cmark_slots.specs.declared.quote.PlacedQuote.{PlacedQuote}
 use Rattle.cmark_inline.specs.declared.state.InlineState.{InlineState}
-use Rattle.cmark_inline.proofs.LinkSteps.{bytes-behind, bytes-front, siblings-counted, quotes-map}
+use Rattle.cmark_inline.proofs.LinkSteps.{bytes-following, bytes-front, siblings-counted, quotes-map}
 use Rattle.cmark_slots.proofs.Placing.{no-quote, no-run}
 
--- ## Where runs begin
+-- ## The first slots of runs
 
 get-places : (n at size : ℕ) (l : List ℕ) → get_or (run_places at size l) (size + n) 0 ≡ get_or l n 0
 get-places n at zero l = ap (λ k. get_or l k 0) (let q : 0 + n ≡ n = omega arith in q)
@@ -63,7 +63,7 @@ runs-left at runs quotes b left sizes h =
     record {
       order = h.runs_order;
       before = λ k a c lt. subst (λ x. x < at) (sym (run-start k runs no-run sizes (omega (arith, lt, n)))) (h.runs_before k no-run a c);
-      behind = λ lt. subst (λ x. at ≤ x) (sym (run-start left.runs runs no-run sizes (omega (arith, lt, n)))) (h.runs_behind no-run (omega (arith, lt, n)));
+      following = λ lt. subst (λ x. at ≤ x) (sym (run-start left.runs runs no-run sizes (omega (arith, lt, n)))) (h.runs_after no-run (omega (arith, lt, n)));
     }
 
 quotes-left : (at : ℕ) (runs : List PlacedRun) (quotes : List PlacedQuote) (b left : Bracket) → AreLeft at runs quotes b left → LeavesQuotes b.quotes left.quotes at (map (λ (q : PlacedQuote). q.slot) quotes)
@@ -72,7 +72,7 @@ quotes-left at runs quotes b left h =
     record {
       order = h.quotes_order;
       before = λ k a c lt. subst (λ x. x < at) (sym (get_or-map (λ (x : PlacedQuote). x.slot) quotes k no-quote 0 (omega (arith, lt, n)))) (h.quotes_before k no-quote a c);
-      behind = λ lt. subst (λ x. at ≤ x) (sym (get_or-map (λ (x : PlacedQuote). x.slot) quotes left.quotes no-quote 0 (omega (arith, lt, n)))) (h.quotes_behind no-quote (omega (arith, lt, n)));
+      following = λ lt. subst (λ x. at ≤ x) (sym (get_or-map (λ (x : PlacedQuote). x.slot) quotes left.quotes no-quote 0 (omega (arith, lt, n)))) (h.quotes_after no-quote (omega (arith, lt, n)));
     }
 
 -- ## The step
@@ -91,11 +91,11 @@ module _ (leaf : LeafText) (reader : Reader) (read : Leaf) (place : ℕ → ℕ)
       → (b : Bracket) (closer : items.Bracket) (nearer : ℕ) (name : List ℕ) (display end : ℕ) (next : State) → drop nearer bs ≡ b ∷ drop (suc nearer) bs → token reader read p.state.at ≡ Closes closer
       → Comes AnyAnswer p.state.asked (decide reader read p.state closer) (record { result = Forms nearer (Wiki name (Some display) end); after = next })
       → HaveSizes old.delimiters.placed.items → (left : Bracket) (at : ℕ) (now : List row.Slot) → AreLeft at old.delimiters.placed.items old.quotes.placed.items b left
-      → ((slots : List row.Slot) → AreLike reader.source (shown_slots leaf old.texts.items old.links.items old.slots.items) slots → IsCutThere reader.source (suc b.slot) display slots → IsBehindPipe reader.options reader.source display → display ≤ closer.start
+      → ((slots : List row.Slot) → AreLike reader.source (shown_slots leaf old.texts.items old.links.items old.slots.items) slots → IsCutThere reader.source (suc b.slot) display slots → IsAfterPipe reader.options reader.source display → display ≤ closer.start
       → ShowsLike reader.source (suc b.slot) display closer.start at slots now)
       → (pairs : List Pair) (spans : Spans) → IsEmphasis (siblings_from 0 (drop left.runs old.delimiters.placed.items)) pairs spans
       → shown_slots leaf new.texts.items new.links.items new.slots.items
-      ≡ linked_slots (bracket_place place b) (display_target name end) (dressed_behind reader.options left pairs old.delimiters.placed.items old.quotes.placed.items now)
+      ≡ linked_slots (bracket_place place b) (display_target name end) (dressed_after reader.options left pairs old.delimiters.placed.items old.quotes.placed.items now)
       → new.delimiters.placed.items ≡ take b.runs old.delimiters.placed.items → new.quotes.placed.items ≡ take b.quotes old.quotes.placed.items
       → HasRead leaf reader read place before (closed_by p closer (record { result = Forms nearer (Wiki name (Some display) end); after = next })) (drop (suc nearer) bs) new
   display-read turn lines b closer nearer name display end next there t comes sizes left at now are shows pairs spans e slots_are runs_are quotes_are =
@@ -114,7 +114,7 @@ module _ (leaf : LeafText) (reader : Reader) (read : Leaf) (place : ℕ → ℕ)
       (runs-left at runs quotes b left sizes are) (quotes-left at runs quotes b left are) shows pairs spans emphasis in
       let made : List ℕ → List ℕ → List Quote → List row.Slot = λ bytes places quotes. marked reader.options bytes (marks_by (length bytes) pairs) (quoted places (quote_characters [] quotes) now) [] in
       let dressed : made (drop m bytes) (drop left.quotes (slot_places quotes)) (drop left.quotes (quotes_of quotes)) ≡ made (places_of (drop left.runs runs)) (slot_places (drop left.quotes quotes)) (map shown_quote (map (λ (x : PlacedQuote). x.quote) (drop left.quotes quotes))) =
-      ap (λ l. made l (drop left.quotes (slot_places quotes)) (drop left.quotes (quotes_of quotes))) (bytes-behind left.runs runs)
+      ap (λ l. made l (drop left.quotes (slot_places quotes)) (drop left.quotes (quotes_of quotes))) (bytes-following left.runs runs)
       ∙ ap (λ l. made (places_of (drop left.runs runs)) l (drop left.quotes (quotes_of quotes))) (drop-map (λ (x : PlacedQuote). x.slot) left.quotes quotes)
       ∙ ap (λ l. made (places_of (drop left.runs runs)) (slot_places (drop left.quotes quotes)) l) (drop-map (λ (x : PlacedQuote). shown_quote x.quote) left.quotes quotes ∙ sym (quotes-map (drop left.quotes quotes))) in
       let slots : linked_slots bp target (made (drop m bytes) (drop left.quotes (slot_places quotes)) (drop left.quotes (quotes_of quotes))) ≡ shown_slots leaf new.texts.items new.links.items new.slots.items =

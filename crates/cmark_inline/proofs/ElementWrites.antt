@@ -10,7 +10,7 @@ use Rattle.cmark_grammar.specs.Spans.{Spans}
 use Rattle.cmark_grammar.specs.Tag.{Tag}
 use Rattle.cmark_leaf_text.specs.Reads.{place_of}
 use Rattle.cmark_leaf_text.specs.declared.leaf_text.LeafText.{LeafText}
-use Rattle.cmark_text_parts.specs.declared.text.CowStr.{CowStr}
+use Rattle.cmark_values.specs.declared.text.CowStr.{CowStr}
 use Rattle.cmark_inline_model.specs.SlotRows as row
 use Rattle.cmark_inline_model.specs.SlotRows.{marks_by}
 use Rattle.cmark_slots.specs.MarkedSlots.{begun_as, places_of, siblings_from}
@@ -19,7 +19,7 @@ use Rattle.cmark_references.specs.Links.{shown_link}
 use Rattle.cmark_slots.specs.SlotViews.{first_of, linked_or_none, shown_element, shown_slot, shown_slots}
 use Rattle.cmark_slots.specs.Standing.{AreNamed, CanSettle}
 use Rattle.cmark_slots.specs.Slots.{AreSlots}
-use Rattle.cmark_inline.specs.FormedSlots.{WritesElement, dressed_behind, end_slot, wrapped}
+use Rattle.cmark_inline.specs.FormedSlots.{WritesElement, dressed_after, end_slot, wrapped}
 use Rattle.cmark_slots.specs.declared.bracket.Bracket.{Bracket}
 use Rattle.cmark_slots.specs.declared.delimiter.PlacedRun.{PlacedRun}
 use Rattle.cmark_references.specs.declared.link.Link.{Link}
@@ -34,7 +34,7 @@ use Rattle.cmark_slots.proofs.Longer.{get-last, shown-longer}
 use Rattle.cmark_slots.proofs.RunPlaces.{all-ahead}
 use Rattle.cmark_inline.proofs.Wrapping.{AreInside, ahead-inside, dressed-wrapped, texts-inside}
 
--- the tag of a link or an image whose parts come last into the table
+-- the tag of a link or an image whose parts are the last of the table
 pub link-shown : (links : List Link) (parts : Link) (index : ℕ) → index ≡ length links → shown_element (links ++ (parts ∷ [])) (element.Link index) ≡ tag_by false (shown_link parts)
 link-shown links parts index e = ap (λ i. shown_element (links ++ (parts ∷ [])) (element.Link i)) e ∙ ap (λ o. tag_by false (linked_or_none o)) (get-last links parts)
 
@@ -55,15 +55,15 @@ module _ (leaf : LeafText) (texts : List CowStr) (links links1 : List Link) (at 
       ∙ ap (λ t. row.BeginSlot t (first_of leaf (get_or slots at d)) (place_of leaf (max (get_or slots at d).end end - 1) + 1)) shows
       ∙ ap (λ n. row.BeginSlot tag (first_of leaf (get_or slots at d)) (place_of leaf (n - 1) + 1)) (larger (get_or slots at d).end end before)
 
-  -- the slots before they are dressed
+  -- the slots before characters and marks are written
   pub ends-shown : shown_slots leaf texts links1 (set slots at s ++ (end_slot close end ∷ [])) ≡ set (shown_slots leaf texts links slots) at begin ++ (row.EndSlot ∷ [])
   ends-shown =
       map-append (shown_slot leaf texts links1) (set slots at s) (end_slot close end ∷ [])
       ∙ ap (λ l. l ++ (row.EndSlot ∷ [])) (map-set (shown_slot leaf texts links1) slots at s ∙ ap (λ x. set (shown_slots leaf texts links1 slots) at x) begin-shown ∙ ap (λ l. set l at begin) same)
 
-  -- and dressed
+  -- the slots after that
   pub element-dressed : (options : Options) (bracket : Bracket) (pairs : List Pair) (runs : List PlacedRun) (quotes : List PlacedQuote) → bracket.slot ≡ at → CanSettle (at + 1) slots (drop bracket.runs runs) (drop bracket.quotes quotes)
-      → dressed_behind options bracket pairs runs quotes (shown_slots leaf texts links1 (set slots at s ++ (end_slot close end ∷ []))) ≡ wrapped at begin (dressed_behind options bracket pairs runs quotes (shown_slots leaf texts links slots))
+      → dressed_after options bracket pairs runs quotes (shown_slots leaf texts links1 (set slots at s ++ (end_slot close end ∷ []))) ≡ wrapped at begin (dressed_after options bracket pairs runs quotes (shown_slots leaf texts links slots))
   element-dressed options bracket pairs runs quotes slot_is can =
       let shown = shown_slots leaf texts links slots in
       let n = length-map slots (shown_slot leaf texts links) in
@@ -71,20 +71,20 @@ module _ (leaf : LeafText) (texts : List CowStr) (links links1 : List Link) (at 
       let places = places_of (drop bracket.runs runs) in
       let inside : AreInside at (length shown) places = subst (λ k. AreInside at k places) (sym n) (ahead-inside slots (at + 1) 0 places at lt (all-ahead slots (at + 1) 0 (drop bracket.runs runs) can.runs_are)) in
       let quoted_at = map (λ (q : PlacedQuote). q.slot) (drop bracket.quotes quotes) in
-      let among : AreInside at (length shown) quoted_at = subst (λ k. AreInside at k quoted_at) (sym n) (texts-inside slots (drop bracket.quotes quotes) (at + 1) at lt can.quotes_are can.quotes_behind) in
-      ap (dressed_behind options bracket pairs runs quotes) ends-shown
+      let among : AreInside at (length shown) quoted_at = subst (λ k. AreInside at k quoted_at) (sym n) (texts-inside slots (drop bracket.quotes quotes) (at + 1) at lt can.quotes_are can.quotes_after) in
+      ap (dressed_after options bracket pairs runs quotes) ends-shown
       ∙ dressed-wrapped options at begin places (marks_by (length places) pairs) quoted_at (characters_of (drop bracket.quotes quotes)) shown (let q : at < length shown = omega (arith, n, there) in q) inside among
 
--- by the calls for it
+-- the slots after the calls for the link or the image
 pub writes-element : (options : Options) (bracket : Bracket) (target : Target) (old new : InlineState) (element : Element) → bracket.slot < length old.slots.items → (close : ℕ) (text : List ℕ) → AreSlots text close old.slots.items → close < target.end
     → AreNamed (length old.texts.items) (length old.links.items) old.slots.items → CanSettle (bracket.slot + 1) old.slots.items (drop bracket.runs old.delimiters.placed.items) (drop bracket.quotes old.quotes.placed.items)
     → new.texts.items ≡ old.texts.items → new.links.items ≡ old.links.items ++ (target.link ∷ []) → shown_element (old.links.items ++ (target.link ∷ [])) element ≡ tag_by bracket.is_image (shown_link target.link)
     → new.delimiters.placed.items ≡ take bracket.runs old.delimiters.placed.items → new.quotes.placed.items ≡ take bracket.quotes old.quotes.placed.items
     → ((leaf : LeafText) (pairs : List Pair) (spans : Spans) → IsEmphasis (siblings_from 0 (drop bracket.runs old.delimiters.placed.items)) pairs spans → shown_slots leaf new.texts.items new.links.items new.slots.items
-    ≡ dressed_behind options bracket pairs old.delimiters.placed.items old.quotes.placed.items (shown_slots leaf new.texts.items new.links.items (set old.slots.items bracket.slot (begun_as element target.end (get_or old.slots.items bracket.slot no-slot)) ++ (end_slot close target.end ∷ []))))
+    ≡ dressed_after options bracket pairs old.delimiters.placed.items old.quotes.placed.items (shown_slots leaf new.texts.items new.links.items (set old.slots.items bracket.slot (begun_as element target.end (get_or old.slots.items bracket.slot no-slot)) ++ (end_slot close target.end ∷ []))))
     → old.delimiters.examined + least_examined (runs_of (siblings_from 0 (drop bracket.runs old.delimiters.placed.items))) ≤ new.delimiters.examined
     → WritesElement options bracket target old new
-writes-element options bracket target old new element there close text stand behind named can texts links shows runs quotes dressed examined = record {
+writes-element options bracket target old new element there close text stand following named can texts links shows runs quotes dressed examined = record {
   forgets = record { runs = runs; quotes = quotes; examined = omega (arith, examined) };
   examined = examined;
   slots = λ leaf pairs spans d emphasis.
@@ -96,7 +96,7 @@ writes-element options bracket target old new element there close text stand beh
       let e = (stand at d there).before in
       let made : Slot = begun_as element target.end (get_or slots at no-slot) in
       dressed leaf pairs spans emphasis
-      ∙ ap (λ l. dressed_behind options bracket pairs old.delimiters.placed.items old.quotes.placed.items (shown_slots leaf l new.links.items (set slots at made ++ (end_slot close target.end ∷ [])))) texts
+      ∙ ap (λ l. dressed_after options bracket pairs old.delimiters.placed.items old.quotes.placed.items (shown_slots leaf l new.links.items (set slots at made ++ (end_slot close target.end ∷ [])))) texts
       ∙ element-dressed leaf old.texts.items old.links.items new.links.items at slots there element (tag_by bracket.is_image (shown_link target.link)) (ap (λ l. shown_element l element) links ∙ shows) close target.end made d
-      (let q : (get_or slots at d).end ≤ target.end = omega (arith, e, behind) in q) same (ap (begun_as element target.end) first) options bracket pairs old.delimiters.placed.items old.quotes.placed.items refl can;
+      (let q : (get_or slots at d).end ≤ target.end = omega (arith, e, following) in q) same (ap (begun_as element target.end) first) options bracket pairs old.delimiters.placed.items old.quotes.placed.items refl can;
 }

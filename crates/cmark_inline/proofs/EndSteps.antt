@@ -1,4 +1,4 @@
--- The begin and the end of a leaf, in the states of the code and of the grammar, and a closing bracket that stays a text.
+-- The begin and the end of a leaf, and a closing bracket that remains a text, in the code and in the grammar.
 use Rattle.std.specs.Prelude.{map}
 use Rattle.std.proofs.Common.{◌≡◌, ℕ, List, [], ◌∷◌, ◌++◌, length, sym, ap, ◌∙◌, subst}
 use Rattle.std.proofs.lemmas.List.{map-append}
@@ -47,7 +47,7 @@ module _ (leaf : LeafText) (reader : Reader) (read : Leaf) (place : ℕ → ℕ)
       (subst (λ l. IsReached reader read before to [] [] [] (map (λ (x : PlacedQuote). x.slot) l) [] (quotes_of l)) (sym q) (reached-first reader read before)))
 
   module _ (p : Pass) (bs : List Bracket) (old new : InlineState) (h : HasRead leaf reader read place before p bs old) where
-    -- a closing bracket that stays a text
+    -- a closing bracket that remains a text
     pub closing-read : (closer : items.Bracket) (next : State) (slot : Slot) → shown_slots leaf new.texts.items new.links.items old.slots.items ≡ shown_slots leaf old.texts.items old.links.items old.slots.items → token reader read p.state.at ≡ Closes closer
         → Comes AnyAnswer p.state.asked (decide reader read p.state closer) (record { result = StaysText; after = next }) → IsLike reader.source (shown_slot leaf new.texts.items new.links.items slot) (text_slot closer)
         → new.slots.items ≡ old.slots.items ++ (slot ∷ []) → new.delimiters.placed.items ≡ old.delimiters.placed.items → new.quotes.placed.items ≡ old.quotes.placed.items
@@ -65,7 +65,7 @@ module _ (leaf : LeafText) (reader : Reader) (read : Leaf) (place : ℕ → ℕ)
         subst (all (shown_slots leaf new.texts.items new.links.items new.slots.items) new.delimiters.placed.items) (sym quotes_are)
         (subst (λ l. all (shown_slots leaf new.texts.items new.links.items new.slots.items) l old.quotes.placed.items) (sym runs_are) (subst (λ l. all l old.delimiters.placed.items old.quotes.placed.items) now r))
 
-    -- all is read
+    -- the whole leaf is read
     pub leaf-read : reader.source ≡ source_of leaf → token reader read p.state.at ≡ Ends → (pairs : List Pair) (spans : Spans) → IsEmphasis (siblings_from 0 old.delimiters.placed.items) pairs spans
         → shown_slots leaf new.texts.items new.links.items new.slots.items
         ≡ marked reader.options (places_of old.delimiters.placed.items) (marks_by (length (places_of old.delimiters.placed.items)) pairs)

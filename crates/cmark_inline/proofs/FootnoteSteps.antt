@@ -1,6 +1,6 @@
 -- Footnote references: their labels, and the slot of a `!` before one.
-use Rattle.cmark_text_parts.specs.Shown.{text_bytes}
-use Rattle.cmark_text_parts.specs.declared.text.CowStr.{CowStr}
+use Rattle.cmark_values.specs.Shown.{text_bytes}
+use Rattle.cmark_values.specs.declared.text.CowStr.{CowStr}
 use Rattle.cmark_inline.specs.Hiding.{WritesReference}
 use Rattle.cmark_inline.specs.declared.state.InlineState.{InlineState}
 use Rattle.std.specs.Prelude.{IfSome, Option, Some, None, is_some, option_map, drop, if◌then◌else◌, not, ◌&&◌, ◌||◌}
@@ -15,7 +15,7 @@ use Rattle.cmark_grammar.specs.Labels.{fold, normal_form}
 use Rattle.cmark_references.specs.Footnotes.{Counts}
 use Rattle.cmark_references.specs.declared.footnotes.FootnoteDefs.{FootnoteDefs}
 use Rattle.cmark_leaf_text.specs.Reads.{IsPart}
-use Rattle.cmark_inline.specs.Footnoted.{CountsOf, KeepsLabel, as_label, fits_footnote, footnote_behind, footnote_label, footnote_of, labels, no_leaf, reference_start, unless_footnote}
+use Rattle.cmark_inline.specs.Footnoted.{CountsOf, KeepsLabel, as_label, fits_footnote, footnote_after, footnote_label, footnote_of, labels, no_leaf, reference_start, unless_footnote}
 use Rattle.cmark_slots.specs.Slots.{IsBracket, IsSlot}
 use Rattle.cmark_slots.specs.declared.bracket.Bracket.{Bracket}
 use Rattle.cmark_slots.specs.declared.slot.SlotKind.TheVariants as kind
@@ -32,7 +32,7 @@ both true y false w e h = sym e
 both false y true w e h = refl
 both false y false w e h = absurd (true≢false (sym h))
 
--- a text is on one line where no line ends in it
+-- a text is on one line if no line ends in it
 pub one-line : (options : Options) (bs : List ℕ) → decisions.is_one_line (labels options) no_leaf bs ≡ not (takes_lines bs)
 one-line options [] = refl
 one-line options (b ∷ bs) = both (is_content b) (takes_lines bs) ((b == 10) || (b == 13)) (decisions.is_one_line (labels options) no_leaf bs) (sym (one-line options bs)) (sym (neither (b == 10) (b == 13)))
@@ -42,7 +42,7 @@ fits-on-one-line options label found is new e =
     ap not e ∙ sym (one-line options label) ∙ sym (ap (λ y. y || decisions.is_one_line (labels options) no_leaf label) new)
     ∙ sym (ap (λ y. y && (options.old_footnotes || decisions.is_one_line (labels options) no_leaf label)) is)
 
--- where footnotes are not read, nothing is a label of one
+-- without the option for footnotes, no text is the label of a footnote
 label-off : (options : Options) (between : List ℕ) → options.footnotes ≡ false → footnote_label options between ≡ None
 label-off options [] off = refl
 label-off options (b ∷ bs) off = ap (λ y. if y && ((b == 94) && fits_footnote options bs) then Some bs else None) off
@@ -55,20 +55,20 @@ none-off options is_cell closes_label text close (Some bracket) off = ap (option
     go true = refl
     go false = label-off options (slice text bracket.inside close) off
 
--- a use is counted of the footnote of the label that was found
+-- a use of the footnote is counted whose label was found
 pub counts-found : (options : Options) (is_cell cell closes_label : Bool) (text : List ℕ) (close : ℕ) (bracket : Bracket) (written label : List ℕ) (old new : FootnoteDefs)
-    → Some written ≡ footnote_behind options closes_label (slice text bracket.inside close) (drop (close + 1) text) → cell ≡ is_cell → label ≡ as_label cell written → Counts (fold label) old new
+    → Some written ≡ footnote_after options closes_label (slice text bracket.inside close) (drop (close + 1) text) → cell ≡ is_cell → label ≡ as_label cell written → Counts (fold label) old new
     → CountsOf (footnote_of options is_cell closes_label text close (Some bracket)) old new
 counts-found options is_cell cell closes_label text close bracket written label old new found celled is counts =
     subst (λ m. CountsOf (option_map (as_label is_cell) m) old new) found
     (subst (λ l. Counts (fold l) old new) (is ∙ ap (λ z. as_label z written) celled) counts)
 
--- that of a bracket is that of the one that was taken
+-- the label of a bracket is that of the bracket that was taken
 pub label-of-taken : (options : Options) (is_cell closes there : Bool) (text : List ℕ) (close : ℕ) (taken : Option Bracket) (bracket : Bracket) → taken ≡ Some bracket → closes ≡ there
     → footnote_of options is_cell closes text close (Some bracket) ≡ footnote_of options is_cell there text close taken
 label-of-taken options is_cell closes there text close taken bracket took closing = ap (footnote_of options is_cell closes text close) (sym took) ∙ ap (λ z. footnote_of options is_cell z text close taken) closing
 
--- the name that stands for it is its normal form
+-- the name of the reference is the normal form of the label
 pub keeps-named : (label : Option (List ℕ)) (name : CowStr) (old new : List CowStr) → IfSome label (λ l. text_bytes name ≡ normal_form l) → new ≡ old ++ (name ∷ []) → IfSome label (λ l. KeepsLabel l old new)
 keeps-named None name old new named texts = tt
 keeps-named (Some label) name old new named texts = (name, named, texts)

@@ -1,10 +1,10 @@
--- What links, images and footnote references leave of the slots, the runs, the quotes and the brackets.
+-- The slots, runs, quotes and brackets that links, images and footnote references leave.
 use Rattle.std.proofs.Common.{◌≡◌, ◌⊎◌, inl, inr, ℕ, zero, suc, ◌+◌, ◌-◌, ◌<◌, ◌≤◌, List, [], ◌∷◌, ◌++◌, length, take, get_or, set, Some, None, refl, sym, ap, subst, ◌∙◌, arith}
 use Rattle.std.specs.Prelude.{All, Bool, true, false, if◌then◌else◌, nat_lt}
 use Rattle.std.proofs.lemmas.Bool.{cases_eq, cases_lt, ltb-true, ltb-false}
 use Rattle.std.proofs.lemmas.List.{length_push, length-set, length-take, get_or-take, get_or_append_left, get_or_push, get_or-set_same, get_or-set_other, take_all}
 use Rattle.cmark_leaf_text.specs.declared.leaf_text.LeafText.{LeafText}
-use Rattle.cmark_slots.specs.Doubled.{DropsBehind}
+use Rattle.cmark_slots.specs.Doubled.{DropsAfter}
 use Rattle.cmark_inline.specs.Footnoted.{PutsReference, reference_slot, with_mark}
 use Rattle.cmark_slots.specs.Slots.{put_at, AreBrackets}
 use Rattle.cmark_slots.specs.MarkedSlots.{AreWhole, EndWithin, SameBefore, last_in}
@@ -21,7 +21,7 @@ use Rattle.cmark_slots.proofs.Placing.{have-kept, texts-kept, runs-low}
 use Rattle.cmark_slots.proofs.Settling.{nothing-text}
 use Rattle.cmark_slots.proofs.Soundness.{sound-back, sound-fewer}
 
--- a text before those that are settled becomes another slot, which stands alone
+-- a text before the settled slots becomes another slot that covers no later one
 pub settle-set : (low : ℕ) (slots : List Slot) (runs : List PlacedRun) (quotes : List PlacedQuote) → CanSettle low slots runs quotes → (at : ℕ) (s : Slot) → at < low → at < length slots → ((d : Slot) → (get_or slots at d).kind ≡ kind.Text)
     → ((i : ℕ) → last_in s.kind i ≡ i) → CanSettle low (set slots at s) runs quotes
 settle-set low slots runs quotes h at s before there text alone =
@@ -31,16 +31,16 @@ settle-set low slots runs quotes h at s before there text alone =
     record {
       whole = whole-set slots at s no-slot h.whole there (text no-slot) alone;
       within = within-set slots at s h.within alone;
-      quotes_are = texts-kept slots (set slots at s) quotes le (λ k d lt e. let b = h.quotes_behind k d lt in get_or-set_other slots at (get_or quotes k d).slot s e (λ (q : (get_or quotes k d).slot ≡ at). absurd (omega (arith, q, b, before)))) h.quotes_are;
-      quotes_behind = h.quotes_behind;
+      quotes_are = texts-kept slots (set slots at s) quotes le (λ k d lt e. let b = h.quotes_after k d lt in get_or-set_other slots at (get_or quotes k d).slot s e (λ (q : (get_or quotes k d).slot ≡ at). absurd (omega (arith, q, b, before)))) h.quotes_are;
+      quotes_after = h.quotes_after;
       runs_are = have-kept slots (set slots at s) low 0 runs le h.sizes (λ k d lt. λ j e from to. let b = r k d lt in get_or-set_other slots at j s e (λ (q : j ≡ at). absurd (omega (arith, q, b, from, before)))) h.runs_are;
       sizes = h.sizes;
       known = h.known;
       apart = h.apart;
     }
 
--- the brackets that are kept end before a place
-pub dropped-before : (place : ℕ) (old new : List Bracket) → DropsBehind place old new → EndInOrder old → All (λ (d : Bracket). d.inside ≤ place) new
+-- the brackets that are kept end by the offset `place`
+pub dropped-before : (place : ℕ) (old new : List Bracket) → DropsAfter place old new → EndInOrder old → All (λ (d : Bracket). d.inside ≤ place) new
 dropped-before place old new drops ends = subst (λ (l : List Bracket). All (λ (d : Bracket). d.inside ≤ place) l) (sym drops.is) (λ k d lt.
     let a = length-take drops.count old in
     let w = drops.within in
@@ -57,7 +57,7 @@ dropped-before place old new drops ends = subst (λ (l : List Bracket). All (λ 
         let last = drops.before d (let q : 0 < drops.count = omega (arith, high) in q) in
         subst (λ j. (get_or old j d).inside ≤ place) (let q : drops.count - 1 ≡ k = omega (arith, g, high) in q) last
 
--- the same slots, and so on
+-- equal slots and equal parts are sound too
 pub sound-same : (texts texts1 links links1 : ℕ) (slots : List Slot) (runs runs1 : List PlacedRun) (quotes quotes1 : List PlacedQuote) (standing standing1 doubled doubled1 : List Bracket)
     → texts1 ≡ texts → links1 ≡ links → runs1 ≡ runs → quotes1 ≡ quotes → standing1 ≡ standing → doubled1 ≡ doubled → AreSound texts links slots runs quotes standing doubled → AreSound texts1 links1 slots runs1 quotes1 standing1 doubled1
 sound-same texts texts1 links links1 slots runs runs1 quotes quotes1 standing standing1 doubled doubled1 t l r q s d h =
@@ -69,7 +69,7 @@ sound-same texts texts1 links links1 slots runs runs1 quotes quotes1 standing st
     (subst (λ x. AreSound texts links slots runs quotes standing x) (sym d) h)))))
 
 -- the brackets that end before another one have slots before it
-left-before : (brackets left : List Bracket) (bracket : Bracket) → EndInOrder brackets → (text : List ℕ) (at : ℕ) → AreBrackets text at brackets → All (λ (d : Bracket). BeginsBefore d bracket) brackets → DropsBehind bracket.start brackets left
+left-before : (brackets left : List Bracket) (bracket : Bracket) → EndInOrder brackets → (text : List ℕ) (at : ℕ) → AreBrackets text at brackets → All (λ (d : Bracket). BeginsBefore d bracket) brackets → DropsAfter bracket.start brackets left
     → All (λ (d : Bracket). d.slot < bracket.slot) left
 left-before brackets left bracket order text at are begin drops =
     let ends = dropped-before bracket.start brackets left drops order in
@@ -95,8 +95,8 @@ take-fewer (suc n) (suc m) [] le = refl
 take-fewer (suc n) (suc m) (x ∷ xs) le = ap (λ l. x ∷ l) (take-fewer n m xs (omega (arith, le)))
 
 module _ (texts links : ℕ) (slots : List Slot) (runs : List PlacedRun) (quotes : List PlacedQuote) (standing doubled : List Bracket) (h : AreSound texts links slots runs quotes standing doubled) (bracket : Bracket) where
-  -- a link or an image begins in the slot of its bracket, and what is inside it is settled
-  pub link-formed : IsTaken slots runs quotes standing doubled bracket → (text : List ℕ) (at : ℕ) → AreBrackets text at doubled → (left : List Bracket) → DropsBehind bracket.start doubled left
+  -- a link or an image begins in the slot of its bracket, and the slots inside it are settled
+  pub link-formed : IsTaken slots runs quotes standing doubled bracket → (text : List ℕ) (at : ℕ) → AreBrackets text at doubled → (left : List Bracket) → DropsAfter bracket.start doubled left
       → (s : Slot) → text_named s.kind ≡ None → link_named s.kind ≡ Some links → (new : List Slot) → length slots ≤ length new → IsSettled (bracket.slot + 1) (set slots bracket.slot s) new
       → AreSound texts (links + 1) new (take bracket.runs runs) (take bracket.quotes quotes) standing left
   link-formed taken text at are left drops s bare is new le settled =
@@ -108,8 +108,8 @@ module _ (texts links : ℕ) (slots : List Slot) (runs : List PlacedRun) (quotes
       (named-link bracket.slot s slots new (adds-then bracket.slot s slots (set slots bracket.slot s) new (adds-set slots bracket.slot s) settled.names) texts links h.named bare is)
       settled.whole settled.within
 
-  -- a wikilink begins in the slot of its doubled bracket, of which some slots are shown
-  pub wikilink-formed : IsTakenPair slots runs quotes standing bracket → (text : List ℕ) (at : ℕ) → AreBrackets text at standing → (left : List Bracket) → DropsBehind bracket.start standing left
+  -- a wikilink begins in the slot of its doubled bracket and shows some of the later slots
+  pub wikilink-formed : IsTakenPair slots runs quotes standing bracket → (text : List ℕ) (at : ℕ) → AreBrackets text at standing → (left : List Bracket) → DropsAfter bracket.start standing left
       → (s : Slot) → text_named s.kind ≡ None → link_named s.kind ≡ Some links → (mid new : List Slot) → length slots ≤ length mid → length mid ≤ length new → SameBefore (bracket.slot + 1) slots mid → AreNamed texts links mid → IsSettled (bracket.slot + 1) (set mid bracket.slot s) new
       → AreSound texts (links + 1) new (take bracket.runs runs) (take bracket.quotes quotes) left []
   wikilink-formed taken text at are left drops s bare is mid new le more same named settled =
@@ -121,14 +121,14 @@ module _ (texts links : ℕ) (slots : List Slot) (runs : List PlacedRun) (quotes
       (named-link bracket.slot s mid new (adds-then bracket.slot s mid (set mid bracket.slot s) new (adds-set mid bracket.slot s) settled.names) texts links named bare is)
       settled.whole settled.within
 
--- where the text of the source ends that slots stand for
+-- the ends in the source of slots that are parts of the source
 pub settled-ended : (slots : List Slot) (at low : ℕ) (s : Slot) (new : List Slot) → source_end s.kind ≡ None → IsSettled low (set slots at s) new → (leaf : LeafText) → AreEnded leaf slots → AreEnded leaf new
 settled-ended slots at low s new none settled leaf e =
     one-ended at s slots new (adds-then at s slots (set slots at s) new (adds-set slots at s) settled.names) leaf e (subst (λ o. EndsIn leaf s.end o) (sym none) tt)
 
 -- ## Footnote references
 
--- slots from a text on stand alone, and those before stay
+-- the slots from a text on cover no later ones, and the slots before it stay
 module _ (old new : List Slot) (at : ℕ) (there : at < length old) (text : (d : Slot) → (get_or old at d).kind ≡ kind.Text) (same : SameBefore at old new) (alone : (k : ℕ) (d : Slot) → at ≤ k → k < length new → (i : ℕ) → last_in (get_or new k d).kind i ≡ i) (further : at < length new)
     (whole : AreWhole old) where
   reaches : (i : ℕ) (d : Slot) → i < at → at ≤ last_in (get_or old i d).kind i → ⊥
@@ -157,7 +157,7 @@ module _ (old new : List Slot) (at : ℕ) (there : at < length old) (text : (d :
       go (inl low) = subst (λ (s : Slot). last_in s.kind i < length new) (sym (same i d low)) (short low (cases_lt (last_in (get_or old i d).kind i) at))
       go (inr g) = subst (λ n. n < length new) (sym (alone i d g lt i)) lt
 
--- a slot is put in the place of one, or behind the last
+-- a slot replaces another one, or is appended after the last
 puts-there : (at : ℕ) (s : Slot) (slots : List Slot) → at ≤ length slots → (new : List Slot) → new ≡ put_at at s slots → (length slots ≤ length new) × (at < length new) × ((k : ℕ) (d : Slot) → (k ≡ at → ⊥) → k < length new → (k < length slots) × (get_or new k d ≡ get_or slots k d)) × ((d : Slot) → get_or new at d ≡ s)
 puts-there at s slots le new e = go (nat_lt at (length slots)) refl
   where
@@ -192,7 +192,7 @@ puts-there at s slots le new e = go (nat_lt at (length slots)) refl
             go_on (inl lt) = omega (arith, lt, same)
             go_on (inr g) = absurd (other (omega (arith, g, most)))
 
--- the slots from the bracket's on became nothing, but for the `!` before a reference and the reference
+-- the slots from the bracket's on became nothing, except the `!` before a reference and the reference
 module _ (old new : List Slot) (bracket : Bracket) (reference : Slot) (puts : PutsReference bracket reference old new) (there : bracket.slot < length old) where
   abbrev place : ℕ
   place = reference_slot bracket
@@ -225,15 +225,15 @@ module _ (old new : List Slot) (bracket : Bracket) (reference : Slot) (puts : Pu
       plain e (inl low) = let p = place-is false e in inl (low, ap (λ l. get_or l k d) (marks-are false e) ∙ puts.hides.before k d (omega (arith, p, low)))
       plain e (inr g) = inr (g, inr (ap (λ l. (get_or l k d).kind) (marks-are false e) ∙ gone bracket.slot (sym (place-is false e)) g))
 
-      behind : bracket.is_image ≡ true → (k ≡ bracket.slot → ⊥) → (k < bracket.slot) ⊎ (bracket.slot ≤ k) → Left k d
-      behind e differ (inl low) =
+      following : bracket.is_image ≡ true → (k ≡ bracket.slot → ⊥) → (k < bracket.slot) ⊎ (bracket.slot ≤ k) → Left k d
+      following e differ (inl low) =
           let p = place-is true e in
           inl (low, ap (λ l. get_or l k d) (marks-are true e) ∙ get_or-set_other puts.between bracket.slot k mark d differ ∙ puts.hides.before k d (omega (arith, p, low)))
-      behind e differ (inr g) = behind_it (cases_lt bracket.slot k)
+      following e differ (inr g) = following_it (cases_lt bracket.slot k)
         where
-          behind_it : (bracket.slot < k) ⊎ (k ≤ bracket.slot) → Left k d
-          behind_it (inl lt) = inr (g, inr (ap (λ l. (get_or l k d).kind) (marks-are true e) ∙ ap (λ (s : Slot). s.kind) (get_or-set_other puts.between bracket.slot k mark d differ) ∙ gone (bracket.slot + 1) (sym (place-is true e)) (omega (arith, lt))))
-          behind_it (inr le) = absurd (differ (omega (arith, g, le)))
+          following_it : (bracket.slot < k) ⊎ (k ≤ bracket.slot) → Left k d
+          following_it (inl lt) = inr (g, inr (ap (λ l. (get_or l k d).kind) (marks-are true e) ∙ ap (λ (s : Slot). s.kind) (get_or-set_other puts.between bracket.slot k mark d differ) ∙ gone (bracket.slot + 1) (sym (place-is true e)) (omega (arith, lt))))
+          following_it (inr le) = absurd (differ (omega (arith, g, le)))
 
       image : bracket.is_image ≡ true → (k ≡ bracket.slot) ⊎ (k ≡ bracket.slot → ⊥) → Left k d
       image e (inl is) =
@@ -243,7 +243,7 @@ module _ (old new : List Slot) (bracket : Bracket) (reference : Slot) (puts : Pu
             inl (ap (λ l. (get_or l k d).kind) (marks-are true e)
                 ∙ ap (λ j. (get_or (set puts.between bracket.slot mark) j d).kind) is ∙ ap (λ (s : Slot). s.kind) (get_or-set_same puts.between bracket.slot mark d (let q : bracket.slot < length puts.between = omega (arith, n, there) in q))),
           )
-      image e (inr differ) = behind e differ (cases_lt k bracket.slot)
+      image e (inr differ) = following e differ (cases_lt k bracket.slot)
 
       go : (z : Bool) → bracket.is_image ≡ z → Left k d
       go true e = image e (cases_eq k bracket.slot)
@@ -308,9 +308,9 @@ module _ (old new : List Slot) (bracket : Bracket) (reference : Slot) (puts : Pu
       go (inr (inr (l, inr t))) = ap (λ x. last_in x i) t
 
 module _ (texts links : ℕ) (old new : List Slot) (bracket : Bracket) (reference : Slot) (puts : PutsReference bracket reference old new) where
-  -- a footnote reference stands in the place of all slots from the bracket's on
+  -- a footnote reference replaces the bracket's slot and all later ones
   pub reference-formed : (runs : List PlacedRun) (quotes : List PlacedQuote) (standing doubled : List Bracket) → AreSound texts links old runs quotes standing doubled → IsTaken old runs quotes standing doubled bracket
-      → (text : List ℕ) (at : ℕ) → AreBrackets text at doubled → (left : List Bracket) → DropsBehind bracket.start doubled left → reference.kind ≡ kind.FootnoteReference texts
+      → (text : List ℕ) (at : ℕ) → AreBrackets text at doubled → (left : List Bracket) → DropsAfter bracket.start doubled left → reference.kind ≡ kind.FootnoteReference texts
       → AreSound (texts + 1) links new (take bracket.runs runs) (take bracket.quotes quotes) [] left
   reference-formed runs quotes standing doubled h taken text at are left drops is =
       let there = taken.placed.there in

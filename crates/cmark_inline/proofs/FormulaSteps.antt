@@ -1,8 +1,8 @@
--- Slots that stand for the formula that a dollar sign opens, or for the dollar sign.
+-- Slots that represent the formula that a dollar sign opens, or the dollar sign.
 use Rattle.std.specs.Prelude.{Option, Some, None, option_map, if◌then◌else◌}
 use Rattle.std.proofs.Common.{◌≡◌, ℕ, suc, ◌+◌, ◌-◌, ◌<◌, ◌≤◌, ◌&&◌, Bool, true, false, List, [], length, drop, get_or, refl, sym, ap, subst, ◌∙◌, arith, length-drop, drop-drop}
 use Rattle.cmark_grammar.specs.Answers.{Lookup}
-use Rattle.cmark_grammar.specs.Formulas.{Braces, is_dollar, no_braces, braces_behind, inline_in, display_in}
+use Rattle.cmark_grammar.specs.Formulas.{Braces, is_dollar, no_braces, braces_after, inline_in, display_in}
 use Rattle.cmark_grammar.specs.InlineTokens.{as_in, is_plain, item_at, before, dollar, formula_or, place_of}
 use Rattle.cmark_grammar.specs.Items.{ItemKind, Plain, Own, InlineMath, DisplayMath, Token, Stands}
 use Rattle.cmark_grammar.specs.Letters.{first_is}
@@ -10,9 +10,9 @@ use Rattle.cmark_grammar.specs.LinkDefinitions.{Parsed}
 use Rattle.cmark_grammar.specs.Options.{Options}
 use Rattle.cmark_grammar.specs.Readers.{Reader}
 use Rattle.cmark_grammar.specs.Tokens.{slice}
-use Rattle.cmark_finds.specs.Dollars.{IsFormulaAt, braces_at, formula_at, shown_formula}
-use Rattle.cmark_finds.specs.declared.dollars.Formula.{Formula}
-use Rattle.cmark_text_parts.specs.declared.text.CowStr.{CowStr}
+use Rattle.cmark_span_scan.specs.Dollars.{IsFormulaAt, braces_at, formula_at, shown_formula}
+use Rattle.cmark_span_scan.specs.declared.dollars.Formula.{Formula}
+use Rattle.cmark_values.specs.declared.text.CowStr.{CowStr}
 use Rattle.cmark_slots.specs.Slots.{IsContent}
 use Rattle.cmark_inline.specs.Tokens.{whole, reading, begins_at, Says, Puts, Appends}
 use Rattle.cmark_slots.specs.declared.slot.SlotKind.{SlotKind}
@@ -41,15 +41,15 @@ module _ (o : Options) (l : Lookup) (cell : Bool) (text : List ℕ) (at : ℕ) (
   abbrev opens : Bool → List ℕ → Braces → Token
   opens double bs braces = if double then formula_or r (whole cell text) DisplayMath at (display_in braces (drop 1 bs)) else formula_or r (whole cell text) InlineMath at (inline_in braces bs)
 
-  sign-begins : begins_at o l cell text at ≡ dollar r (whole cell text) at (drop (suc at) text) (braces_behind false (before r (whole cell text) at) no_braces)
+  sign-begins : begins_at o l cell text at ≡ dollar r (whole cell text) at (drop (suc at) text) (braces_after false (before r (whole cell text) at) no_braces)
   sign-begins =
       begins-with o l cell text at 36 lt is
-      ∙ ap (λ z. if z && true then dollar r (whole cell text) at (drop (suc at) text) (braces_behind false (before r (whole cell text) at) no_braces) else if o.smart_punctuation then item_at Plain at (suc at) else item_at Plain at (suc at)) math
+      ∙ ap (λ z. if z && true then dollar r (whole cell text) at (drop (suc at) text) (braces_after false (before r (whole cell text) at) no_braces) else if o.smart_punctuation then item_at Plain at (suc at) else item_at Plain at (suc at)) math
 
   by-places : begins_at o l cell text at ≡ opens (first_is is_dollar (drop (at + 1) text)) (drop (at + 1) text) (braces_at text at)
   by-places =
       sign-begins
-      ∙ ap (λ bs. dollar r (whole cell text) at (drop (suc at) text) (braces_behind false bs no_braces)) (before-is text at (omega (arith, lt)))
+      ∙ ap (λ bs. dollar r (whole cell text) at (drop (suc at) text) (braces_after false bs no_braces)) (before-is text at (omega (arith, lt)))
       ∙ ap (λ n. dollar r (whole cell text) at (drop n text) (braces_at text at)) (let q : suc at ≡ at + 1 = omega arith in q)
 
   pub formula-begins : (double : Bool) → double ≡ first_is is_dollar (drop (at + 1) text) → begins_at o l cell text at ≡ formula_or r (whole cell text) (kind_by double) at (formula_at text at)
@@ -81,13 +81,13 @@ module _ (o : Options) (l : Lookup) (cell : Bool) (text : List ℕ) (here : Curs
       → next.at ≡ formula.end → next.pending ≡ next.at
       → Puts here.pending here.at (record { kind = k; start = here.at; end = formula.end }) old.slots.items new.slots.items → new ≡ record old { slots = new.slots }
       → Appends o l cell text here old new next
-  formula-appends formula k behind lt byte math value kind-is places k-is at pending slots others =
+  formula-appends formula k following lt byte math value kind-is places k-is at pending slots others =
       let bytes : List ℕ = as_in cell (slice text formula.content_start formula.content_end) in
       record {
         from = here.at;
         item = record { kind = kind_by formula.is_display bytes; start = here.at; end = formula.end };
         slot = record { kind = k; start = here.at; end = formula.end };
-        behind = behind;
+        following = following;
         before = omega arith;
         blanks = λ n le high. absurd (omega (arith, le, high));
         there = at-byte text here 36 byte refl refl refl;
@@ -105,13 +105,13 @@ module _ (o : Options) (l : Lookup) (cell : Bool) (text : List ℕ) (here : Curs
         others = slots-alone old new others;
       }
 
-  -- a dollar sign that opens none
+  -- a dollar sign that opens no formula
   pub sign-appends : (end : ℕ) → here.pending ≤ here.at → here.at < length text → get_or text here.at 0 ≡ 36 → o.math ≡ true → None ≡ formula_at text here.at → end ≡ here.at + 1
       → next.at ≡ end → next.pending ≡ next.at
       → Puts here.pending here.at (record { kind = kind.Text; start = here.at; end = end }) old.slots.items new.slots.items → new ≡ record old { slots = new.slots }
       → Appends o l cell text here old new next
-  sign-appends end behind lt byte math none one at pending slots others =
-      own-appends o l cell text here old new next here.at end behind (at-byte text here 36 byte refl refl refl)
+  sign-appends end following lt byte math none one at pending slots others =
+      own-appends o l cell text here old new next here.at end following (at-byte text here 36 byte refl refl refl)
       (formula-begins o l cell text here.at lt byte math (first_is is_dollar (drop (here.at + 1) text)) refl
       ∙ ap (formula_or (reading o l text) (whole cell text) (kind_by (first_is is_dollar (drop (here.at + 1) text))) here.at) (sym none)
       ∙ ap (item_at Own here.at) (let q : suc here.at ≡ end = omega (arith, one) in q))

@@ -1,4 +1,4 @@
--- The slots behind an opening bracket that become nothing, and those that are put in their place.
+-- The slots after an opening bracket that become nothing, and the slots that replace them.
 use Rattle.std.proofs.Common.{◌≡◌, ◌≤◌, ℕ, suc, ◌+◌, ◌-◌, ◌<◌, Bool, true, false, List, [], ◌∷◌, ◌++◌, length, drop, take, get_or, set, refl, sym, ap, subst, ◌∙◌, arith, append_assoc, append-nil, length-append}
 use Rattle.std.specs.Prelude.{if◌then◌else◌, map, nat_lt}
 use Rattle.std.proofs.Math.Seq.{drop-cons, set-append_seam}
@@ -7,8 +7,8 @@ use Rattle.std.proofs.lemmas.List.{length-take-le, map-append, take-append-drop,
 use Rattle.cmark_grammar.specs.Items as items
 use Rattle.cmark_leaf_text.specs.Reads.{place_of}
 use Rattle.cmark_leaf_text.specs.declared.leaf_text.LeafText.{LeafText}
-use Rattle.cmark_text_parts.specs.declared.text.CowStr.{CowStr}
-use Rattle.cmark_text_parts.specs.Shown.{text_bytes}
+use Rattle.cmark_values.specs.declared.text.CowStr.{CowStr}
+use Rattle.cmark_values.specs.Shown.{text_bytes}
 use Rattle.cmark_inline_model.specs.SlotRows as row
 use Rattle.cmark_inline_model.specs.SlotRows.{seen}
 use Rattle.cmark_inline.specs.Footnoted.{PutsReference, reference_as, reference_slot, reference_start, with_mark}
@@ -31,7 +31,7 @@ hides-tail from to s x old new h = record {
   size = (let n = h.size in let q : length new ≡ length old = omega (arith, n) in q);
   inside = λ k d low high. h.inside (suc k) d (omega (arith, low)) (omega (arith, high));
   before = λ k d lt. h.before (suc k) d (omega (arith, lt));
-  behind = λ k d le. h.behind (suc k) d (omega (arith, le));
+  following = λ k d le. h.following (suc k) d (omega (arith, le));
 }
 
 pub hides-next : (to : ℕ) (s x : Slot) (old new : List Slot) → Hides 0 (suc to) (s ∷ old) (x ∷ new) → Hides 0 to old new
@@ -39,7 +39,7 @@ hides-next to s x old new h = record {
   size = (let n = h.size in let q : length new ≡ length old = omega (arith, n) in q);
   inside = λ k d low high. h.inside (suc k) d (omega arith) (omega (arith, high));
   before = λ k d lt. absurd (omega (arith, lt));
-  behind = λ k d le. h.behind (suc k) d (omega (arith, le));
+  following = λ k d le. h.following (suc k) d (omega (arith, le));
 }
 
 hides-all : (old new : List Slot) → Hides 0 (length old) old new → new ≡ map hidden old
@@ -50,23 +50,23 @@ hides-all (s ∷ old) (x ∷ new) h =
     let first : x ≡ hidden s = h.inside 0 no-slot (omega arith) (omega arith) in
     ap (λ y. y ∷ new) first ∙ ap (λ l. hidden s ∷ l) (hides-all old new (hides-next (length old) s x old new h))
 
--- those behind some
-pub hides-behind : (front rest new : List Slot) → Hides (length front) (length (front ++ rest)) (front ++ rest) new → new ≡ front ++ map hidden rest
-hides-behind [] rest new h = hides-all rest new h
-hides-behind (s ∷ front) rest [] h = absurd (let n = h.size in omega (arith, n))
-hides-behind (s ∷ front) rest (x ∷ new) h =
+-- the slots after the first ones are hidden
+pub hides-following : (front rest new : List Slot) → Hides (length front) (length (front ++ rest)) (front ++ rest) new → new ≡ front ++ map hidden rest
+hides-following [] rest new h = hides-all rest new h
+hides-following (s ∷ front) rest [] h = absurd (let n = h.size in omega (arith, n))
+hides-following (s ∷ front) rest (x ∷ new) h =
     let first : x ≡ s = h.before 0 no-slot (omega arith) in
-    ap (λ y. y ∷ new) first ∙ ap (λ l. s ∷ l) (hides-behind front rest new (hides-tail (length front) (length (front ++ rest)) s x (front ++ rest) new h))
+    ap (λ y. y ∷ new) first ∙ ap (λ l. s ∷ l) (hides-following front rest new (hides-tail (length front) (length (front ++ rest)) s x (front ++ rest) new h))
 
 pub hidden-seen : (leaf : LeafText) (texts : List CowStr) (links : List Link) (slots : List Slot) → seen (shown_slots leaf texts links (map hidden slots)) ≡ []
 hidden-seen leaf texts links [] = refl
 hidden-seen leaf texts links (s ∷ slots) = hidden-seen leaf texts links slots
 
--- the slots before one, it, and those behind it
+-- the slots before one, this slot, and the slots after it
 pub cut-at-slot : (slots : List Slot) (at : ℕ) → at < length slots → take at slots ++ (get_or slots at no-slot ∷ drop (suc at) slots) ≡ slots
 cut-at-slot slots at lt = ap (λ l. take at slots ++ l) (sym (drop-cons slots at no-slot lt)) ∙ take-append-drop at slots
 
--- ## A footnote reference in their place
+-- ## A footnote reference instead of them
 
 module _ (old new : List Slot) (bracket : Bracket) (reference : Slot) (puts : PutsReference bracket reference old new) (there : bracket.slot < length old) where
   abbrev front : List Slot
@@ -100,7 +100,7 @@ module _ (old new : List Slot) (bracket : Bracket) (reference : Slot) (puts : Pu
   put-plain e =
       let at : place ≡ length front = ap (λ z. if z then bracket.slot + 1 else bracket.slot) e ∙ sym size in
       let between : puts.between ≡ front ++ (hidden here ∷ map hidden rest) =
-      hides-behind front (here ∷ rest) puts.between
+      hides-following front (here ∷ rest) puts.between
       (subst (λ l. Hides (length front) (length l) l puts.between) (sym parts) (subst (λ n. Hides n (length old) old puts.between) at puts.hides)) in
       let marked : with_mark bracket puts.between ≡ front ++ (hidden here ∷ map hidden rest) = ap (λ z. if z then set puts.between bracket.slot mark else puts.between) e ∙ between in
       let long = length-append front (hidden here ∷ map hidden rest) in
@@ -110,7 +110,7 @@ module _ (old new : List Slot) (bracket : Bracket) (reference : Slot) (puts : Pu
       go xs y ys long true b = ap (λ z. if z then set (xs ++ (y ∷ ys)) (length xs) reference else (xs ++ (y ∷ ys)) ++ (reference ∷ [])) b ∙ set-append_seam xs y ys reference
       go xs y ys long false b = absurd (let g = ltb-false (length xs) (length (xs ++ (y ∷ ys))) b in omega (arith, g, long))
 
-  -- behind the slot of a `!` either the next slot is that of the reference, or none stands there
+  -- after the slot of a `!`, the reference replaces the next slot, or is appended if there is none
   put-next : (xs : List Slot) (ys : List Slot) → (others : List Slot) × (put_at (length xs) reference (xs ++ map hidden ys) ≡ xs ++ (reference ∷ map hidden others))
   put-next xs [] =
       ([], ap (λ l. put_at (length xs) reference l) (append-nil xs) ∙ go (nat_lt (length xs) (length xs)) refl)
@@ -131,7 +131,7 @@ module _ (old new : List Slot) (bracket : Bracket) (reference : Slot) (puts : Pu
       let at : place ≡ length (front ++ one) = ap (λ z. if z then bracket.slot + 1 else bracket.slot) e ∙ (let s = size in let q : bracket.slot + 1 ≡ length (front ++ one) = omega (arith, long, s) in q) in
       let all : (front ++ one) ++ rest ≡ old = append_assoc front one rest ∙ parts in
       let between : puts.between ≡ (front ++ one) ++ map hidden rest =
-      hides-behind (front ++ one) rest puts.between
+      hides-following (front ++ one) rest puts.between
       (subst (λ l. Hides (length (front ++ one)) (length l) l puts.between) (sym all) (subst (λ n. Hides n (length old) old puts.between) at puts.hides)) in
       let marked : with_mark bracket puts.between ≡ (front ++ (mark ∷ [])) ++ map hidden rest =
       ap (λ z. if z then set puts.between bracket.slot mark else puts.between) e ∙ ap (λ l. set l bracket.slot mark) (between ∙ append_assoc front one (map hidden rest)) ∙ ap (λ n. set (front ++ (here ∷ map hidden rest)) n mark) (sym size)
@@ -148,7 +148,7 @@ module _ (old new : List Slot) (bracket : Bracket) (reference : Slot) (puts : Pu
       go true e = put-image e
       go false e = put-plain e
 
--- the tables of texts and links behind it, and what the slots show
+-- the tables of texts and links afterwards, and the slots as slots of the model
 pub writes-reference : (bracket : Bracket) (name : CowStr) (end : ℕ) (old new : InlineState) → bracket.slot < length old.slots.items → AreNamed (length old.texts.items) (length old.links.items) old.slots.items
     → PutsReference bracket (reference_as bracket (length old.texts.items) end) old.slots.items new.slots.items → new.texts.items ≡ old.texts.items ++ (name ∷ []) → new.links.items ≡ old.links.items
     → new.delimiters.placed.items ≡ take bracket.runs old.delimiters.placed.items → new.quotes.placed.items ≡ take bracket.quotes old.quotes.placed.items → old.delimiters.examined ≤ new.delimiters.examined
@@ -185,13 +185,13 @@ writes-reference bracket name end old new there named puts texts links runs quot
     one leaf = ap (λ t. shown_slot leaf t new.links.items reference) texts
         ∙ ap (λ o. item_slot (items.FootnoteReference (bytes_or_none o)) (place_of leaf (reference_start bracket)) (place_of leaf (end - 1) + 1)) (get-last old.texts.items name)
 
-    behind : (leaf : LeafText) (others : List Slot) → shown_slots leaf new.texts.items new.links.items (reference ∷ map hidden others) ≡ shown_reference leaf bracket (text_bytes name) end ∷ map (λ (s : Slot). row.NothingSlot) others
-    behind leaf others = ap (λ x. x ∷ shown_slots leaf new.texts.items new.links.items (map hidden others)) (one leaf) ∙ ap (λ l. shown_reference leaf bracket (text_bytes name) end ∷ l) (all-nothing leaf others)
+    following : (leaf : LeafText) (others : List Slot) → shown_slots leaf new.texts.items new.links.items (reference ∷ map hidden others) ≡ shown_reference leaf bracket (text_bytes name) end ∷ map (λ (s : Slot). row.NothingSlot) others
+    following leaf others = ap (λ x. x ∷ shown_slots leaf new.texts.items new.links.items (map hidden others)) (one leaf) ∙ ap (λ l. shown_reference leaf bracket (text_bytes name) end ∷ l) (all-nothing leaf others)
 
     marked : (leaf : LeafText) (others : List Slot) (z : Bool) → shown_slots leaf new.texts.items new.links.items ((if z then mark_slot bracket ∷ [] else []) ++ (reference ∷ map hidden others))
         ≡ (if z then shown_slot leaf [] [] (mark_slot bracket) ∷ [] else []) ++ (shown_reference leaf bracket (text_bytes name) end ∷ map (λ (s : Slot). row.NothingSlot) others)
-    marked leaf others true = ap (λ l. shown_slot leaf [] [] (mark_slot bracket) ∷ l) (behind leaf others)
-    marked leaf others false = behind leaf others
+    marked leaf others true = ap (λ l. shown_slot leaf [] [] (mark_slot bracket) ∷ l) (following leaf others)
+    marked leaf others false = following leaf others
 
     shows : (leaf : LeafText) (others : List Slot) → shown_slots leaf new.texts.items new.links.items (take bracket.slot old.slots.items ++ ((if bracket.is_image then mark_slot bracket ∷ [] else []) ++ (reference ∷ map hidden others)))
         ≡ take bracket.slot (shown_slots leaf old.texts.items old.links.items old.slots.items) ++ (mark_before leaf bracket ++ (shown_reference leaf bracket (text_bytes name) end ∷ map (λ (s : Slot). row.NothingSlot) others))

@@ -1,8 +1,8 @@
--- What the grammar's pass has read with a closing bracket that forms what shows nothing of what stands between its brackets.
+-- The parts that the grammar's pass has read with a closing bracket that forms something without showing its inside.
 use Rattle.std.specs.Prelude.{drop, take, Option, Some, None}
 use Rattle.std.proofs.Common.{◌≡◌, ℕ, suc, ◌+◌, ◌-◌, ◌<◌, ◌≤◌, Bool, true, false, if◌then◌else◌, List, [], ◌∷◌, ◌++◌, length, get_or, refl, sym, ap, subst, ◌∙◌, arith, append-nil}
 use Rattle.std.proofs.Math.Seq.{drop-cons}
-use Rattle.cmark_grammar.specs.BracketDecisions.{decide, name_in, behind_pipe}
+use Rattle.cmark_grammar.specs.BracketDecisions.{decide, name_in, after_pipe}
 use Rattle.cmark_grammar.specs.BracketReading.{Comes}
 use Rattle.cmark_grammar.specs.BracketStates.{Opener, State, Forms}
 use Rattle.cmark_grammar.specs.Event as event
@@ -17,19 +17,19 @@ use Rattle.cmark_grammar.specs.Questions.{AnyAnswer}
 use Rattle.cmark_grammar.specs.Readers.{Reader}
 use Rattle.cmark_grammar.specs.Siblings as siblings
 use Rattle.cmark_grammar.specs.Siblings.{Inline, footnote_then, item, name_text, quotes_of, wiki_tag}
-use Rattle.cmark_grammar.specs.SiblingsModel.{siblings_of}
+use Rattle.cmark_inline_model.specs.SiblingsModel.{siblings_of}
 use Rattle.cmark_grammar.specs.Tag.{Tag}
 use Rattle.cmark_grammar.specs.Tokens.{slice}
 use Rattle.cmark_leaf_text.specs.Reads.{place_of, text_of}
 use Rattle.cmark_leaf_text.specs.declared.leaf_text.LeafText.{LeafText}
-use Rattle.cmark_text_parts.specs.declared.text.CowStr.{CowStr}
+use Rattle.cmark_values.specs.declared.text.CowStr.{CowStr}
 use Rattle.cmark_inline_model.specs.LikeSlots.{AreLike, IsLike}
 use Rattle.cmark_inline_model.specs.PartLists.{Cut}
 use Rattle.cmark_inline_model.specs.RowParts.{runs_in}
 use Rattle.cmark_inline_model.specs.RowPasses.{StandsFor}
 use Rattle.cmark_inline_model.specs.SlotRows as row
 use Rattle.cmark_inline_model.specs.SlotRows.{LaysOut, seen, slots_of}
-use Rattle.cmark_inline.specs.BracketViews.{IsPlaced, behind_opening}
+use Rattle.cmark_inline.specs.BracketViews.{IsPlaced, after_opening}
 use Rattle.cmark_inline.specs.Closers.{ReadsOn}
 use Rattle.cmark_inline.specs.Decided.{IsCloser}
 use Rattle.cmark_slots.specs.Doubled.{nearest}
@@ -64,7 +64,7 @@ like-itself source (row.NothingSlot ∷ slots) = (refl, like-itself source slots
 one-of : (xs : List ℕ) (a b : ℕ) → b ≡ suc a → a < length xs → slice xs a b ≡ get_or xs a 0 ∷ []
 one-of xs a b e lt = ap (λ n. take n (drop a xs)) (let q : b - a ≡ 1 = omega (arith, e) in q) ∙ ap (take 1) (drop-cons xs a 0 lt)
 
--- ## What stands for a footnote reference
+-- ## The slots of a footnote reference
 
 no-runs : (z : Bool) (start : ℕ) (label : List ℕ) (end : ℕ) → runs_in (footnote_then z start label end siblings.Nil) ≡ []
 no-runs true start label end = refl
@@ -75,7 +75,7 @@ no-quotes true start label end = refl
 no-quotes false start label end = refl
 
 module _ (leaf : LeafText) (reader : Reader) (read : Leaf) (place : ℕ → ℕ) (places : ReadsPlaces leaf reader read place) where
-  -- one byte that is a text
+  -- one byte as a text
   byte-like : (texts : List CowStr) (links : List Link) (k : ℕ) → k < length (text_of leaf) → IsLike reader.source (shown_slot leaf texts links (record { kind = kind.Text; start = k; end = k + 1 })) (row.ItemSlot (item items.Own (place k) (suc (place k))))
   byte-like texts links k within =
       let b = places.bytes k within in
@@ -90,11 +90,11 @@ module _ (leaf : LeafText) (reader : Reader) (read : Leaf) (place : ℕ → ℕ)
         lines = λ q. refl;
       }
 
-  -- the `[` behind a `!`
-  behind-mark : (o : Opener) (b : Bracket) → IsPlaced place o b → b.is_image ≡ true → b.inside ≤ length (text_of leaf) → place (b.start + 1) ≡ suc (place b.start)
-  behind-mark o b p image le =
-      let inside : b.inside ≡ b.start + 2 = p.in_text ∙ ap (λ z. behind_opening z b.start) image in
-      let source : place b.inside ≡ place b.start + 2 = p.in_source ∙ ap (λ z. behind_opening z (place b.start)) image in
+  -- the `[` after a `!`
+  following-mark : (o : Opener) (b : Bracket) → IsPlaced place o b → b.is_image ≡ true → b.inside ≤ length (text_of leaf) → place (b.start + 1) ≡ suc (place b.start)
+  following-mark o b p image le =
+      let inside : b.inside ≡ b.start + 2 = p.in_text ∙ ap (λ z. after_opening z b.start) image in
+      let source : place b.inside ≡ place b.start + 2 = p.in_source ∙ ap (λ z. after_opening z (place b.start)) image in
       let one = places.places.places.order b.start (b.start + 1) (omega arith) (omega (arith, inside, le)) in
       let two = places.places.places.order (b.start + 1) b.inside (omega (arith, inside)) le in
       omega (arith, one, two, source)
@@ -110,7 +110,7 @@ module _ (leaf : LeafText) (reader : Reader) (read : Leaf) (place : ℕ → ℕ)
     starts : b.start < length (text_of leaf)
     starts = let e = p.in_text in go b.is_image e
       where
-        go : (z : Bool) → b.inside ≡ behind_opening z b.start → b.start < length (text_of leaf)
+        go : (z : Bool) → b.inside ≡ after_opening z b.start → b.start < length (text_of leaf)
         go true e = let w = within in let l = before in omega (arith, e, w, l)
         go false e = let w = within in let l = before in omega (arith, e, w, l)
 
@@ -129,8 +129,8 @@ module _ (leaf : LeafText) (reader : Reader) (read : Leaf) (place : ℕ → ℕ)
 
     stands-as : (z : Bool) → b.is_image ≡ z → StandsAs z
     stands-as true e =
-        let next : b.start + 1 < length (text_of leaf) = (let i = p.in_text ∙ ap (λ z. behind_opening z b.start) e in let l = before in let w = within in omega (arith, i, l, w)) in
-        let first : place_of leaf (b.start + 1) ≡ suc start_of = places.bytes (b.start + 1) next ∙ behind-mark o b p e (let l = before in let w = within in omega (arith, l, w)) in
+        let next : b.start + 1 < length (text_of leaf) = (let i = p.in_text ∙ ap (λ z. after_opening z b.start) e in let l = before in let w = within in omega (arith, i, l, w)) in
+        let first : place_of leaf (b.start + 1) ≡ suc start_of = places.bytes (b.start + 1) next ∙ following-mark o b p e (let l = before in let w = within in omega (arith, l, w)) in
         record {
           row = row.ItemSlot (item items.Own start_of (suc start_of)) ∷ (as_reference (suc start_of) ∷ hidden);
           laid = (as_reference (suc start_of) ∷ hidden, refl, (hidden, [], nothing, ap (λ l. as_reference (suc start_of) ∷ l) (sym (append-nil hidden)), (refl, refl, refl)));
@@ -145,14 +145,14 @@ module _ (leaf : LeafText) (reader : Reader) (read : Leaf) (place : ℕ → ℕ)
     pub reference-stands : StandsFor reader at (Form (bracket_place place b).bracket inside closer (Footnote label closer.end) Nil) (mark_before leaf b ++ (shown_reference leaf b label (close + 1) ∷ hidden)) [] []
     reference-stands = stands-as b.is_image refl
 
--- ## What stands for a wikilink that shows one slot of its own
+-- ## The slots of a wikilink that shows one slot of its own
 
-seen-behind : (nothing slots : List row.Slot) → seen nothing ≡ [] → seen (nothing ++ slots) ≡ seen slots
-seen-behind [] slots e = refl
-seen-behind (row.NothingSlot ∷ nothing) slots e = seen-behind nothing slots e
-seen-behind (row.ItemSlot x ∷ nothing) slots e = absurd (let z = ap length e in omega (arith, z))
-seen-behind (row.BeginSlot tag start end ∷ nothing) slots e = absurd (let z = ap length e in omega (arith, z))
-seen-behind (row.EndSlot ∷ nothing) slots e = absurd (let z = ap length e in omega (arith, z))
+seen-following : (nothing slots : List row.Slot) → seen nothing ≡ [] → seen (nothing ++ slots) ≡ seen slots
+seen-following [] slots e = refl
+seen-following (row.NothingSlot ∷ nothing) slots e = seen-following nothing slots e
+seen-following (row.ItemSlot x ∷ nothing) slots e = absurd (let z = ap length e in omega (arith, z))
+seen-following (row.BeginSlot tag start end ∷ nothing) slots e = absurd (let z = ap length e in omega (arith, z))
+seen-following (row.EndSlot ∷ nothing) slots e = absurd (let z = ap length e in omega (arith, z))
 
 like-around : (source : List ℕ) (nothing : List row.Slot) (x y : row.Slot) → seen nothing ≡ [] → IsLike source x y → AreLike source ((nothing ++ (x ∷ [])) ++ (row.EndSlot ∷ [])) ((nothing ++ (y ∷ [])) ++ (row.EndSlot ∷ []))
 like-around source [] x y e h = (h, (refl, refl))
@@ -163,7 +163,7 @@ like-around source (row.EndSlot ∷ nothing) x y e h = absurd (let z = ap length
 
 own-laid : (tag : Tag) (start end at : ℕ) (inner : Inline) (x : items.Item) (nothing : List row.Slot) → seen nothing ≡ [] → row.ItemSlot x ∷ [] ≡ slots_of inner
     → LaysOut at (siblings.Around tag start end inner siblings.Nil) (row.BeginSlot tag start end ∷ ((nothing ++ (row.ItemSlot x ∷ [])) ++ (row.EndSlot ∷ []))) [] []
-own-laid tag start end at inner x nothing e is = (nothing ++ (row.ItemSlot x ∷ []), [], seen-behind nothing (row.ItemSlot x ∷ []) e ∙ is, refl, (refl, refl, refl))
+own-laid tag start end at inner x nothing e is = (nothing ++ (row.ItemSlot x ∷ []), [], seen-following nothing (row.ItemSlot x ∷ []) e ∙ is, refl, (refl, refl, refl))
 
 no-display : (leaf : LeafText) (place at : Option ℕ) → place ≡ None → ShowsFrom leaf place at → at ≡ None
 no-display leaf None None e h = refl
@@ -178,8 +178,8 @@ module _ (leaf : LeafText) (reader : Reader) (read : Leaf) (place : ℕ → ℕ)
   within : close < length (text_of leaf)
   within = let l = two-within in omega (arith, l)
 
-  behind-close : place_of leaf (close + 1) + 1 ≡ suc closer.end
-  behind-close =
+  following-close : place_of leaf (close + 1) + 1 ≡ suc closer.end
+  following-close =
       let content : is_content (get_or (text_of leaf) close 0) ≡ true = ap (λ (l : List ℕ). is_content (get_or l close 0)) (sym same) ∙ ap is_content c.byte in
       let e = places.bytes (close + 1) two-within in
       let f = places.places.places.next close within content in
@@ -191,12 +191,12 @@ module _ (leaf : LeafText) (reader : Reader) (read : Leaf) (place : ℕ → ℕ)
   at-close = places.bytes close within ∙ sym c.start
 
   begin-is : (tag : Tag) → row.BeginSlot tag (place b.start) (suc closer.end) ≡ row.BeginSlot tag first (place_of leaf (close + 1) + 1)
-  begin-is tag = ap (λ n. row.BeginSlot tag n (suc closer.end)) (sym starts) ∙ ap (λ n. row.BeginSlot tag first n) (sym behind-close)
+  begin-is tag = ap (λ n. row.BeginSlot tag n (suc closer.end)) (sym starts) ∙ ap (λ n. row.BeginSlot tag first n) (sym following-close)
 
   abbrev doubled : Bracket
   doubled = record b { inside = inner + 1 }
 
-  -- its name
+  -- the wikilink shows its name
   pub name-stands : (source_end : ℕ) → source_end ≡ place_of leaf close
       → StandsFor reader at (Form (bracket_place place b).bracket inside closer (Wiki name None (suc closer.end)) Nil)
       (row.BeginSlot (wiki_tag b.is_image name false) first (place_of leaf (close + 1) + 1) ∷ ((nothing ++ shown_slots leaf [] [] (shown_name doubled close source_end None)) ++ (row.EndSlot ∷ []))) [] []
@@ -253,7 +253,7 @@ module _ (leaf : LeafText) (reader : Reader) (read : Leaf) (place : ℕ → ℕ)
     abbrev first_place : ℕ
     first_place = first_of leaf (get_or st.slots.items b.slot no-slot)
 
-    -- its slots, around those that are nothing and the one that it shows
+    -- the wikilink's slots, around hidden ones and the one that it shows
     abbrev around : List row.Slot → List ℕ → Option ℕ → List row.Slot
     around nothing n shown = row.BeginSlot (wiki_tag b.is_image n (has_pothole shown)) first_place (place_of leaf (close + 1) + 1) ∷ ((nothing ++ shown_slots leaf [] [] (shown_name entry close wikilink.source_end shown)) ++ (row.EndSlot ∷ []))
 
@@ -281,15 +281,15 @@ module _ (leaf : LeafText) (reader : Reader) (read : Leaf) (place : ℕ → ℕ)
     meets = i.meets ∙ ap (λ (x : items.Bracket). x.end) i.placed.bracket
 
     -- a wikilink
-    pub wikilink-reads : (display : Option ℕ) → display ≡ behind_pipe (wiki_start leaf entry) (wiki_text leaf entry close) → (next : State)
+    pub wikilink-reads : (display : Option ℕ) → display ≡ after_pipe (wiki_start leaf entry) (wiki_text leaf entry close) → (next : State)
         → Comes AnyAnswer s.asked (decide reader read s closer) (record { result = Forms first.nearer (Wiki name display (suc closer.end)); after = next }) → AreEnded leaf old.slots.items
         → ReadsOn leaf reader read place from close closer s bs (record { result = Forms first.nearer (Wiki name display (suc closer.end)); after = next }) old new
     wikilink-reads None display_is next comes ended =
-        own-reads None None (no-display leaf (behind_pipe (wiki_start leaf entry) (wiki_text leaf entry close)) wikilink.display (sym display_is) writes.is.display) refl
+        own-reads None None (no-display leaf (after_pipe (wiki_start leaf entry) (wiki_text leaf entry close)) wikilink.display (sym display_is) writes.is.display) refl
         (λ nothing none places starts inside. name-stands leaf reader read place places text same close closer c past b i.inner i.before meets i.next name first_place starts nothing none inside b.slot wikilink.source_end writes.is.ends)
         (λ cut. (refl, refl)) next comes
     wikilink-reads (Some display) display_is next comes ended = go wikilink.display refl
       where
         go : (shown : Option ℕ) → wikilink.display ≡ shown → ReadsOn leaf reader read place from close closer s bs (record { result = Forms first.nearer (Wiki name (Some display) (suc closer.end)); after = next }) old new
-        go None shown_is = absurd (subst (λ o. ShowsFrom leaf o None) (sym display_is) (subst (ShowsFrom leaf (behind_pipe (wiki_start leaf entry) (wiki_text leaf entry close))) shown_is writes.is.display))
+        go None shown_is = absurd (subst (λ o. ShowsFrom leaf o None) (sym display_is) (subst (ShowsFrom leaf (after_pipe (wiki_start leaf entry) (wiki_text leaf entry close))) shown_is writes.is.display))
         go (Some t) shown_is = display-reads leaf reader read place closer s bs from close old mine st new is rows text same c past first i sound stands options options_are writes name name_is display t shown_is display_is next comes ended

@@ -1,4 +1,4 @@
--- A slot that stands for an item of a leaf's text gives the event of this item in the places of the source.
+-- A slot that represents an item of a leaf's text gives the event of this item in the places of the source.
 use Rattle.std.specs.Prelude.{encode_utf8}
 use Rattle.std.proofs.Common.{◌≡◌, ℕ, suc, ◌+◌, ◌-◌, ◌<◌, ◌≤◌, true, false, true≢false, List, length, drop, refl, sym, ap, ◌∙◌, subst, arith}
 use Rattle.cmark_grammar.specs.CodeSpans.{code_text}
@@ -12,7 +12,7 @@ use Rattle.cmark_grammar.specs.Readers.{Reader}
 use Rattle.cmark_grammar.specs.Tokens.{slice}
 use Rattle.cmark_leaf_text.specs.Reads.{place_of, text_of, is_cell_of}
 use Rattle.cmark_leaf_text.specs.declared.leaf_text.LeafText.{LeafText}
-use Rattle.cmark_text_parts.specs.declared.text.CowStr.{CowStr}
+use Rattle.cmark_values.specs.declared.text.CowStr.{CowStr}
 use Rattle.cmark_inline_model.specs.LikeSlots.{IsLike, is_html}
 use Rattle.cmark_inline_model.specs.PlacedTokens.{AreLeafPlaces, may_open_markup, is_as_written, placed_item}
 use Rattle.cmark_inline_model.specs.SlotRows.{ItemSlot}
@@ -47,12 +47,12 @@ module _ (leaf : LeafText) (reader : Reader) (read : Leaf) (place : ℕ → ℕ)
     written_is : written leaf slot.start slot.end ≡ slice text s e
     written_is = ap (λ i. slice text i slot.end) start ∙ ap (slice text s) end
 
-    -- the same range, and the same event
+    -- the range and the event are equal
     gives : (k : ItemKind) (x : ItemKind) → (takes_lines (slice reader.source (first_of leaf slot) (slot_end leaf slot)) ≡ true → is_html k ≡ is_html x) → ((i j : ℕ) (y : Item) → event_of reader.source y k ≡ event_of reader.source (placed x) x)
         → IsLike reader.source (ItemSlot (record { kind = k; start = first_of leaf slot; end = slot_end leaf slot })) (ItemSlot (placed x))
     gives k x lines h = record { start = first_is; end = past_is; event = h 0 0 (record { kind = k; start = first_of leaf slot; end = slot_end leaf slot }); lines = lines }
 
-    -- what the bytes of the source are, where the item is as it is written
+    -- the bytes of the source, if the item has them as written
     as_text : (x : ItemKind) → slice reader.source (place s) (suc (place (e - 1))) ≡ slice text s e → event_of reader.source (placed Plain) Plain ≡ event.Text (written leaf slot.start slot.end)
     as_text x b = ap event.Text (b ∙ sym written_is)
 

@@ -1,10 +1,10 @@
--- Calls that append slots keep what holds of the state.
+-- Calls that append slots preserve the facts about the state.
 use Rattle.std.proofs.Common.{◌≡◌, ◌⊎◌, inl, inr, ℕ, zero, suc, ◌+◌, ◌-◌, ◌<◌, ◌≤◌, List, [], ◌∷◌, ◌++◌, length, get_or, Some, None, refl, sym, ap, subst, ◌∙◌, arith}
 use Rattle.std.specs.Prelude.{Bool, true, false, if◌then◌else◌, IfSome, Option}
 use Rattle.std.proofs.lemmas.Bool.{cases_lt}
 use Rattle.std.proofs.lemmas.List.{length_push, length-append, get_or_append_left, get_or-append_right}
 use Rattle.cmark_leaf_text.specs.declared.leaf_text.LeafText.{LeafText}
-use Rattle.cmark_text_parts.specs.declared.text.CowStr.{CowStr}
+use Rattle.cmark_values.specs.declared.text.CowStr.{CowStr}
 use Rattle.cmark_emphasis.specs.Counts.{IsKnown}
 use Rattle.cmark_grammar.specs.Answers.{Lookup}
 use Rattle.cmark_grammar.specs.Options.{Options}
@@ -37,7 +37,7 @@ keeps-same state = record { sound = λ h. h; ends = λ leaf e. e }
 pub keeps-on : (old mid new : InlineState) → KeepsSound old mid → KeepsSound mid new → KeepsSound old new
 keeps-on old mid new a b = record { sound = λ h. b.sound (a.sound h); ends = λ leaf e. b.ends leaf (a.ends leaf e) }
 
--- ## Where the slots end
+-- ## The ends of slots
 
 pub ended-pending : (leaf : LeafText) (old new : List Slot) (start text_end : ℕ) → PushesText start text_end old new → AreEnded leaf old → AreEnded leaf new
 ended-pending leaf old new start text_end p e = go (cases_lt start text_end)
@@ -181,7 +181,7 @@ pub formula-alone : (z : Bool) (from to : ℕ) → StandsAlone (if z then kind.D
 formula-alone true from to = ((refl, refl, refl), λ i. refl)
 formula-alone false from to = ((refl, refl, refl), λ i. refl)
 
--- ## A call that leaves slots and brackets as they are
+-- ## A call that leaves slots and brackets unchanged
 
 module _ (old new : InlineState) (others : new ≡ record old { expansion_left = new.expansion_left; label_close = new.label_close }) where
   pub spans-same : SameSpans old new
@@ -207,11 +207,11 @@ module _ (old new : InlineState) (others : new ≡ record old { expansion_left =
   pub spans-free : (from : ℕ) → HoldNoLink old.slots.items from → HoldNoLink new.slots.items from
   spans-free from h = subst (λ (s : InlineState). HoldNoLink s.slots.items from) (sym others) h
 
--- one that changes the label alone
+-- a call that changes the label only
 pub spans-label : (old new : InlineState) → new ≡ record old { label_close = new.label_close } → new ≡ record old { expansion_left = new.expansion_left; label_close = new.label_close }
 spans-label old new label = label ∙ ap (λ n. record old { expansion_left = n; label_close = new.label_close }) (sym (ap (λ (s : InlineState). s.expansion_left) label))
 
--- two such calls, of which the first changes the label alone, and the second the limit
+-- two calls: the first changes the label only, and the second the limit
 pub spans-both : (old mid new : InlineState) → mid ≡ record old { label_close = mid.label_close } → new ≡ record mid { expansion_left = new.expansion_left } → new ≡ record old { expansion_left = new.expansion_left; label_close = new.label_close }
 spans-both old mid new label limit =
     limit ∙ ap (λ (s : InlineState). record s { expansion_left = new.expansion_left }) label ∙ ap (λ l. record old { expansion_left = new.expansion_left; label_close = l }) (sym (ap (λ (s : InlineState). s.label_close) limit))

@@ -6,21 +6,21 @@ use Rattle.cmark_grammar.specs.Letters.{and_then}
 use Rattle.cmark_grammar.specs.LinkDefinitions.{Parsed, put, escapes_next, up_to, is_label, label_if, label_in}
 use Rattle.cmark_grammar.specs.LinkTails.{reference_label_in}
 
--- these bytes stand before a closing bracket, and those behind it
-pub record ClosesBefore (bs : List ℕ) (behind : List ℕ) : Type 0 where
+-- a closing bracket is directly before the bytes `following`
+pub record ClosesBefore (bs : List ℕ) (following : List ℕ) : Type 0 where
   pub before : List ℕ
-  pub is : bs ≡ before ++ (93 ∷ behind)
+  pub is : bs ≡ before ++ (93 ∷ following)
 
 abbrev Closes : List ℕ → Option Parsed → Type 0
 Closes bs None = Unit {0}
-Closes bs (Some found) = ClosesBefore bs found.behind
+Closes bs (Some found) = ClosesBefore bs found.following
 
-more : (b : ℕ) (bs behind : List ℕ) → ClosesBefore bs behind → ClosesBefore (b ∷ bs) behind
-more b bs behind h = record { before = b ∷ h.before; is = ap (λ l. b ∷ l) h.is }
+more : (b : ℕ) (bs following : List ℕ) → ClosesBefore bs following → ClosesBefore (b ∷ bs) following
+more b bs following h = record { before = b ∷ h.before; is = ap (λ l. b ∷ l) h.is }
 
 closes_put : (b : ℕ) (bs : List ℕ) (found : Option Parsed) → Closes bs found → Closes (b ∷ bs) (put b found)
 closes_put b bs None h = tt
-closes_put b bs (Some found) h = more b bs found.behind h
+closes_put b bs (Some found) h = more b bs found.following h
 
 up_to_closes : (escaped : Bool) (refused : ℕ) (over : Bool) (bs : List ℕ) → Closes bs (up_to escaped 93 refused over bs)
 up_to_closes escaped refused over [] = tt
@@ -33,7 +33,7 @@ up_to_closes escaped refused over (b ∷ bs) = go (not escaped && (b == 93)) ref
     right true y e = e
     right false y e = absurd (true≢false (sym e))
 
-    go : (z : Bool) → (not escaped && (b == 93)) ≡ z → (y : Bool) → Closes bs rest → Closes (b ∷ bs) (if z then Some (record { bytes = []; behind = bs }) else if y then None else put b rest)
+    go : (z : Bool) → (not escaped && (b == 93)) ≡ z → (y : Bool) → Closes bs rest → Closes (b ∷ bs) (if z then Some (record { bytes = []; following = bs }) else if y then None else put b rest)
     go true e y h = record { before = []; is = ap (λ c. c ∷ bs) (eqb-true b 93 (right (not escaped) (b == 93) e)) }
     go false e true h = tt
     go false e false h = closes_put b bs rest h
@@ -55,20 +55,20 @@ reference_closes (b ∷ bs) = go (b == 91) (label_closes bs)
   where
     shift : (found : Option Parsed) → Closes bs found → Closes (b ∷ bs) found
     shift None h = tt
-    shift (Some found) h = more b bs found.behind h
+    shift (Some found) h = more b bs found.following h
 
     go : (z : Bool) → Closes bs (label_in bs) → Closes (b ∷ bs) (and_then (if z then Some bs else None) label_in)
     go true h = shift (label_in bs) h
     go false h = tt
 
--- the byte before what is behind the label of a full reference is its closing bracket
-pub label-ends : (text : List ℕ) (at end : ℕ) (found : Parsed) → reference_label_in (drop at text) ≡ Some found → found.behind ≡ drop end text → end ≤ length text → (0 < end) × (get_or text (end - 1) 0 ≡ 93)
-label-ends text at end found e behind within =
-    let h : ClosesBefore (drop at text) found.behind = subst (Closes (drop at text)) e (reference_closes (drop at text)) in
+-- the last byte of a full reference's label is its closing bracket
+pub label-ends : (text : List ℕ) (at end : ℕ) (found : Parsed) → reference_label_in (drop at text) ≡ Some found → found.following ≡ drop end text → end ≤ length text → (0 < end) × (get_or text (end - 1) 0 ≡ 93)
+label-ends text at end found e following within =
+    let h : ClosesBefore (drop at text) found.following = subst (Closes (drop at text)) e (reference_closes (drop at text)) in
     let a = ap length h.is in
-    let b = length-append h.before (93 ∷ found.behind) in
+    let b = length-append h.before (93 ∷ found.following) in
     let c = length-drop at text in
-    let d = ap length behind in
+    let d = ap length following in
     let f = length-drop end text in
     let n : end ≡ at + (length h.before + 1) = omega (arith, a, b, c, d, f, within) in
     let m : end - 1 ≡ at + length h.before = omega (arith, n) in (
@@ -76,6 +76,6 @@ label-ends text at end found e behind within =
       ap (λ k. get_or text k 0) m
           ∙ sym (get_or-drop at text (length h.before) 0)
           ∙ ap (λ l. get_or l (length h.before) 0) h.is
-          ∙ get_or-append_right h.before (93 ∷ found.behind) (length h.before) (length h.before) 0 refl (let q : length h.before ≤ length h.before = omega arith in q)
-          ∙ ap (λ k. get_or (93 ∷ found.behind) k 0) (let q : length h.before - length h.before ≡ 0 = omega arith in q),
+          ∙ get_or-append_right h.before (93 ∷ found.following) (length h.before) (length h.before) 0 refl (let q : length h.before ≤ length h.before = omega arith in q)
+          ∙ ap (λ k. get_or (93 ∷ found.following) k 0) (let q : length h.before - length h.before ≡ 0 = omega arith in q),
     )

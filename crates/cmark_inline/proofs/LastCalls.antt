@@ -1,4 +1,4 @@
--- What holds of the result of a last call, which is handed on, by what the call says of it.
+-- Facts about the result of a last call, which is returned, from the facts of that call.
 use Rattle.std.proofs.Common.{Result, Ok, Err, IfOk, OnErr}
 
 pub ok-by-two : {T E : Type 0} (r : Result T E) (P Q Z : T → Type 0) → IfOk r P → IfOk r Q → ((x : T) → P x → Q x → Z x) → IfOk r Z

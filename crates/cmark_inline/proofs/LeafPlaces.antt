@@ -20,7 +20,7 @@ use Rattle.cmark_inline.specs.LeafViews.{shown_stretches, shown_leaf}
 
 pub in-turn : (source : List ℕ) (at from : ℕ) (ss : List Stretch) → from ≤ length source → AreStretches source at from ss → InTurn from (shown_stretches ss) (length source)
 in-turn source at from [] le h = le
-in-turn source at from (s ∷ ss) le h = (h.0.behind, h.0.ordered, in-turn source (at + size_of s) s.end ss h.0.within h.1)
+in-turn source at from (s ∷ ss) le h = (h.0.following, h.0.ordered, in-turn source (at + size_of s) s.end ss h.0.within h.1)
 
 pub sizes : (source : List ℕ) (at from : ℕ) (ss : List Stretch) → AreStretches source at from ss → length (joined source ss) ≡ grammar.size_of (shown_stretches ss)
 sizes source at from [] h = refl
@@ -80,7 +80,7 @@ same-place source first from (s ∷ (t ∷ ss)) k h low lt = go (nat_lt k (s.at 
             by true f = absurd (let v = ltb-true a b f in omega (arith, v, g))
             by false f = refl
 
--- the bytes of the stretches are the same
+-- the bytes of the stretches are equal
 joined-is : (source : List ℕ) (ss : List Stretch) → all_bytes source (shown_stretches ss) ≡ joined source ss
 joined-is source [] = refl
 joined-is source (s ∷ ss) = ap (λ l. slice source s.start s.end ++ l) (joined-is source ss)

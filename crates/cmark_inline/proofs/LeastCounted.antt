@@ -1,4 +1,4 @@
--- What parts ask for at least, while a leaf is read.
+-- The least number of steps that parts need, while a leaf is read.
 use Rattle.std.specs.Prelude.{map, drop, Some, None, Ok, Err, IfSome, OnOk, Result as Answer}
 use Rattle.std.proofs.Common.{◌≡◌, ◌⊎◌, inl, inr, ℕ, suc, ◌+◌, ◌<◌, ◌≤◌, ◌==◌, ◌||◌, ◌-◌, Bool, false, List, ◌∷◌, length, get_or, sym, ap, ◌∙◌, subst, arith, length-drop, true≢false}
 use Rattle.std.proofs.lemmas.List.{drop-map}
@@ -7,12 +7,12 @@ use Rattle.cmark_emphasis.specs.Shown.{shown_run}
 use Rattle.cmark_grammar.specs.BracketStates.{Result, StaysText, Forms, State}
 use Rattle.cmark_grammar.specs.Emphasis as emphasis
 use Rattle.cmark_grammar.specs.Emphasis.{Run}
-use Rattle.cmark_grammar.specs.InlineHtml.{behind_markup}
+use Rattle.cmark_grammar.specs.InlineHtml.{after_markup}
 use Rattle.cmark_grammar.specs.Items.{Bracket, Item}
 use Rattle.cmark_grammar.specs.Options.{Options}
 use Rattle.cmark_grammar.specs.Readers.{Reader}
 use Rattle.cmark_grammar.specs.Parts.{Formed, Linking, Footnote, Wiki, Parts, Nil, Single, Form, Closing, Opening}
-use Rattle.cmark_grammar.specs.SiblingsModel.{siblings_of}
+use Rattle.cmark_inline_model.specs.SiblingsModel.{siblings_of}
 use Rattle.cmark_inline_model.specs.BracketPass.{Pass, formed_by, resulting}
 use Rattle.cmark_inline_model.specs.PartLists.{Cut, cut_at, join}
 use Rattle.cmark_inline_model.specs.Progress.{Fits}
@@ -25,8 +25,8 @@ use Rattle.cmark_leaf_text.specs.declared.leaf_text.LeafText.{LeafText}
 use Rattle.cmark_slots.specs.MarkedSlots.{siblings_from}
 use Rattle.cmark_slots.specs.declared.bracket.Bracket as slots
 use Rattle.cmark_slots.specs.declared.delimiter.PlacedRun.{PlacedRun}
-use Rattle.cmark_finds.specs.declared.backtick_runs.BacktickRuns.{BacktickRuns}
-use Rattle.cmark_finds.specs.declared.dollars.Dollars.{Dollars}
+use Rattle.cmark_span_scan.specs.declared.backtick_runs.BacktickRuns.{BacktickRuns}
+use Rattle.cmark_span_scan.specs.declared.dollars.Dollars.{Dollars}
 use Rattle.cmark_inline.specs.Closers.{Examines}
 use Rattle.cmark_inline.specs.LeastSteps.{AreCounted, PassesAt, PassesFound, Tally, VisitsAt, closers_of, least_among, least_closers, least_formed, least_html, least_within, passed_of, visited_in}
 use Rattle.cmark_inline.specs.Reached.{bracket_place, runs_of}
@@ -62,7 +62,7 @@ html-join source (Opening opener after) b = html-join source after b
 
 -- ## One step more
 
--- the steps that an item asks for were taken meanwhile
+-- the steps that an item needs were taken in between
 pub record TakesFor (source : List ℕ) (x : Item) (was sought : Sought) : Type 0 where
   pub html : passed_of source x + was.unclosed.passed ≤ sought.unclosed.passed
   pub closers : closers_of x.kind + visited_in was ≤ visited_in sought
@@ -89,7 +89,7 @@ counted-opening reader here tally old new opener e h = record {
   uses = rise-same (λ folded. uses_of folded here) (λ folded. uses_of folded (join here (Opening opener Nil))) tally.begun tally.notes (λ folded. (let j = uses-join folded here (Opening opener Nil) in omega (arith, j))) h.uses;
 }
 
--- ## Calls that visit none
+-- ## Calls that visit no run
 
 pub always-ok : {X E : Type 0} {P : Type 0} (r : Answer X E) → P → OnOk r P
 always-ok (Ok x) p = p
@@ -117,7 +117,7 @@ none-visits text at was sought runs signs neither = record {
   formula = λ is. absurd (neither.1 is);
 }
 
--- another byte than a `<`
+-- a byte other than `<`
 pub other-than : (text : List ℕ) (at n : ℕ) → (n == 60) ≡ false → get_or text at 0 ≡ n → get_or text at 0 ≡ 60 → ⊥
 other-than text at n differs is e = true≢false (sym (ap (λ b. b == 60) (sym is ∙ e)) ∙ differs)
 
@@ -128,25 +128,25 @@ other-than-two text at m n one other (inr is) = other-than text at n other is
 pub none-passes : (emails : Bool) (leaf : LeafText) (text : List ℕ) (at : ℕ) (unclosed : Unclosed) → text ≡ text_of leaf → (get_or text at 0 ≡ 60 → ⊥) → PassesAt emails leaf at unclosed unclosed
 none-passes emails leaf text at unclosed same other = record { grows = omega arith; markup = λ is link opens. absurd (other (ap (λ t. get_or t at 0) same ∙ is)) }
 
--- ## What a search for markup passes
+-- ## The bytes that a search for markup passes
 
-pub none-found : (bytes : List ℕ) (was is : Unclosed) → behind_markup bytes ≡ None → PassesFound bytes was is
+pub none-found : (bytes : List ℕ) (was is : Unclosed) → after_markup bytes ≡ None → PassesFound bytes was is
 none-found bytes was is none = subst (λ m. IfSome m (λ rest. was.passed + (length bytes - length rest) ≤ is.passed + 2)) (sym none) tt
 
-pub size-found : (bytes : List ℕ) (size : ℕ) (was is : Unclosed) → behind_markup bytes ≡ Some (drop size bytes) → size ≤ length bytes → is.passed + 2 ≡ was.passed + size → PassesFound bytes was is
+pub size-found : (bytes : List ℕ) (size : ℕ) (was is : Unclosed) → after_markup bytes ≡ Some (drop size bytes) → size ≤ length bytes → is.passed + 2 ≡ was.passed + size → PassesFound bytes was is
 size-found bytes size was is some within least =
     let d = length-drop size bytes in
     subst (λ m. IfSome m (λ rest. was.passed + (length bytes - length rest) ≤ is.passed + 2)) (sym some) (omega (arith, d, within, least))
 
 -- ## A closing bracket
 
--- the parts are cut at the opening bracket that has so many nearer ones, and these runs stand behind it
+-- the parts are cut at the opening bracket with `nearer` nearer ones, and these runs are after it
 pub record CutsRuns (options : Options) (place : ℕ → ℕ) (nearer : ℕ) (bs : List slots.Bracket) (parts : Parts) (placed : List PlacedRun) : Type 0 where
   pub cut : Cut
   pub cut_is : cut_at nearer parts ≡ Some cut
   pub place_at : BracketPlace
   pub place_is : drop nearer (map (bracket_place place) bs) ≡ place_at ∷ drop (suc nearer) (map (bracket_place place) bs)
-  pub runs_behind : runs_in (siblings_of options cut.inside) ≡ drop place_at.runs (runs_of placed)
+  pub runs_after : runs_in (siblings_of options cut.inside) ≡ drop place_at.runs (runs_of placed)
 
 first-of : {A : Type 0} (xs ys : List A) (x y : A) → x ∷ xs ≡ y ∷ ys → x ≡ y
 first-of xs ys x y e = let q : x ≡ y = cc in q
@@ -155,15 +155,15 @@ module _ (reader : Reader) (place : ℕ → ℕ) where
   abbrev options : Options
   options = reader.options
 
-  -- the runs between two brackets are those behind the opening one
-  among-behind : (nearer : ℕ) (bs : List slots.Bracket) (parts : Parts) (placed : List PlacedRun) (b : slots.Bracket) → (k : CutsRuns options place nearer bs parts placed) → drop nearer bs ≡ b ∷ drop (suc nearer) bs
+  -- the runs between two brackets are the runs after the opening one
+  among-following : (nearer : ℕ) (bs : List slots.Bracket) (parts : Parts) (placed : List PlacedRun) (b : slots.Bracket) → (k : CutsRuns options place nearer bs parts placed) → drop nearer bs ≡ b ∷ drop (suc nearer) bs
       → least_among (siblings_of options k.cut.inside) ≡ least_examined (emphasis.runs_of (siblings_from 0 (drop b.runs placed)))
-  among-behind nearer bs parts placed b k there =
+  among-following nearer bs parts placed b k there =
       let same : bracket_place place b ≡ k.place_at = first-of _ _ (bracket_place place b) k.place_at (sym (drop-map (bracket_place place) nearer bs ∙ ap (map (bracket_place place)) there) ∙ k.place_is) in
       ap (λ l. least_examined (emphasis.runs_of l))
-      (runs-counted (siblings_of options k.cut.inside) 0 ∙ ap (counted 0) (k.runs_behind ∙ ap (λ (p : BracketPlace). drop p.runs (runs_of placed)) (sym same) ∙ drop-map (λ (x : PlacedRun). shown_run x.run) b.runs placed) ∙ siblings-counted 0 (drop b.runs placed))
+      (runs-counted (siblings_of options k.cut.inside) 0 ∙ ap (counted 0) (k.runs_after ∙ ap (λ (p : BracketPlace). drop p.runs (runs_of placed)) (sym same) ∙ drop-map (λ (x : PlacedRun). shown_run x.run) b.runs placed) ∙ siblings-counted 0 (drop b.runs placed))
 
-  -- what is formed takes the place of what was cut
+  -- the element that is formed replaces the parts that were cut
   formed-counted : (p : Pass) (closer : Bracket) (formed : Formed) (next : State) (nearer : ℕ) (cut : Cut) → cut_at nearer p.here ≡ Some cut → (tally : Tally) (notes : FootnoteDefs) (old new : ℕ) → AreCounted reader p.here tally old
       → old + least_formed options formed cut.inside ≤ new → RiseBy (λ folded. uses_in folded formed) tally.notes notes → AreCounted reader (resulting p closer (Forms nearer formed) next).here (record tally { notes = notes }) new
   formed-counted p closer formed next nearer cut is tally notes old new h more rises =
@@ -199,7 +199,7 @@ module _ (reader : Reader) (place : ℕ → ℕ) where
   }
   closed-counted p closer (Forms nearer (Linking target)) next bs old new tally notes size cut fits h examines rises =
       let k = cut nearer (omega (arith, fits)) in
-      let same = among-behind nearer bs p.here old.delimiters.placed.items examines.0 k examines.1 in
+      let same = among-following nearer bs p.here old.delimiters.placed.items examines.0 k examines.1 in
       let more = examines.2 in
       formed-counted p closer (Linking target) next nearer k.cut k.cut_is tally notes old.delimiters.examined new.delimiters.examined h (omega (arith, same, more)) rises
   closed-counted p closer (Forms nearer (Footnote label end)) next bs old new tally notes size cut fits h examines rises =

@@ -1,4 +1,4 @@
--- With a link or an image the state stands for one step more of the pass.
+-- With a link or an image, the state represents one step more of the pass.
 use Rattle.std.specs.Prelude.{map, drop, take, Some}
 use Rattle.std.proofs.Common.{◌≡◌, ℕ, zero, suc, ◌+◌, List, [], ◌∷◌, ◌++◌, length, refl, sym, ap, ◌∙◌, subst, arith}
 use Rattle.std.proofs.lemmas.List.{drop-map, take-map}
@@ -16,7 +16,7 @@ use Rattle.cmark_grammar.specs.Questions.{AnyAnswer}
 use Rattle.cmark_grammar.specs.Quotes.{Quote, quote_characters}
 use Rattle.cmark_grammar.specs.Readers.{Reader}
 use Rattle.cmark_grammar.specs.Siblings.{quotes_of as grammar_quotes}
-use Rattle.cmark_grammar.specs.SiblingsModel.{siblings_of}
+use Rattle.cmark_inline_model.specs.SiblingsModel.{siblings_of}
 use Rattle.cmark_grammar.specs.Spans.{Spans}
 use Rattle.cmark_emphasis.specs.Shown.{shown_quote, shown_run}
 use Rattle.cmark_leaf_text.specs.declared.leaf_text.LeafText.{LeafText}
@@ -47,10 +47,10 @@ take-places n at zero l = ap (λ k. take k l) (let q : 0 + n ≡ n = omega arith
 take-places n at (suc size) l =
     ap (λ k. take k (run_places at (suc size) l)) (let q : suc size + n ≡ suc (size + n) = omega arith in q) ∙ ap (λ m. at ∷ m) (take-places n (suc at) size l)
 
-pub bytes-behind : (n : ℕ) (placed : List PlacedRun) → drop (bytes_in (take n (runs_of placed))) (places_of placed) ≡ places_of (drop n placed)
-bytes-behind zero placed = refl
-bytes-behind (suc n) [] = refl
-bytes-behind (suc n) (x ∷ placed) = drop-places (bytes_in (take n (runs_of placed))) x.slot x.run.run_length (places_of placed) ∙ bytes-behind n placed
+pub bytes-following : (n : ℕ) (placed : List PlacedRun) → drop (bytes_in (take n (runs_of placed))) (places_of placed) ≡ places_of (drop n placed)
+bytes-following zero placed = refl
+bytes-following (suc n) [] = refl
+bytes-following (suc n) (x ∷ placed) = drop-places (bytes_in (take n (runs_of placed))) x.slot x.run.run_length (places_of placed) ∙ bytes-following n placed
 
 pub bytes-front : (n : ℕ) (placed : List PlacedRun) → take (bytes_in (take n (runs_of placed))) (places_of placed) ≡ places_of (take n placed)
 bytes-front zero placed = refl
@@ -99,7 +99,7 @@ module _ (leaf : LeafText) (reader : Reader) (read : Leaf) (place : ℕ → ℕ)
       let r = reached-link reader read before p brackets shown bytes (slot_places quotes) (runs_of runs) (quotes_of quotes) h closer nearer target next bp cut t comes pairs spans emphasis in
       let made : List ℕ → List ℕ → List Quote → List row.Slot = λ bytes places quotes. marked reader.options bytes (marks_by (length bytes) pairs) (quoted places (quote_characters [] quotes) shown) [] in
       let dressed : made (drop n bytes) (drop b.quotes (slot_places quotes)) (drop b.quotes (quotes_of quotes)) ≡ made (places_of (drop b.runs runs)) (slot_places (drop b.quotes quotes)) (map shown_quote (map (λ (x : PlacedQuote). x.quote) (drop b.quotes quotes))) =
-      ap (λ l. made l (drop b.quotes (slot_places quotes)) (drop b.quotes (quotes_of quotes))) (bytes-behind b.runs runs)
+      ap (λ l. made l (drop b.quotes (slot_places quotes)) (drop b.quotes (quotes_of quotes))) (bytes-following b.runs runs)
       ∙ ap (λ l. made (places_of (drop b.runs runs)) l (drop b.quotes (quotes_of quotes))) (drop-map (λ (x : PlacedQuote). x.slot) b.quotes quotes)
       ∙ ap (λ l. made (places_of (drop b.runs runs)) (slot_places (drop b.quotes quotes)) l) (drop-map (λ (x : PlacedQuote). shown_quote x.quote) b.quotes quotes ∙ sym (quotes-map (drop b.quotes quotes))) in
       let slots : linked_slots bp target (made (drop n bytes) (drop b.quotes (slot_places quotes)) (drop b.quotes (quotes_of quotes))) ≡ shown_slots leaf new.texts.items new.links.items new.slots.items =
@@ -116,7 +116,7 @@ module _ (leaf : LeafText) (reader : Reader) (read : Leaf) (place : ℕ → ℕ)
       (subst (λ l. all l (linked_slots bp target (made (drop n bytes) (drop b.quotes (slot_places quotes)) (drop b.quotes (quotes_of quotes)))) (take n bytes) (take b.quotes (slot_places quotes)) (take b.runs (runs_of runs)) (take b.quotes (quotes_of quotes)))
       (drop-map (bracket_place place) (suc nearer) bs) r)))))))
 
-  -- what shows nothing of what stands between its brackets, in the place of the opening bracket's slot and of all behind it
+  -- an element that does not show its inside replaces the opening bracket's slot and all later ones
   pub formed-read : (b : Bracket) (closer : items.Bracket) (nearer : ℕ) (what : Formed) (next : State) → drop nearer bs ≡ b ∷ drop (suc nearer) bs → token reader read p.state.at ≡ Closes closer
       → Comes AnyAnswer p.state.asked (decide reader read p.state closer) (record { result = Forms nearer what; after = next }) → (more : List row.Slot)
       → ((cut : Cut) → cut_at nearer p.here ≡ Some cut → cut.opener ≡ (bracket_place place b).bracket → StandsFor reader b.slot (Form cut.opener cut.inside closer what Nil) more [] [])

@@ -1,4 +1,4 @@
--- What begins at runs of delimiters, at hyphens, dots and quotes.
+-- Tokens at delimiter runs, hyphens, dots and quotes.
 use Rattle.std.specs.Prelude.{Option, reverse, chars, encode_utf8, codes, if◌then◌else◌, not}
 use Rattle.std.proofs.Common.{◌≡◌, ◌⊎◌, inl, inr, ℕ, suc, ◌+◌, ◌-◌, ◌<◌, ◌≤◌, ◌==◌, ◌&&◌, ◌||◌, Bool, true, false, List, [], ◌∷◌, ◌++◌, length, take, drop, get_or, refl, sym, ap, ◌∙◌, arith, eqb-true}
 use Rattle.std.specs.List.{prefix_len}
@@ -11,7 +11,7 @@ use Rattle.cmark_grammar.specs.Answers.{Lookup}
 use Rattle.cmark_grammar.specs.Dashes.{dashes_of, dash_text}
 use Rattle.cmark_grammar.specs.Flanking.{Flanking, flanking, is_run_delimiter}
 use Rattle.cmark_grammar.specs.InlineTokens.{first_of, item_at, run_at, run_or, hyphens, quote_at, smart_or, character_before, character_at, before, dollar}
-use Rattle.cmark_grammar.specs.Formulas.{no_braces, braces_behind}
+use Rattle.cmark_grammar.specs.Formulas.{no_braces, braces_after}
 use Rattle.cmark_grammar.specs.Items.{Plain, Written, Quoted, Delimiters, Token}
 use Rattle.cmark_grammar.specs.Letters.{starts}
 use Rattle.cmark_grammar.specs.Lines.{is_content}
@@ -70,7 +70,7 @@ module _ (o : Options) (l : Lookup) (cell : Bool) (text : List ℕ) (at : ℕ) (
       ∙ ap (λ x. run_or (reading o l text) (whole cell text) at b size (flanking o b size before x))
       (at-is (at + size) ∙ ap (λ p. first_of (chars (drop p text))) (let q : at + size ≡ end = omega (arith, ends, sized) in q) ∙ sym right)
 
-  -- neither opens nor closes
+  -- a run that neither opens nor closes
   pub run-plain : (b end size : ℕ) (beside : Flanking) → begins_at o l cell text at ≡ run_or (reading o l text) (whole cell text) at b size beside → at + size ≡ end
       → beside.opens ≡ false → beside.closes ≡ false → begins_at o l cell text at ≡ item_at Plain at end
   run-plain b end size beside is ends left right =
@@ -91,7 +91,7 @@ module _ (o : Options) (l : Lookup) (cell : Bool) (text : List ℕ) (at : ℕ) (
   -- ## Typographic punctuation
   module _ (smart : o.smart_punctuation ≡ true) where
     abbrev signed : Token
-    signed = dollar (reading o l text) (whole cell text) at (drop (suc at) text) (braces_behind false (before (reading o l text) (whole cell text) at) no_braces)
+    signed = dollar (reading o l text) (whole cell text) at (drop (suc at) text) (braces_after false (before (reading o l text) (whole cell text) at) no_braces)
 
     smart-begins : (b : ℕ) → begins_at o l cell text at ≡ (if o.math && false then signed else if o.smart_punctuation then smart_or (reading o l text) (whole cell text) at b else item_at Plain at (suc at)) → begins_at o l cell text at ≡ smart_or (reading o l text) (whole cell text) at b
     smart-begins b is = is ∙ unsigned o.math signed (if o.smart_punctuation then smart_or (reading o l text) (whole cell text) at b else item_at Plain at (suc at)) ∙ ap (λ z. if z then smart_or (reading o l text) (whole cell text) at b else item_at Plain at (suc at)) smart
@@ -144,7 +144,7 @@ pub ellipsis-bytes : encode_utf8 8230 ≡ 226 ∷ 128 ∷ 166 ∷ []
 unfolding encode
 ellipsis-bytes = refl
 
--- each byte of a run ends no line
+-- no byte of a run ends a line
 pub run-content : (text : List ℕ) (at end b : ℕ) → get_or text at 0 ≡ b → is_run_delimiter b ≡ true → end ≡ at + prefix_len (λ c. c == get_or text at 0) (drop at text) → (k : ℕ) → at ≤ k → k < end → is_content (get_or text k 0) ≡ true
 run-content text at end b is delimiter ends k low high =
     let p : ℕ → Bool = λ c. c == get_or text at 0 in
@@ -170,7 +170,7 @@ run-content text at end b is delimiter ends k low high =
     go (inl h) = ap is_content (eqb-true b 42 h)
     go (inr h) = more (or_cases (b == 95) ((b == 126) || ((b == 94) || (b == 61))) h)
 
--- ## Runs, by what the code finds
+-- ## Runs, from the code's values
 module _ (o : Options) (l : Lookup) (cell : Bool) (text : List ℕ) (at : ℕ) (lt : at < length text) (b end size : ℕ) (before after : Option ℕ) (beside : Flanking) where
   pub record IsRunAt : Type 0 where
     pub byte : get_or text at 0 ≡ b

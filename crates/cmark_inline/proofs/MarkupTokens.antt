@@ -1,10 +1,10 @@
--- Where markup opens that is sought in the source, nothing begins but HTML or a text.
+-- A `<` that opens markup of the source begins only HTML or a text.
 use Rattle.std.specs.Prelude.{Option, Some, None, ◌==◌, ◌||◌, ◌&&◌, is_none, if◌then◌else◌, take}
 use Rattle.std.proofs.Common.{◌≡◌, ◌⊎◌, inl, inr, ℕ, suc, Bool, true, false, List, [], ◌∷◌, drop, refl, sym, ap, ◌∙◌, eqb-true, true≢false}
 use Rattle.std.proofs.lemmas.Bool.{false_from_ne_true, or_cases, and_parts}
 use Rattle.cmark_grammar.specs.Answers.{Lookup}
 use Rattle.cmark_grammar.specs.Autolinks.{autolink_in}
-use Rattle.cmark_grammar.specs.InlineHtml.{behind_markup, takes_lines}
+use Rattle.cmark_grammar.specs.InlineHtml.{after_markup, takes_lines}
 use Rattle.cmark_grammar.specs.InlineTokens.{autolink_or, begins, from, item_at, less_than, markup_or, size_to, source_from, tag_or_text}
 use Rattle.cmark_grammar.specs.Items.{ItemKind, Plain, Own, Html, OwnedHtml, Token, Stands, Opens, Closes, Ends}
 use Rattle.cmark_grammar.specs.LeafText.{Leaf}
@@ -12,7 +12,7 @@ use Rattle.cmark_grammar.specs.Letters.{first_is}
 use Rattle.cmark_grammar.specs.LinkDefinitions.{Parsed}
 use Rattle.cmark_grammar.specs.Options.{Options}
 use Rattle.cmark_grammar.specs.Readers.{Reader}
-use Rattle.cmark_grammar.specs.Tags.{behind_tag, no_prefix}
+use Rattle.cmark_grammar.specs.Tags.{after_tag, no_prefix}
 use Rattle.cmark_inline_model.specs.PlacedTokens.{may_open_markup}
 use Rattle.cmark_inline.specs.Tokens.{begins_at, reading, whole}
 use Rattle.cmark_inline.proofs.TokenSteps.{from-is}
@@ -55,11 +55,11 @@ module _ (reader : Reader) (leaf : Leaf) (at : ℕ) where
   markup_marks None t h = h
   markup_marks (Some rest) t h = refl
 
-  -- what is read at a `<` where neither an autolink nor an escape follows
+  -- the token at a `<` without an autolink or a backslash after it
   pub less-is : (bs : List ℕ) → autolink_in reader.options.email_autolinks bs ≡ None → first_is (λ c. c == 92) bs ≡ false
-      → less_than reader leaf at bs ≡ markup_or reader leaf at (behind_markup (source_from reader leaf at)) (tag_or_text reader leaf at (behind_tag no_prefix (from reader leaf at)))
+      → less_than reader leaf at bs ≡ markup_or reader leaf at (after_markup (source_from reader leaf at)) (tag_or_text reader leaf at (after_tag no_prefix (from reader leaf at)))
   less-is bs link slash =
-      let others = markup_or reader leaf at (behind_markup (source_from reader leaf at)) (tag_or_text reader leaf at (behind_tag no_prefix (from reader leaf at))) in
+      let others = markup_or reader leaf at (after_markup (source_from reader leaf at)) (tag_or_text reader leaf at (after_tag no_prefix (from reader leaf at))) in
       ap (λ z. if z then item_at Plain at (suc at) else autolink_or reader leaf at (autolink_in reader.options.email_autolinks bs) others) slash ∙ ap (λ m. autolink_or reader leaf at m others) link
 
   begins_marks : (l : List ℕ) → may_open_markup reader.options.email_autolinks l ≡ true → marks (begins reader leaf at l) ≡ true
@@ -70,7 +70,7 @@ module _ (reader : Reader) (leaf : Leaf) (at : ℕ) where
       let h = and_parts (b == 60) (none && second) e in
       let n = and_parts none second h.1 in
       ap (λ c. marks (begins reader leaf at (c ∷ bs))) (eqb-true b 60 h.0) ∙ ap marks (less-is bs (no-link (autolink_in reader.options.email_autolinks bs) n.0) (no-slash-there bs n.1))
-      ∙ markup_marks (behind_markup (source_from reader leaf at)) (tag_or_text reader leaf at (behind_tag no_prefix (from reader leaf at))) (tag_marks (behind_tag no_prefix (from reader leaf at)))
+      ∙ markup_marks (after_markup (source_from reader leaf at)) (tag_or_text reader leaf at (after_tag no_prefix (from reader leaf at))) (tag_marks (after_tag no_prefix (from reader leaf at)))
 
 pub no-markup-by : (o : Options) (l : Lookup) (cell : Bool) (text : List ℕ) (at : ℕ) (t : Token) → begins_at o l cell text at ≡ t → marks t ≡ false → may_open_markup o.email_autolinks (drop at text) ≡ false
 no-markup-by o l cell text at t is never =

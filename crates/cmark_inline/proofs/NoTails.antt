@@ -1,4 +1,4 @@
--- Where no parenthesis opens, no inline link follows.
+-- Without an opening parenthesis, there is no inline link.
 use Rattle.std.proofs.Common.{◌≡◌, ◌==◌, ℕ, List, [], ◌∷◌, false, if◌then◌else◌, None, Some, refl, ap}
 use Rattle.cmark_grammar.specs.Letters.{and_then, first_is}
 use Rattle.cmark_grammar.specs.LinkTails.{link_tail_in, tail_inside}

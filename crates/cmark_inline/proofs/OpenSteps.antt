@@ -1,4 +1,4 @@
--- An opening bracket that comes onto the stacks.
+-- An opening bracket that is pushed on the stacks.
 use Rattle.std.specs.Prelude.{if◌then◌else◌, nat_lt, not, ◌&&◌, ◌-◌, slice_get, Some, None}
 use Rattle.std.proofs.Common.{◌≡◌, ◌⊎◌, inl, inr, ℕ, ◌<◌, ◌≤◌, ◌==◌, Bool, true, false, List, [], ◌∷◌, ◌++◌, length, get_or, refl, sym, ap, subst, ◌∙◌, arith, length-append, eqb-true}
 use Rattle.std.proofs.lemmas.Option.{slice_get_cases}
@@ -8,12 +8,12 @@ use Rattle.cmark_grammar.specs.Items as items
 use Rattle.cmark_grammar.specs.OpenBrackets.{touches}
 use Rattle.cmark_slots.specs.declared.bracket.Bracket.{Bracket}
 use Rattle.cmark_slots.specs.declared.bracket.Brackets.{Brackets}
-use Rattle.cmark_inline.specs.BracketViews.{IsFresh, ArePlaced, IsPlaced, with_last, standing_of, pairs_behind, pairs_of, AreInactive, PairsInactive, AreDoubledInactive, Holds, StandFor}
+use Rattle.cmark_inline.specs.BracketViews.{IsFresh, ArePlaced, IsPlaced, with_last, standing_of, pairs_following, pairs_of, AreInactive, PairsInactive, AreDoubledInactive, Holds, StandFor}
 use Rattle.cmark_slots.specs.Doubled.{touching, with_double, if_ends}
 use Rattle.cmark_inline.proofs.BracketSteps.{standing-up-to, AllUpTo, and-right}
 use Rattle.cmark_inline.proofs.AfterSteps.{get-last}
 
--- no bracket that ends before a place touches what begins there
+-- no bracket that ends before an offset touches a bracket that begins there
 none_ends : (at most : ℕ) (l : List Bracket) → AllUpTo most l → most < at → if_ends at (slice_get l (length l - 1)) ≡ None
 none_ends at most l up lt = go (slice_get_cases l (length l - 1)).1
   where
@@ -27,10 +27,10 @@ none_ends at most l up lt = go (slice_get_cases l (length l - 1)).1
 by_stack : (at : ℕ) (st : Brackets) (l : List Bracket) → st.standing.items ≡ l → touching at st ≡ (if nat_lt st.inactive_below (length l) then if_ends at (slice_get l (length l - 1)) else None)
 by_stack at st l e = ap (λ l. if nat_lt st.inactive_below (length l) then if_ends at (slice_get l (length l - 1)) else None) e
 
--- the nearest bracket is the one that touches, if it ends where the new one begins
+-- if the nearest bracket ends where the new one begins, it is the one that touches it
 touch : (place : ℕ → ℕ) (at : ℕ) (os : List Opener) (bs : List Bracket) (st : Brackets) → ArePlaced place at os bs → IsFresh at st.inactive_below os bs → Holds st (standing_of os bs)
     → (second : Opener) (inside : ℕ) → second.bracket.is_image ≡ false → second.bracket.start ≡ place at → ((a : ℕ) → a < at → place a < place at)
-    → with_double (touching at st) inside (pairs_of os bs) ≡ pairs_behind second inside os bs
+    → with_double (touching at st) inside (pairs_of os bs) ≡ pairs_following second inside os bs
 touch place at [] bs st p f h second inside plain start order =
     ap (λ t. with_double t inside []) (by_stack at st [] h.are ∙ go (nat_lt st.inactive_below 0))
   where
@@ -41,7 +41,7 @@ touch place at (o ∷ os) [] st p f h second inside plain start order = absurd p
 touch place at (o ∷ os) (b ∷ bs) st p f h second inside plain start order = go (b.inside == at) refl
   where
     doubled : List Bracket
-    doubled = pairs_behind o b.inside os bs
+    doubled = pairs_following o b.inside os bs
 
     entry : Bracket
     entry = record b { inside = inside }
@@ -91,13 +91,13 @@ touch place at (o ∷ os) (b ∷ bs) st p f h second inside plain start order = 
         either true q = q
         either false q = refl
 
--- no bracket touches the begin of an image
-untouched : (second : Opener) (inside : ℕ) (os : List Opener) (bs : List Bracket) → second.bracket.is_image ≡ true → pairs_behind second inside os bs ≡ pairs_of os bs
+-- no bracket touches the bracket of an image
+untouched : (second : Opener) (inside : ℕ) (os : List Opener) (bs : List Bracket) → second.bracket.is_image ≡ true → pairs_following second inside os bs ≡ pairs_of os bs
 untouched second inside [] bs image = refl
 untouched second inside (o ∷ os) [] image = refl
 untouched second inside (o ∷ os) (b ∷ bs) image =
-    ap (λ z. with_last (o.doubles && (not z && (second.bracket.start == o.bracket.end))) (record b { inside = inside }) (pairs_behind o b.inside os bs)) image
-    ∙ ap (λ z. with_last z (record b { inside = inside }) (pairs_behind o b.inside os bs)) (none o.doubles)
+    ap (λ z. with_last (o.doubles && (not z && (second.bracket.start == o.bracket.end))) (record b { inside = inside }) (pairs_following o b.inside os bs)) image
+    ∙ ap (λ z. with_last z (record b { inside = inside }) (pairs_following o b.inside os bs)) (none o.doubles)
   where
     none : (x : Bool) → (x && false) ≡ false
     none true = refl
@@ -114,7 +114,7 @@ pushed wikilinks place at os bs st new db ndb bracket b h f p begins order are i
     placed = (p, (let q : b.inside ≤ b.inside = omega arith in q), subst (λ n. ArePlaced place n os bs) (sym begins) h.placed);
     standing_are = record { are = are ∙ ap (λ l. l ++ (b ∷ [])) h.standing_are.are; few = (let x = h.standing_are.few in let n = length-append (standing_of os bs) (b ∷ []) in let q : new.inactive_below ≤ length (standing_of os bs ++ (b ∷ [])) = omega (arith, x, n, inactive_below) in q) };
     inactive = subst (λ n. AreInactive n (new_opener bracket ∷ os) (b ∷ bs)) (sym inactive_below) ((λ e. active b.is_image (length (standing_of os bs)) st.inactive_below h.standing_are.few), h.inactive);
-    doubled_are = λ e. (let d = h.doubled_are e in let w = with_pair e in record { are = w; few = subst (λ n. n ≤ length (pairs_behind (new_opener bracket) b.inside os bs)) (sym inactive_below2) (grows e) });
+    doubled_are = λ e. (let d = h.doubled_are e in let w = with_pair e in record { are = w; few = subst (λ n. n ≤ length (pairs_following (new_opener bracket) b.inside os bs)) (sym inactive_below2) (grows e) });
     doubled_inactive = λ e. subst (λ n. PairsInactive n (new_opener bracket) b.inside os bs) (sym inactive_below2) (new_pair os bs db.inactive_below h.placed h.inactive f h.standing_are.few (h.doubled_are e).few (h.doubled_inactive e));
   },
   λ e. (refl, refl, subst (λ n. n ≤ length (standing_of os bs)) (sym inactive_below) h.standing_are.few),
@@ -134,25 +134,25 @@ pushed wikilinks place at os bs st new db ndb bracket b h f p begins order are i
     start : bracket.start ≡ place at
     start = ap (λ (c : items.Bracket). c.start) p.bracket ∙ ap place begins
 
-    with_pair : wikilinks ≡ true → ndb.standing.items ≡ pairs_behind (new_opener bracket) b.inside os bs
+    with_pair : wikilinks ≡ true → ndb.standing.items ≡ pairs_following (new_opener bracket) b.inside os bs
     with_pair e = pairs ∙ ap (λ z. if not b.is_image && z then with_double (touching at st) b.inside db.standing.items else db.standing.items) e
         ∙ ap (λ l. if not b.is_image && true then with_double (touching at st) b.inside l else l) (h.doubled_are e).are
         ∙ go b.is_image refl
       where
-        go : (z : Bool) → b.is_image ≡ z → (if not z && true then with_double (touching at st) b.inside (pairs_of os bs) else pairs_of os bs) ≡ pairs_behind (new_opener bracket) b.inside os bs
+        go : (z : Bool) → b.is_image ≡ z → (if not z && true then with_double (touching at st) b.inside (pairs_of os bs) else pairs_of os bs) ≡ pairs_following (new_opener bracket) b.inside os bs
         go true i = sym (untouched (new_opener bracket) b.inside os bs (image ∙ i))
         go false i = touch place at os bs st h.placed f h.standing_are (new_opener bracket) b.inside (image ∙ i) start order
 
-    longer : (second : Opener) (inside : ℕ) (ps : List Opener) (cs : List Bracket) → length (pairs_of ps cs) ≤ length (pairs_behind second inside ps cs)
+    longer : (second : Opener) (inside : ℕ) (ps : List Opener) (cs : List Bracket) → length (pairs_of ps cs) ≤ length (pairs_following second inside ps cs)
     longer second inside [] cs = omega arith
     longer second inside (x ∷ ps) [] = omega arith
     longer second inside (x ∷ ps) (c ∷ cs) = go (x.doubles && touches second x)
       where
-        go : (z : Bool) → length (pairs_behind x c.inside ps cs) ≤ length (with_last z (record c { inside = inside }) (pairs_behind x c.inside ps cs))
-        go true = let n = length-append (pairs_behind x c.inside ps cs) (record c { inside = inside } ∷ []) in omega (arith, n)
+        go : (z : Bool) → length (pairs_following x c.inside ps cs) ≤ length (with_last z (record c { inside = inside }) (pairs_following x c.inside ps cs))
+        go true = let n = length-append (pairs_following x c.inside ps cs) (record c { inside = inside } ∷ []) in omega (arith, n)
         go false = omega arith
 
-    grows : wikilinks ≡ true → db.inactive_below ≤ length (pairs_behind (new_opener bracket) b.inside os bs)
+    grows : wikilinks ≡ true → db.inactive_below ≤ length (pairs_following (new_opener bracket) b.inside os bs)
     grows e = let a = (h.doubled_are e).few in let c = longer (new_opener bracket) b.inside os bs in omega (arith, a, c)
 
     new_pair : (ps : List Opener) (cs : List Bracket) (doubled_below : ℕ) → ArePlaced place at ps cs → AreInactive st.inactive_below ps cs → IsFresh at st.inactive_below ps cs → st.inactive_below ≤ length (standing_of ps cs) → doubled_below ≤ length (pairs_of ps cs) → AreDoubledInactive doubled_below ps cs
@@ -165,7 +165,7 @@ pushed wikilinks place at os bs st new db ndb bracket b h f p begins order are i
           let same : place at ≡ place c.inside = sym start ∙ eqb-true bracket.start x.bracket.end t ∙ ap (λ (y : items.Bracket). y.end) pl.0.bracket in
           let met : c.inside ≡ at = one c.inside pl.1 same in
           let is = fr met in
-          k.0 is.0 ∙ sym (active c.is_image (length (standing_of ps cs)) st.inactive_below is.2) ∙ active c.is_image (length (pairs_behind x c.inside ps cs)) doubled_below dfew)),
+          k.0 is.0 ∙ sym (active c.is_image (length (standing_of ps cs)) st.inactive_below is.2) ∙ active c.is_image (length (pairs_following x c.inside ps cs)) doubled_below dfew)),
       di,
     )
       where

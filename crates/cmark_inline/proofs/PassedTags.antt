@@ -1,4 +1,4 @@
--- A tag asks for no search in the source: only markup does.
+-- A tag needs no search in the source; only markup does.
 use Rattle.std.specs.Prelude.{if◌then◌else◌, ◌||◌, codes, take}
 use Rattle.std.proofs.Common.{◌≡◌, ◌⊎◌, inl, inr, ℕ, suc, ◌+◌, ◌-◌, ◌<◌, ◌≤◌, ◌==◌, Bool, true, false, List, [], ◌∷◌, length, drop, get_or, refl, sym, ap, ◌∙◌, arith, eqb-true, true≢false}
 use Rattle.std.proofs.Math.Seq.{drop-cons}
@@ -16,10 +16,10 @@ use Rattle.cmark_inline.specs.LeastSteps.{begins_markup, passed_in, passed_of}
 use Rattle.cmark_inline.specs.Reached.{ReadsPlaces}
 use Rattle.cmark_inline.specs.Tokens.{opens_markup}
 use Rattle.cmark_inline.proofs.AngleSteps.{begins-none}
-use Rattle.cmark_inline.proofs.PlainChains.{before-or-behind}
+use Rattle.cmark_inline.proofs.PlainChains.{before-or-following}
 use Rattle.cmark_inline.proofs.VisitedTokens.{StartsAt}
 
--- what begins with another byte than `<` is no markup
+-- bytes that begin with a byte other than `<` are no markup
 starts-other : (prefix : List ℕ) (c b : ℕ) (bs : List ℕ) → prefix ≡ 60 ∷ c ∷ [] → (b == 60) ≡ false → starts prefix (b ∷ bs) ≡ false
 starts-other prefix c b bs is other = false_from_ne_true (starts prefix (b ∷ bs)) (λ t.
     let same : take 2 (b ∷ bs) ≡ 60 ∷ c ∷ [] = ap (λ p. take (length p) (b ∷ bs)) (sym is) ∙ (bytes_eq-Decides (take (length prefix) (b ∷ bs)) prefix).0 t ∙ is in
@@ -37,7 +37,7 @@ module _ (leaf : LeafText) (reader : Reader) (read : Leaf) (place : ℕ → ℕ)
   abbrev text : List ℕ
   text = text_of leaf
 
-  -- where no markup opens in the text, the source has none, if another byte of the text follows
+  -- if no markup opens in the text and another byte of the text follows, none opens in the source
   no-markup-there : (from : ℕ) → from + 1 < length text → (get_or text from 0 ≡ 60 → opens_markup (drop (from + 1) text) ≡ false) → begins_markup (drop (place from) reader.source) ≡ false
   no-markup-there from lt none = go (get_or text from 0 == 60) refl
     where
@@ -55,21 +55,21 @@ module _ (leaf : LeafText) (reader : Reader) (read : Leaf) (place : ℕ → ℕ)
           ap begins_markup first ∙ ap (λ b. begins_markup (b ∷ drop (suc (place from)) reader.source)) is ∙ begins-none (drop (suc (place from)) reader.source) opens
 
   html-passes : (from start end : ℕ) → from < length text → end ≤ length text → start ≡ from → (get_or text from 0 ≡ 60 → opens_markup (drop (from + 1) text) ≡ false) → passed_in Html reader.source (place start) (suc (place (end - 1))) ≡ 0
-  html-passes from start end lt within e none = none-there (begins_markup (drop (place start) reader.source)) (suc (place (end - 1)) - place start - 2) (go (before-or-behind (length text) (from + 1)))
+  html-passes from start end lt within e none = none-there (begins_markup (drop (place start) reader.source)) (suc (place (end - 1)) - place start - 2) (go (before-or-following (length text) (from + 1)))
     where
       short : (end - 1 ≤ from) ⊎ (from < end - 1) → length text ≤ from + 1 → suc (place (end - 1)) - place start - 2 ≡ 0
       short (inr more) le = absurd (omega (arith, more, le, within))
-      short (inl le) last = by (before-or-behind from (end - 1))
+      short (inl le) last = by (before-or-following from (end - 1))
         where
           by : (from ≤ end - 1) ⊎ (end - 1 < from) → suc (place (end - 1)) - place start - 2 ≡ 0
           by (inl same) = let q = ap place (let p : end - 1 ≡ from = omega (arith, same, le) in p) in let s = ap place e in omega (arith, q, s)
           by (inr less) = let q = r.places.places.order (end - 1) from less (omega (arith, lt)) in let s = ap place e in omega (arith, q, s)
 
       go : (length text ≤ from + 1) ⊎ (from + 1 < length text) → (begins_markup (drop (place start) reader.source) ≡ false) ⊎ (suc (place (end - 1)) - place start - 2 ≡ 0)
-      go (inl le) = inr (short (before-or-behind (end - 1) from) le)
+      go (inl le) = inr (short (before-or-following (end - 1) from) le)
       go (inr more) = inl (ap (λ n. begins_markup (drop (place n) reader.source)) e ∙ no-markup-there from more none)
 
-  -- so no item of the text does, but for markup
+  -- so an item of the text asks for no bytes of the source, if no markup opens at its first byte
   pub tag-passes : (from start end : ℕ) (kind : ItemKind) → from < length text → end ≤ length text → StartsAt from kind start → (get_or text from 0 ≡ 60 → opens_markup (drop (from + 1) text) ≡ false) → passed_in kind reader.source (place start) (suc (place (end - 1))) ≡ 0
   tag-passes from start end Plain lt within h none = refl
   tag-passes from start end Own lt within h none = refl

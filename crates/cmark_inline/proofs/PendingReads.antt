@@ -1,4 +1,4 @@
--- The text that is pending is one item of the grammar, and its slot is like it.
+-- A pending text is one item of the grammar, and its slot is like it.
 use Rattle.std.specs.Prelude.{◌&&◌, ◌==◌, if◌then◌else◌, Option}
 use Rattle.std.proofs.Common.{◌≡◌, inl, inr, ℕ, ◌<◌, ◌≤◌, Bool, true, false, List, length, drop, refl, sym, ap, ◌∙◌, subst, arith, eqb-true, true≢false}
 use Rattle.std.proofs.lemmas.Bool.{false_from_ne_true}
@@ -11,7 +11,7 @@ use Rattle.cmark_grammar.specs.Options.{Options}
 use Rattle.cmark_grammar.specs.Readers.{Reader}
 use Rattle.cmark_leaf_text.specs.Reads.{text_of, is_cell_of}
 use Rattle.cmark_leaf_text.specs.declared.leaf_text.LeafText.{LeafText}
-use Rattle.cmark_text_parts.specs.declared.text.CowStr.{CowStr}
+use Rattle.cmark_values.specs.declared.text.CowStr.{CowStr}
 use Rattle.cmark_inline_model.specs.LikeSlots.{IsLike}
 use Rattle.cmark_inline_model.specs.PlacedTokens.{StopsAt, may_open_markup, placed, placed_item, one_stretch, text_reader}
 use Rattle.cmark_inline_model.specs.SlotRows.{ItemSlot}
@@ -34,7 +34,7 @@ use Rattle.cmark_inline.proofs.PlainChains.{IsHeld, begun-order, begun-token}
 use Rattle.cmark_inline.proofs.ReachedItems.{SameBrackets, item-reached, same-reached}
 use Rattle.cmark_inline.proofs.TokenSteps.{from-is}
 
--- ## Places of the text
+-- ## Offsets of the text
 module _ (o : Options) (l : Lookup) (cell : Bool) (text : List ℕ) where
   abbrev one : Reader
   one = reading o l text
@@ -45,7 +45,7 @@ module _ (o : Options) (l : Lookup) (cell : Bool) (text : List ℕ) where
   turn : InTurn 0 alone.stretches (length text)
   turn = (omega arith, omega arith, omega arith)
 
-  -- an item begins there or further on, and the text is read on behind it
+  -- an item begins at this offset or later, and reading continues after it
   pub record IsWithin (at : ℕ) (x : Item) (resume : ℕ) : Type 0 where
     pub begins : at ≤ x.start
     pub ends : x.end ≤ resume
@@ -58,7 +58,7 @@ module _ (o : Options) (l : Lookup) (cell : Bool) (text : List ℕ) where
       let w = h.2 in
       record { begins = h.0.begins; ends = h.0.ends; further = h.1; within = (let q : resume ≤ length text = omega (arith, w) in q) }
 
-  -- where a text begins, no markup opens
+  -- no markup opens where a text begins
   pub text-no-markup : (at start end : ℕ) → begins_at o l cell text at ≡ item_at Plain start end → may_open_markup o.email_autolinks (drop at text) ≡ false
   text-no-markup at start end t =
       false_from_ne_true (may_open_markup o.email_autolinks (drop at text)) (λ e.
@@ -66,7 +66,7 @@ module _ (o : Options) (l : Lookup) (cell : Bool) (text : List ℕ) where
       let k : NotPlain one alone (item_at Plain start end) = subst (NotPlain one alone) (sym (ap (begins one alone at) (from-is o l cell text at)) ∙ t) h in
       absurd (let z : ⊥ = cc in z))
 
-  -- a text ends where none goes on
+  -- a text ends where no text continues
   pub stops-there : (at : ℕ) (t : Token) → begins_at o l cell text at ≡ t → NotPlain one alone t → StopsAt one alone at
   stops-there at t e never = λ more. ap (λ x. goes_on one alone x at more) e ∙ goes-stop one alone t at more never
 
@@ -85,7 +85,7 @@ module _ (leaf : LeafText) (reader : Reader) (read : Leaf) (place : ℕ → ℕ)
   abbrev cell : Bool
   cell = is_cell_of leaf
 
-  -- what begins in the text is what begins in its place of the source
+  -- a token of the text is the token at its place of the source
   pub token-placed : (at : ℕ) → at ≤ length text → may_open_markup reader.options.email_autolinks (drop at text) ≡ false → token reader read (place at) ≡ placed place (token (text_reader reader.options reader.lookup text) (one_stretch cell text) at)
   token-placed at le none = token-at reader read text place r.places at le none ∙ ap (λ c. placed place (token (text_reader reader.options reader.lookup text) (one_stretch c text) at)) r.cell
 
@@ -110,7 +110,7 @@ module _ (leaf : LeafText) (reader : Reader) (read : Leaf) (place : ℕ → ℕ)
         item-like leaf reader read place r.places r.cell r.bytes texts links (text_slot start to) start to refl refl some within Plain kind.Text
         (text-together reader read text place r.places at none (text_item start to) to (subst (λ c. token (text_reader reader.options reader.lookup text) (one_stretch c text) at ≡ item_at Plain start to) (sym r.cell) own_token)) (λ h. absurd (true≢false (sym h))) tt
 
-  -- ## Once it has a slot, the pass stands behind it
+  -- ## Once it has a slot, the pass is after it
   module _ {F : Type 0} (R : F → BrokenLink → Option (CowStr × CowStr) → F → Type 0) (before : Between) (tally : Tally) (initial now : F) where
     pub flushed-reached : (at start to : ℕ) (old new : InlineState) → HasReached R leaf reader read place before tally initial at old now → IsHeld reader.options reader.lookup cell text at start to → to ≤ length text
         → StopsAt (text_reader reader.options reader.lookup text) (one_stretch cell text) to → PushesText start to old.slots.items new.slots.items → new ≡ record old { slots = new.slots } → HasReached R leaf reader read place before tally initial to new now

@@ -1,4 +1,4 @@
--- A text that is pending is one item of the grammar, and its slot is like it.
+-- A pending text is one item of the grammar, and its slot is like it.
 use Rattle.std.proofs.Common.{◌≡◌, ℕ, ◌-◌, ◌<◌, ◌≤◌, Bool, false, List, length, drop, refl, sym, ap, ◌∙◌, subst, arith, length-drop, true≢false}
 use Rattle.cmark_grammar.specs.InlineTokens.{from, item_at, token}
 use Rattle.cmark_grammar.specs.Items.{Plain, Item, Stands}
@@ -6,7 +6,7 @@ use Rattle.cmark_grammar.specs.LeafText.{Leaf}
 use Rattle.cmark_grammar.specs.Readers.{Reader}
 use Rattle.cmark_leaf_text.specs.Reads.{text_of, is_cell_of}
 use Rattle.cmark_leaf_text.specs.declared.leaf_text.LeafText.{LeafText}
-use Rattle.cmark_text_parts.specs.declared.text.CowStr.{CowStr}
+use Rattle.cmark_values.specs.declared.text.CowStr.{CowStr}
 use Rattle.cmark_inline_model.specs.LikeSlots.{IsLike}
 use Rattle.cmark_inline_model.specs.PlacedTokens.{StopsAt, may_open_markup, placed, placed_item, one_stretch, text_reader}
 use Rattle.cmark_inline_model.specs.SlotRows.{ItemSlot}
@@ -46,7 +46,7 @@ module _ (leaf : LeafText) (reader : Reader) (read : Leaf) (place : ℕ → ℕ)
         (let e : length (drop end text) ≡ length text - end = length-drop end text in let q = ap length own_bytes in omega arith)
         (λ k a b. (let s = all k a b in record { end = s.end; further = s.further; within = s.within; token = s.token })) stops
 
-    -- the same for the cell or the paragraph that the grammar reads
+    -- the token in the cell or the paragraph that the grammar reads
     there : token (text_reader reader.options reader.lookup text) (one_stretch read.is_cell text) at ≡ item_at Plain start to
     there = subst (λ c. token (text_reader reader.options reader.lookup text) (one_stretch c text) at ≡ item_at Plain start to) (sym r.cell) own_token
 

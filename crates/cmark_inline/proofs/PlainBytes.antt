@@ -1,4 +1,4 @@
--- Which bytes an item has that stands for itself where it begins, and what begins at the end of a line.
+-- The bytes of a literal item, and the token at the end of a line.
 use Rattle.std.specs.Prelude.{Option, Some, None, codes, if◌then◌else◌, not, nat_lt, option_map}
 use Rattle.std.specs.List.{prefix_len, take_while}
 use Rattle.std.proofs.Common.{◌≡◌, ◌⊎◌, inl, inr, ℕ, zero, suc, ◌+◌, ◌-◌, ◌<◌, ◌≤◌, ◌==◌, ◌&&◌, ◌||◌, Bool, true, false, List, [], ◌∷◌, length, take, drop, get_or, refl, sym, ap, ◌∙◌, subst, arith, eqb-true, true≢false}
@@ -12,8 +12,8 @@ use Rattle.cmark_grammar.specs.CodeSpans.{is_backtick, backticks, code_in}
 use Rattle.cmark_grammar.specs.Columns.{is_blank_byte}
 use Rattle.cmark_grammar.specs.Dashes.{dashes_of, dash_text}
 use Rattle.cmark_grammar.specs.Flanking.{Flanking, flanking, is_run_delimiter}
-use Rattle.cmark_grammar.specs.Formulas.{is_dollar, Braces, no_braces, braces_behind, inline_in, display_in}
-use Rattle.cmark_grammar.specs.InlineHtml.{behind_markup, takes_lines}
+use Rattle.cmark_grammar.specs.Formulas.{is_dollar, Braces, no_braces, braces_after, inline_in, display_in}
+use Rattle.cmark_grammar.specs.InlineHtml.{after_markup, takes_lines}
 use Rattle.cmark_grammar.specs.InlineTokens.{as_in, item_at, bracket, is_plain, from, before, size_to, character_before, character_at, break_or, code_or, escaped_backtick, escape_at, entity_or, autolink_or, tag_or_text, source_from, markup_or, less_than, run_or, run_at, formula_or, dollar, dots, hyphens, quote_at, smart_or, begins}
 use Rattle.cmark_grammar.specs.Items.{ItemKind, Plain, Written, InlineMath, DisplayMath, Delimiters, Html, OwnedHtml, SoftBreak, HardBreak, Token, Stands, Opens, Closes, Ends}
 use Rattle.cmark_grammar.specs.LabelsOverLines.{piped}
@@ -21,14 +21,14 @@ use Rattle.cmark_grammar.specs.LeafText.{Leaf}
 use Rattle.cmark_grammar.specs.Letters.{first_is, starts}
 use Rattle.cmark_grammar.specs.LineBreaks.{LineBreak, backslash_break_in, blank_break, blank_break_in}
 use Rattle.cmark_grammar.specs.Lines.{is_content}
-use Rattle.cmark_grammar.specs.LinkDefinitions.{Parsed, behind_blanks}
+use Rattle.cmark_grammar.specs.LinkDefinitions.{Parsed, after_leading_blanks}
 use Rattle.cmark_grammar.specs.Options.{Options}
 use Rattle.cmark_grammar.specs.Readers.{Reader}
-use Rattle.cmark_grammar.specs.Tags.{behind_ending, behind_line_feed, behind_tag, no_prefix}
+use Rattle.cmark_grammar.specs.Tags.{after_ending, after_line_feed, after_tag, no_prefix}
 use Rattle.cmark_grammar.specs.Tokens.{Entity, entity_in, is_punctuation}
 use Rattle.cmark_inline_model.proofs.PlacedTokens.{no-break}
 use Rattle.cmark_inline.specs.Tokens.{begins_at, reading, whole}
-use Rattle.cmark_inline.proofs.Bytes.{behind-more, behind-none}
+use Rattle.cmark_inline.proofs.Bytes.{following-more, following-none}
 use Rattle.cmark_inline.proofs.TokenSteps.{begins-with, code-begins, from-is}
 
 abbrev is_break : ItemKind → Bool
@@ -65,7 +65,7 @@ module _ (o : Options) (l : Lookup) (cell : Bool) (text : List ℕ) (at : ℕ) (
   abbrev Bytes : (resume : ℕ) → Type 0
   Bytes resume = (resume ≡ suc at) ⊎ ((is_blank_byte b ≡ false) × ((j : ℕ) → at ≤ j → j < resume → get_or text j 0 ≡ b))
 
-  -- a text that begins there is one byte, or equal ones, which are no blanks
+  -- a literal text at `at` is one byte, or several equal bytes that are no blanks
   abbrev Same : Token → Type 0
   Same (Stands x resume) = is_plain x.kind ≡ true → x.start ≡ at → Bytes resume
   Same (Opens c) = Unit {0}
@@ -128,10 +128,10 @@ module _ (o : Options) (l : Lookup) (cell : Bool) (text : List ℕ) (at : ℕ) (
 
   less_same : Same (less_than r leaf at bs)
   less_same =
-      let tag = tag_or_text r leaf at (behind_tag no_prefix (from r leaf at)) in
-      let others = markup_or r leaf at (behind_markup (source_from r leaf at)) tag in
+      let tag = tag_or_text r leaf at (after_tag no_prefix (from r leaf at)) in
+      let others = markup_or r leaf at (after_markup (source_from r leaf at)) tag in
       when (first_is (λ c. c == 92) bs) (item_at Plain at (suc at)) (autolink_or r leaf at (autolink_in r.options.email_autolinks bs) others) (λ e. byte_same)
-      (λ e. autolink_same (autolink_in r.options.email_autolinks bs) others (markup_same (behind_markup (source_from r leaf at)) tag (tag_same (behind_tag no_prefix (from r leaf at)))))
+      (λ e. autolink_same (autolink_in r.options.email_autolinks bs) others (markup_same (after_markup (source_from r leaf at)) tag (tag_same (after_tag no_prefix (from r leaf at)))))
 
   -- the bytes of a run of this byte
   run_bytes : (c : ℕ) → b ≡ c → (j : ℕ) → at ≤ j → j < at + prefix_len (λ d. d == c) (drop at text) → get_or text j 0 ≡ b
@@ -174,7 +174,7 @@ module _ (o : Options) (l : Lookup) (cell : Bool) (text : List ℕ) (at : ℕ) (
   begins_same =
       let plain = item_at Plain at (suc at) in
       let c9 = if r.options.smart_punctuation then smart_or r leaf at b else plain in
-      let c8 = if r.options.math && is_dollar b then dollar r leaf at bs (braces_behind false (before r leaf at) no_braces) else c9 in
+      let c8 = if r.options.math && is_dollar b then dollar r leaf at bs (braces_after false (before r leaf at) no_braces) else c9 in
       let n = prefix_len (λ c. c == b) (b ∷ bs) in
       let c7 = if is_run_delimiter b then run_at r leaf at b n else c8 in
       let c6 = if b == 93 then Closes (bracket false at (suc at)) else c7 in
@@ -196,13 +196,13 @@ module _ (o : Options) (l : Lookup) (cell : Bool) (text : List ℕ) (at : ℕ) (
       (λ e5. when (b == 91) (Opens (bracket false at (suc at))) c6 (λ e. tt)
       (λ e6. when (b == 93) (Closes (bracket false at (suc at))) c7 (λ e. tt)
       (λ e7. when (is_run_delimiter b) (run_at r leaf at b n) c8 (λ e. run_same none (flanking r.options b n (character_before r leaf at) (character_at r leaf (at + n))))
-      (λ e8. when (r.options.math && is_dollar b) (dollar r leaf at bs (braces_behind false (before r leaf at) no_braces)) c9 (λ e. dollar_same (braces_behind false (before r leaf at) no_braces))
+      (λ e8. when (r.options.math && is_dollar b) (dollar r leaf at bs (braces_after false (before r leaf at) no_braces)) c9 (λ e. dollar_same (braces_after false (before r leaf at) no_braces))
       (λ e9. when r.options.smart_punctuation (smart_or r leaf at b) plain (λ e. smart_same none) (λ e. byte_same))))))))))))
 
   pub plain-bytes : (end : ℕ) → begins_at o l cell text at ≡ item_at Plain at end → Bytes end
   plain-bytes end t = subst Same (sym (begins-with o l cell text at b lt refl) ∙ t) begins_same refl refl
 
-  -- its last byte is no blank where its first is none
+  -- its last byte is no blank if its first byte is none
   pub plain-last : (end : ℕ) → at < end → begins_at o l cell text at ≡ item_at Plain at end → is_blank_byte b ≡ false → is_blank_byte (get_or text (end - 1) 0) ≡ false
   plain-last end some t none = go (plain-bytes end t)
     where
@@ -210,7 +210,7 @@ module _ (o : Options) (l : Lookup) (cell : Bool) (text : List ℕ) (at : ℕ) (
       go (inl e) = ap (λ i. is_blank_byte (get_or text i 0)) (let q : end - 1 ≡ at = omega (arith, e) in q) ∙ none
       go (inr h) = ap is_blank_byte (h.1 (end - 1) (omega (arith, some)) (omega (arith, some))) ∙ none
 
-  -- no such text begins with a backtick
+  -- no literal text begins with a backtick
   pub plain-tick : (start end : ℕ) → begins_at o l cell text at ≡ item_at Plain start end → b ≡ 96 → ⊥
   plain-tick start end t is = true≢false (sym (sym (go (backticks (drop at text)) (code_in (drop at text))) ∙ ap plain_token (sym (code-begins o l cell text at lt is) ∙ t)))
     where
@@ -218,7 +218,7 @@ module _ (o : Options) (l : Lookup) (cell : Bool) (text : List ℕ) (at : ℕ) (
       go n None = refl
       go n (Some found) = refl
 
-  -- where no line break is read, no line ends
+  -- if no line break is read, the byte ends no line
   pub content-there : (t : Token) → begins_at o l cell text at ≡ t → breaks t ≡ false → is_content b ≡ true
   content-there t is none = go (is_content b) refl
     where
@@ -249,28 +249,28 @@ module _ (o : Options) (l : Lookup) (cell : Bool) (text : List ℕ) (at : ℕ) (
           found (Some f) q = true≢false (sym (ap breaks (token ∙ ap (λ x. break_or r leaf at x (item_at Plain at (suc at))) q) ∙ kind f.is_hard) ∙ ap breaks is ∙ none)
 
 -- ## No line break begins
-no-ending : (b : ℕ) (bs : List ℕ) → is_content b ≡ true → behind_ending (b ∷ bs) ≡ None
+no-ending : (b : ℕ) (bs : List ℕ) → is_content b ≡ true → after_ending (b ∷ bs) ≡ None
 no-ending b bs e = go (b == 10) (b == 13) refl refl
   where
-    go : (x y : Bool) → (b == 10) ≡ x → (b == 13) ≡ y → behind_ending (b ∷ bs) ≡ None
+    go : (x y : Bool) → (b == 10) ≡ x → (b == 13) ≡ y → after_ending (b ∷ bs) ≡ None
     go true y p q = absurd (true≢false (sym e ∙ ap is_content (eqb-true b 10 p)))
     go false true p q = absurd (true≢false (sym e ∙ ap is_content (eqb-true b 13 q)))
-    go false false p q = ap (λ z. if z then Some bs else if b == 13 then Some (behind_line_feed bs) else None) p ∙ ap (λ z. if z then Some (behind_line_feed bs) else None) q
+    go false false p q = ap (λ z. if z then Some bs else if b == 13 then Some (after_line_feed bs) else None) p ∙ ap (λ z. if z then Some (after_line_feed bs) else None) q
 
-pub ending-there : (text : List ℕ) (at : ℕ) → at < length text → is_content (get_or text at 0) ≡ true → is_blank_byte (get_or text at 0) ≡ false → behind_ending (behind_blanks (drop at text)) ≡ None
-ending-there text at lt e none = ap behind_ending (behind-none text at lt none ∙ drop-cons text at 0 lt) ∙ no-ending (get_or text at 0) (drop (suc at) text) e
+pub ending-there : (text : List ℕ) (at : ℕ) → at < length text → is_content (get_or text at 0) ≡ true → is_blank_byte (get_or text at 0) ≡ false → after_ending (after_leading_blanks (drop at text)) ≡ None
+ending-there text at lt e none = ap after_ending (following-none text at lt none ∙ drop-cons text at 0 lt) ∙ no-ending (get_or text at 0) (drop (suc at) text) e
 
 pub no-break-before : (n : ℕ) (text : List ℕ) (at to : ℕ) → at + suc n ≡ to → to ≤ length text → ((j : ℕ) → at ≤ j → j < to → is_content (get_or text j 0) ≡ true)
-    → (is_blank_byte (get_or text (to - 1) 0) ≡ true → behind_ending (behind_blanks (drop to text)) ≡ None) → behind_ending (behind_blanks (drop at text)) ≡ None
+    → (is_blank_byte (get_or text (to - 1) 0) ≡ true → after_ending (after_leading_blanks (drop to text)) ≡ None) → after_ending (after_leading_blanks (drop at text)) ≡ None
 no-break-before zero text at to size within all last = go (is_blank_byte (get_or text at 0)) refl
   where
     lt : at < length text
     lt = omega (arith, size, within)
 
-    go : (z : Bool) → is_blank_byte (get_or text at 0) ≡ z → behind_ending (behind_blanks (drop at text)) ≡ None
+    go : (z : Bool) → is_blank_byte (get_or text at 0) ≡ z → after_ending (after_leading_blanks (drop at text)) ≡ None
     go false e = ending-there text at lt (all at (omega arith) (let q : at < to = omega (arith, size) in q)) e
     go true e =
-        ap behind_ending (behind-more text at lt e) ∙ ap (λ k. behind_ending (behind_blanks (drop k text))) (let q : at + 1 ≡ to = omega (arith, size) in q)
+        ap after_ending (following-more text at lt e) ∙ ap (λ k. after_ending (after_leading_blanks (drop k text))) (let q : at + 1 ≡ to = omega (arith, size) in q)
         ∙ last (ap (λ k. is_blank_byte (get_or text k 0)) (let q : to - 1 ≡ at = omega (arith, size) in q) ∙ e)
 no-break-before (suc n) text at to size within all last =
     go (is_blank_byte (get_or text at 0)) refl (no-break-before n text (at + 1) to (let q : at + 1 + suc n ≡ to = omega (arith, size) in q) within (λ j low high. all j (let q : at ≤ j = omega (arith, low) in q) high) last)
@@ -278,9 +278,9 @@ no-break-before (suc n) text at to size within all last =
     lt : at < length text
     lt = omega (arith, size, within)
 
-    go : (z : Bool) → is_blank_byte (get_or text at 0) ≡ z → behind_ending (behind_blanks (drop (at + 1) text)) ≡ None → behind_ending (behind_blanks (drop at text)) ≡ None
+    go : (z : Bool) → is_blank_byte (get_or text at 0) ≡ z → after_ending (after_leading_blanks (drop (at + 1) text)) ≡ None → after_ending (after_leading_blanks (drop at text)) ≡ None
     go false e further = ending-there text at lt (all at (omega arith) (let q : at < to = omega (arith, size) in q)) e
-    go true e further = ap behind_ending (behind-more text at lt e) ∙ further
+    go true e further = ap after_ending (following-more text at lt e) ∙ further
 
-pub no-blank-break : (bs : List ℕ) → behind_ending (behind_blanks bs) ≡ None → blank_break_in bs ≡ None
+pub no-blank-break : (bs : List ℕ) → after_ending (after_leading_blanks bs) ≡ None → blank_break_in bs ≡ None
 no-blank-break bs e = ap (option_map (blank_break (take_while is_blank_byte bs))) e

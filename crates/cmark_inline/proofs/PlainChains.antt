@@ -1,4 +1,4 @@
--- Bytes that stand for themselves, one item behind the other, are one text.
+-- Literal items, one after the other, are one text.
 use Rattle.std.specs.Prelude.{if◌then◌else◌, nat_lt}
 use Rattle.std.proofs.Common.{◌≡◌, ◌⊎◌, inl, inr, ℕ, zero, suc, ◌-◌, ◌<◌, ◌≤◌, Bool, true, false, List, [], ◌∷◌, ◌++◌, length, refl, sym, ap, ◌∙◌, subst, arith, length-drop}
 use Rattle.std.proofs.lemmas.Bool.{eq-eqb, ltb-true, ltb-false}
@@ -14,8 +14,8 @@ use Rattle.cmark_inline.specs.PlainStretches.{StandsForItself}
 use Rattle.cmark_inline.specs.Tokens.{begins_at, reading, whole}
 use Rattle.cmark_inline.proofs.TokenSteps.{from-is}
 
-pub before-or-behind : (a b : ℕ) → (a ≤ b) ⊎ (b < a)
-before-or-behind a b = go (nat_lt b a) refl
+pub before-or-following : (a b : ℕ) → (a ≤ b) ⊎ (b < a)
+before-or-following a b = go (nat_lt b a) refl
   where
     go : (z : Bool) → nat_lt b a ≡ z → (a ≤ b) ⊎ (b < a)
     go true e = inr (ltb-true b a e)
@@ -28,7 +28,7 @@ module _ (o : Options) (l : Lookup) (cell : Bool) (text : List ℕ) where
   abbrev alone : Leaf
   alone = whole cell text
 
-  -- there are such bytes from a place up to another
+  -- there are literal items from `start` to `to`
   pub record Reaches (start to : ℕ) : Type 0 where
     pub ends : List ℕ
     pub texts : AreTexts o l cell text start ends to
@@ -50,10 +50,10 @@ module _ (o : Options) (l : Lookup) (cell : Bool) (text : List ℕ) where
   pub reaches-join : (start mid to : ℕ) → Reaches start mid → Reaches mid to → Reaches start to
   reaches-join start mid to h k = record { ends = h.ends ++ k.ends; texts = texts-join start h.ends mid k.ends to h.texts k.texts }
 
-  -- where they begin at each place
+  -- a literal item begins at each offset
   pub reaches-all : (n start to : ℕ) → to - start ≤ n → start ≤ to → ((k : ℕ) → start ≤ k → k < to → StandsForItself o l cell text k to) → Reaches start to
   reaches-all zero start to few le all = reaches-none start to (omega (arith, few, le))
-  reaches-all (suc n) start to few le all = go (before-or-behind to start) (λ end a b. reaches-all n end to (omega (arith, few, a)) b (λ k low high. all k (let q : start ≤ k = omega (arith, a, low) in q) high))
+  reaches-all (suc n) start to few le all = go (before-or-following to start) (λ end a b. reaches-all n end to (omega (arith, few, a)) b (λ k low high. all k (let q : start ≤ k = omega (arith, a, low) in q) high))
     where
       go : (to ≤ start) ⊎ (start < to) → ((end : ℕ) → start < end → end ≤ to → Reaches end to) → Reaches start to
       go (inl a) later = reaches-none start to (omega (arith, a, le))
@@ -62,7 +62,7 @@ module _ (o : Options) (l : Lookup) (cell : Bool) (text : List ℕ) where
           let rest = later s.end s.further s.within in
           record { ends = s.end ∷ rest.ends; texts = (s.further, s.token, rest.texts) }
 
-  -- they are one text up to a place where none begin
+  -- they are one text up to an offset where no literal item begins
   reaches-end : (ends : List ℕ) (n start to : ℕ) → AreTexts o l cell text start ends to → to - start ≤ n → StopsAt one alone to → plain_end one alone n start ≡ to
   reaches-end [] zero start to h few stops = h
   reaches-end [] (suc n) start to h few stops = subst (λ k. plain_end one alone (suc n) k ≡ to) (sym h) (stops (plain_end one alone n))
@@ -83,11 +83,11 @@ module _ (o : Options) (l : Lookup) (cell : Bool) (text : List ℕ) where
       let d = length-drop h.end text in
       ap (longest one alone) h.token ∙ ap (item_at Plain start) (reaches-end h.ends (length (from one alone h.end)) h.end to h.texts (omega (arith, m, d, within)) stops)
 
-  -- a text goes on
+  -- a text continues
   pub begun-further : (at start mid to : ℕ) → HasBegun o l cell text at start mid → Reaches mid to → HasBegun o l cell text at start to
   begun-further at start mid to h k = record { end = h.end; some = h.some; token = h.token; ends = h.ends ++ k.ends; texts = texts-join h.end h.ends mid k.ends to h.texts k.texts }
 
-  -- what is pending, where the pass stands at one place and the text is read up to another
+  -- the pending text from `start` to `to`, if the pass is at the offset `at`
   abbrev pub IsHeld : (at start to : ℕ) → Type 0
   IsHeld at start to = ((at ≡ start) × (start ≡ to)) ⊎ HasBegun o l cell text at start to
 

@@ -1,4 +1,4 @@
--- Bytes that are not special stand for themselves.
+-- Bytes that are not special are literal.
 use Rattle.std.specs.Prelude.{Option, None, codes, not, if◌then◌else◌, nat_lt}
 use Rattle.std.specs.List.{prefix_len, position_or_len}
 use Rattle.std.proofs.Common.{◌≡◌, ◌⊎◌, inl, inr, ℕ, suc, ◌+◌, ◌-◌, ◌<◌, ◌≤◌, ◌==◌, ◌&&◌, ◌||◌, Bool, true, false, List, [], ◌∷◌, length, drop, get_or, refl, sym, ap, ◌∙◌, arith, cond, eqb-true, length-drop, true≢false}
@@ -8,7 +8,7 @@ use Rattle.std.proofs.lemmas.List.Sums.{prefix_len_passes, prefix_len-le-length,
 use Rattle.cmark_grammar.specs.Answers.{Lookup}
 use Rattle.cmark_grammar.specs.Columns.{is_blank_byte}
 use Rattle.cmark_grammar.specs.Flanking.{Flanking, flanking, is_delimiter_run, is_intraword, opens_beside, closes_beside, is_run_delimiter}
-use Rattle.cmark_grammar.specs.Formulas.{is_dollar, no_braces, braces_behind}
+use Rattle.cmark_grammar.specs.Formulas.{is_dollar, no_braces, braces_after}
 use Rattle.cmark_grammar.specs.InlineTokens.{item_at, before, break_or, dollar, smart_or, run_at, run_or, character_before, character_at}
 use Rattle.cmark_grammar.specs.Items.{Plain, Token}
 use Rattle.cmark_grammar.specs.LeafText.{Leaf}
@@ -16,14 +16,14 @@ use Rattle.cmark_grammar.specs.LineBreaks.{blank_break_in}
 use Rattle.cmark_grammar.specs.Lines.{is_content}
 use Rattle.cmark_grammar.specs.Options.{Options}
 use Rattle.cmark_grammar.specs.Readers.{Reader}
-use Rattle.cmark_grammar.specs.SpecialBytes.{is_one_of, is_always_special, is_special}
+use Rattle.cmark_inline_model.specs.SpecialBytes.{is_one_of, is_always_special, is_special}
 use Rattle.cmark_search.specs.Sets.{in_rows}
 use Rattle.cmark_inline.specs.PlainStretches.{IsSetOf, StandsForItself, StandUpTo}
 use Rattle.cmark_inline.specs.Tokens.{whole, reading, begins_at}
 use Rattle.cmark_inline.proofs.SpecialSteps.{Kinds, special-kinds, sign-passes}
 use Rattle.cmark_inline.proofs.TokenSteps.{begins-with, blank-breaks, break-begins, front}
 
--- ## What a byte is not that is not special
+-- ## Bytes that are not special differ from all signs
 abbrev AllDiffer : List ℕ → ℕ → Type 0
 AllDiffer [] b = Unit {0}
 AllDiffer (x ∷ xs) b = ((b == x) ≡ false) × AllDiffer xs b
@@ -35,7 +35,7 @@ none-of : (signs : List ℕ) (b : ℕ) → is_one_of signs b ≡ false → AllDi
 none-of [] b e = tt
 none-of (x ∷ xs) b e = let h = or_parts (x == b) (is_one_of xs b) e in (differ x b h.0, none-of xs b h.1)
 
--- where an option is off or the byte is none of these signs
+-- an option is off, or the byte is none of these signs
 under : (z : Bool) (signs : List ℕ) (b : ℕ) → (z && is_one_of signs b) ≡ false → (z ≡ false) ⊎ AllDiffer signs b
 under false signs b e = inl refl
 under true signs b e = inr (none-of signs b e)
@@ -130,7 +130,7 @@ not-less a b h = go (nat_lt a b) refl
     go true e = absurd (h (ltb-true a b e))
     go false e = ltb-false a b e
 
--- ## What begins at such a byte
+-- ## The token at a byte that is not special
 module _ (o : Options) (l : Lookup) (cell : Bool) (text : List ℕ) (at : ℕ) (lt : at < length text) where
   abbrev r : Reader
   r = reading o l text
@@ -144,15 +144,15 @@ module _ (o : Options) (l : Lookup) (cell : Bool) (text : List ℕ) (at : ℕ) (
   abbrev bs : List ℕ
   bs = drop (suc at) text
 
-  -- behind the tests of what is always special
-  abbrev behind_marks : Token
-  behind_marks =
-      if o.math && is_dollar b then dollar r leaf at bs (braces_behind false (before r leaf at) no_braces)
+  -- the token after the tests for the bytes that are always special
+  abbrev after_marks : Token
+  after_marks =
+      if o.math && is_dollar b then dollar r leaf at bs (braces_after false (before r leaf at) no_braces)
       else if o.smart_punctuation then smart_or r leaf at b
       else item_at Plain at (suc at)
 
   abbrev at_marks : Token
-  at_marks = if is_run_delimiter b then run_at r leaf at b (prefix_len (λ c. c == b) (b ∷ bs)) else behind_marks
+  at_marks = if is_run_delimiter b then run_at r leaf at b (prefix_len (λ c. c == b) (b ∷ bs)) else after_marks
 
   to-marks : Others o b → is_blank_byte b ≡ false → begins_at o l cell text at ≡ at_marks
   to-marks h blank =
@@ -181,8 +181,8 @@ module _ (o : Options) (l : Lookup) (cell : Bool) (text : List ℕ) (at : ℕ) (
   by-dollar (inl e) = ap (λ z. z && is_dollar b) e
   by-dollar (inr d) = ap (λ z. o.math && z) d.0 ∙ and-false o.math
 
-  behind-stands : Others o b → behind_marks ≡ item_at Plain at (suc at)
-  behind-stands h = skip (o.math && is_dollar b) _ _ (by-dollar h.math) ∙ by-smart o.smart_punctuation h.smart
+  following-stands : Others o b → after_marks ≡ item_at Plain at (suc at)
+  following-stands h = skip (o.math && is_dollar b) _ _ (by-dollar h.math) ∙ by-smart o.smart_punctuation h.smart
 
   byte-stands : Others o b → is_blank_byte b ≡ false → (begins_at o l cell text at ≡ item_at Plain at (suc at)) ⊎ (begins_at o l cell text at ≡ item_at Plain at (at + prefix_len (λ c. c == b) (drop at text)))
   byte-stands h blank = go (is_run_delimiter b) refl
@@ -192,14 +192,14 @@ module _ (o : Options) (l : Lookup) (cell : Bool) (text : List ℕ) (at : ℕ) (
 
       go : (z : Bool) → (is_run_delimiter b) ≡ z → (begins_at o l cell text at ≡ item_at Plain at (suc at)) ⊎ (begins_at o l cell text at ≡ item_at Plain at (at + prefix_len (λ c. c == b) (drop at text)))
       go true q =
-          inr (to-marks h blank ∙ ap (λ z. if z then run_at r leaf at b n else behind_marks) q ∙ run-plain n h
+          inr (to-marks h blank ∙ ap (λ z. if z then run_at r leaf at b n else after_marks) q ∙ run-plain n h
           ∙ ap (λ x. item_at Plain at (at + prefix_len (λ c. c == b) x)) (sym (front o l cell text at b lt refl)))
-      go false q = inl (to-marks h blank ∙ ap (λ z. if z then run_at r leaf at b n else behind_marks) q ∙ behind-stands h)
+      go false q = inl (to-marks h blank ∙ ap (λ z. if z then run_at r leaf at b n else after_marks) q ∙ following-stands h)
 
   blank-stands : is_blank_byte b ≡ true → blank_break_in (drop at text) ≡ None → begins_at o l cell text at ≡ item_at Plain at (suc at)
   blank-stands e none = break-begins o l cell text at lt (blank-breaks b e) ∙ ap (λ x. break_or r leaf at x (item_at Plain at (suc at))) none
 
-  -- the run of this byte has some
+  -- the run of this byte is not empty
   run-some : 0 < prefix_len (λ c. c == b) (drop at text)
   run-some =
       let size : prefix_len (λ c. c == b) (drop at text) ≡ 1 + prefix_len (λ c. c == b) bs =

@@ -1,4 +1,4 @@
--- What stands between two special bytes are texts, one behind the other, up to the second one or up to the blanks in front of it.
+-- The bytes between two special bytes are literal items, one after the other, up to the second one or up to the blanks before it.
 use Rattle.std.specs.Prelude.{None}
 use Rattle.std.proofs.Common.{◌≡◌, ◌⊎◌, inl, inr, ℕ, suc, ◌+◌, ◌-◌, ◌<◌, ◌≤◌, ◌==◌, Bool, true, false, List, length, drop, get_or, refl, sym, ap, ◌∙◌, arith, eqb-true, true≢false}
 use Rattle.std.proofs.lemmas.Bool.{or_cases}
@@ -8,12 +8,12 @@ use Rattle.cmark_grammar.specs.InlineTokens.{item_at}
 use Rattle.cmark_grammar.specs.Items.{Plain}
 use Rattle.cmark_grammar.specs.LineBreaks.{blank_break_in}
 use Rattle.cmark_grammar.specs.Lines.{is_content}
-use Rattle.cmark_grammar.specs.LinkDefinitions.{behind_blanks}
+use Rattle.cmark_grammar.specs.LinkDefinitions.{after_leading_blanks}
 use Rattle.cmark_grammar.specs.Options.{Options}
-use Rattle.cmark_grammar.specs.Tags.{behind_ending}
+use Rattle.cmark_grammar.specs.Tags.{after_ending}
 use Rattle.cmark_inline.specs.PlainStretches.{StandsForItself, StandUpTo}
 use Rattle.cmark_inline.proofs.PlainBytes.{content-there, no-blank-break, no-break-before, plain-bytes}
-use Rattle.cmark_inline.proofs.PlainChains.{Reaches, before-or-behind, reaches-all}
+use Rattle.cmark_inline.proofs.PlainChains.{Reaches, before-or-following, reaches-all}
 
 pub blank-content : (b : ℕ) → is_blank_byte b ≡ true → is_content b ≡ true
 blank-content b e = go (or_cases (b == 32) (b == 9) e)
@@ -23,7 +23,7 @@ blank-content b e = go (or_cases (b == 32) (b == 9) e)
     go (inr h) = ap is_content (eqb-true b 9 h)
 
 module _ (o : Options) (l : Lookup) (cell : Bool) (text : List ℕ) (start to at : ℕ) (within : at ≤ length text) (stands : StandUpTo o l cell text start at) (low : start ≤ to) (high : to ≤ at)
-    (blanks : (j : ℕ) → to ≤ j → j < at → is_blank_byte (get_or text j 0) ≡ true) (last : start < to → is_blank_byte (get_or text (to - 1) 0) ≡ true → behind_ending (behind_blanks (drop to text)) ≡ None) where
+    (blanks : (j : ℕ) → to ≤ j → j < at → is_blank_byte (get_or text j 0) ≡ true) (last : start < to → is_blank_byte (get_or text (to - 1) 0) ≡ true → after_ending (after_leading_blanks (drop to text)) ≡ None) where
   content : (j : ℕ) → start ≤ j → j < to → is_content (get_or text j 0) ≡ true
   content j a b = go (is_blank_byte (get_or text j 0)) refl
     where
@@ -39,7 +39,7 @@ module _ (o : Options) (l : Lookup) (cell : Bool) (text : List ℕ) (start to at
       (λ j c d. content j (let q : start ≤ j = omega (arith, a, c) in q) d) (last (omega (arith, a, b))))
 
   each : (k : ℕ) → start ≤ k → k < to → StandsForItself o l cell text k to
-  each k a b = go (before-or-behind s.end to)
+  each k a b = go (before-or-following s.end to)
     where
       s : StandsForItself o l cell text k at
       s = stands k a (omega (arith, b, high)) (λ e. none k a b)

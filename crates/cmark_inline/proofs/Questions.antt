@@ -3,7 +3,7 @@ use Rattle.std.proofs.Common.{◌≡◌, ℕ, zero, suc, ◌+◌, ◌-◌, ◌�
 use Rattle.std.specs.Prelude.{Option, cond}
 use Rattle.std.proofs.lemmas.List.{take-take}
 use Rattle.std.proofs.lemmas.List.Sums.{count_by_more_yes, sum_by-take-le}
-use Rattle.cmark_text_parts.specs.declared.text.CowStr.{CowStr}
+use Rattle.cmark_values.specs.declared.text.CowStr.{CowStr}
 use Rattle.cmark_inline.specs.Asking.{AsksUpTo, AsksBetween, closing_brackets, is_closing_bracket}
 use Rattle.cmark_inline.specs.declared.callback.BrokenLink.{BrokenLink}
 
@@ -21,7 +21,7 @@ one-more a k b text le lt within is =
     omega (arith, l, m, n)
 
 module _ {F : Type 0} (R : F → BrokenLink → Option (CowStr × CowStr) → F → Type 0) where
-  -- fewer questions than so many
+  -- at most `m` questions are at most `n`
   up-to-by : (d m n : ℕ) (x y : F) → n ≡ d + m → AsksUpTo R m x y → AsksUpTo R n x y
   up-to-by zero m n x y e h = subst (λ (k : ℕ). AsksUpTo R k x y) (let q : m ≡ n = omega (arith, e) in q) h
   up-to-by (suc d) m zero x y e h = absurd (omega (arith, e))

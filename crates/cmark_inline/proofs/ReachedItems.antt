@@ -1,4 +1,4 @@
--- With a slot more the pass of the grammar has come to the place behind the item that the slot stands for; the opening brackets stay.
+-- With one slot more, the grammar's pass has read the item that the slot represents. The opening brackets stay.
 use Rattle.std.specs.Prelude.{Option, option_map, map}
 use Rattle.std.proofs.Common.{◌≡◌, ℕ, ◌+◌, ◌≤◌, Bool, true, List, [], ◌∷◌, ◌++◌, refl, sym, ap, ◌∙◌, subst, arith}
 use Rattle.cmark_grammar.specs.BracketStates.{Opener, State, moved}
@@ -11,7 +11,7 @@ use Rattle.cmark_grammar.specs.Readers.{Reader}
 use Rattle.cmark_grammar.specs.Siblings.{item}
 use Rattle.cmark_leaf_text.specs.Reads.{text_of}
 use Rattle.cmark_leaf_text.specs.declared.leaf_text.LeafText.{LeafText}
-use Rattle.cmark_text_parts.specs.declared.text.CowStr.{CowStr}
+use Rattle.cmark_values.specs.declared.text.CowStr.{CowStr}
 use Rattle.cmark_inline_model.specs.BracketPass.{Pass, pass}
 use Rattle.cmark_inline_model.specs.LikeSlots.{IsLike}
 use Rattle.cmark_inline_model.specs.PartLists.{join}
@@ -37,7 +37,7 @@ use Rattle.cmark_inline.proofs.LeastCounted.{TakesFor, counted-item, counted-sam
 use Rattle.cmark_inline.proofs.ReachedSteps.{own-read}
 
 -- ## Opening brackets
--- the stacks of brackets stay as they are, and so does what is left of the reference expansion limit and what was examined
+-- the stacks of brackets, the rest of the reference expansion limit and the count of examined runs stay as they are
 pub record SameBrackets (old new : InlineState) : Type 0 where
   pub brackets : new.brackets ≡ old.brackets
   pub doubled : new.doubled ≡ old.doubled

@@ -1,4 +1,4 @@
--- With a slot more, or with those of a delimiter run, a quote or an opening bracket, the state stands for one step more of the pass.
+-- With one slot more, or with the slots of a run, a quote or an opening bracket, the state represents one step more.
 use Rattle.std.specs.Prelude.{map}
 use Rattle.std.proofs.Common.{◌≡◌, ℕ, zero, suc, true, List, [], ◌∷◌, ◌++◌, length, refl, sym, ap, ◌∙◌, subst}
 use Rattle.std.proofs.lemmas.List.{length-map, map-append}

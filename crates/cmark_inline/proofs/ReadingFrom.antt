@@ -1,4 +1,4 @@
--- A leaf of which a part was read is read to its end, however the further questions are answered.
+-- A leaf that was read in part can be read to its end, whatever the answers to further questions are.
 use Rattle.std.proofs.Common.{◌≡◌, ◌+◌, ℕ, zero, suc, List, [], ◌∷◌, ◌++◌, Option, None, Some, refl, sym, ap, subst, arith, ◌∙◌, append_assoc, append-nil}
 use Rattle.cmark_grammar.specs.Answers.{Destination}
 use Rattle.cmark_grammar.specs.BracketDecisions.{decide}
@@ -26,9 +26,9 @@ use Rattle.cmark_inline_model.proofs.LeafLaws.{leaf-next, leaf-read}
 use Rattle.cmark_inline_model.proofs.PlannedReadings.{reads-planned}
 use Rattle.cmark_inline.specs.Resolved.{IsReadFrom, StopsAs}
 use Rattle.cmark_inline.specs.declared.callback.BrokenLink.{BrokenLink}
-use Rattle.cmark_text_parts.specs.declared.text.CowStr.{CowStr}
+use Rattle.cmark_values.specs.declared.text.CowStr.{CowStr}
 
--- ## The answers of a list, and then a plan's
+-- ## The answers of a list, and then of a plan
 
 abbrev pub answers_then : List Exchange → Plan → Plan
 answers_then [] plan asked question = plan asked question
@@ -46,14 +46,14 @@ answers-later : (all : List Exchange) (plan : Plan) (further : List Exchange) (q
 answers-later [] plan further question = refl
 answers-later (x ∷ all) plan further question = answers-later all plan further question
 
--- behind the list the plan answers
+-- after the list, the plan answers
 planned-later : (all : List Exchange) (plan : Plan) (before xs : List Exchange) → AreByPlan (answers_then all plan) (all ++ before) xs → AreByPlan plan before xs
 planned-later all plan before [] h = tt
 planned-later all plan before (x ∷ xs) h = (h.0 ∙ answers-later all plan before x.question, planned-later all plan (before ++ (x ∷ [])) xs (subst (λ l. AreByPlan (answers_then all plan) l xs) (append_assoc all before (x ∷ [])) h.1))
 
-planned-behind : (plan : Plan) (before xs ys : List Exchange) → AreByPlan plan before (xs ++ ys) → AreByPlan plan (before ++ xs) ys
-planned-behind plan before [] ys h = subst (λ l. AreByPlan plan l ys) (sym (append-nil before)) h
-planned-behind plan before (x ∷ xs) ys h = subst (λ l. AreByPlan plan l ys) (append_assoc before (x ∷ []) xs) (planned-behind plan (before ++ (x ∷ [])) xs ys h.1)
+planned-following : (plan : Plan) (before xs ys : List Exchange) → AreByPlan plan before (xs ++ ys) → AreByPlan plan (before ++ xs) ys
+planned-following plan before [] ys h = subst (λ l. AreByPlan plan l ys) (sym (append-nil before)) h
+planned-following plan before (x ∷ xs) ys h = subst (λ l. AreByPlan plan l ys) (append_assoc before (x ∷ []) xs) (planned-following plan (before ++ (x ∷ [])) xs ys h.1)
 
 -- ## Steps of a pass
 
@@ -107,7 +107,7 @@ module _ (reader : Reader) (leaf : Leaf) (size : ℕ) (turn : InTurn 0 leaf.stre
   abbrev before : Between
   before = record { expansion_left = expansion_left; asked = [] }
 
-  -- some parts of it were read
+  -- some parts of the leaf were read
   module _ (p : Pass) (reads : Reads (token reader leaf) (decide reader leaf) AnyAnswer (entering leaf before) p.here p.state) (plan : Plan) where
     abbrev both : Plan
     both = answers_then p.state.asked plan
@@ -127,7 +127,7 @@ module _ (reader : Reader) (leaf : Leaf) (size : ℕ) (turn : InTurn 0 leaf.stre
     ends : token reader leaf last.at ≡ Ends
     ends = run-ends (token reader leaf) (decide reader leaf) both all (leaf-forward reader leaf size turn) (entering leaf before) refl
 
-    -- the pass that answers so comes to these parts, and goes on from there
+    -- with these answers, the pass reads these parts and continues from there
     comes-on : last ≡ (goes all p).state
     comes-on =
         let there =
@@ -151,7 +151,7 @@ module _ (reader : Reader) (leaf : Leaf) (size : ℕ) (turn : InTurn 0 leaf.stre
           further = adds.0;
           planned =
               planned-later p.state.asked plan [] adds.0 (subst (λ l. AreByPlan both l adds.0) (sym (append-nil p.state.asked))
-              (planned-behind both [] p.state.asked adds.0 (subst (AreByPlan both []) adds.1 planned)));
+              (planned-following both [] p.state.asked adds.0 (subst (AreByPlan both []) adds.1 planned)));
           events = leaf_events reader both leaf before;
           left = last.expansion_left;
           reads =
@@ -160,7 +160,7 @@ module _ (reader : Reader) (leaf : Leaf) (size : ℕ) (turn : InTurn 0 leaf.stre
               (leaf-read reader leaf (leaf-forward reader leaf size turn) both before));
         }
 
--- ## Where nothing was asked
+-- ## If nothing was asked
 pub nothing-stops : {F : Type 0} (R : F → BrokenLink → Option (CowStr × CowStr) → F → Type 0) (reader : Reader) (leaf : Leaf) (size : ℕ) → InTurn 0 leaf.stretches size → (expansion_left : ℕ) (now : F) → StopsAs R reader leaf expansion_left now now
 nothing-stops R reader leaf size turn expansion_left now = record {
   asked = [];

@@ -1,10 +1,10 @@
--- What a reference leads to.
+-- The link that a reference leads to.
 use Rattle.std.proofs.Common.{◌≡◌, inl, inr, ℕ, List, ap, ◌∙◌, Some, None}
 use Rattle.std.specs.Prelude.{Option, option_map}
 use Rattle.cmark_references.specs.declared.definitions.LinkDef.{LinkDef}
-use Rattle.cmark_text_parts.specs.Shown.{text_bytes}
-use Rattle.cmark_text_parts.specs.declared.kind.LinkType.{LinkType}
-use Rattle.cmark_text_parts.specs.declared.text.CowStr.{CowStr}
+use Rattle.cmark_values.specs.Shown.{text_bytes}
+use Rattle.cmark_values.specs.declared.kind.LinkType.{LinkType}
+use Rattle.cmark_values.specs.declared.text.CowStr.{CowStr}
 use Rattle.cmark_inline.specs.Linked.{Answers, AsksOfReference, IsAnswered, IsLed, Refers, said_by, said_in, shown_destination}
 use Rattle.cmark_inline.specs.declared.callback.BrokenLink.{BrokenLink}
 use Rattle.cmark_inline.specs.declared.reference.Destination.{Destination}
@@ -36,7 +36,7 @@ module _ {F : Type 0} (R : F → BrokenLink → Option (CowStr × CowStr) → F 
       none : None ≡ Some (said_by def) → ⊥
       none q = let z : ⊥ = cc in z
 
-  -- ## What was asked, if memory was refused
+  -- ## The questions that were asked, if memory was refused
 
   pub asks-nothing : (def : Option LinkDef) (form : LinkType) (label : List ℕ) (start end : ℕ) (before after : F) → after ≡ before → AsksOfReference R def form label start end before after
   asks-nothing None form label start end before after same = inl same

@@ -12,7 +12,7 @@ use Rattle.cmark_leaf_text.specs.Stretches.{AreStretches, joined, place_in, size
 use Rattle.cmark_leaf_text.proofs.StretchSteps.{size-joined, slice-length, byte-in-slice, placed, place-order, part-there}
 use Rattle.cmark_inline.specs.MarkupInSource.{source_from}
 
--- a stretch begins with a byte of the text, or the byte before it stands next to it in the source
+-- a byte begins a stretch, or its place is directly after that of the byte before it
 begins-or-touches : (source : List ℕ) (first from : ℕ) (ss : List Stretch) (at : ℕ) → AreStretches source first from ss → first ≤ at → at < first + length (joined source ss)
     → IsCharBoundary source (place_in ss at) ⊎ ((first < at) × (place_in ss at ≡ place_in ss (at - 1) + 1))
 begins-or-touches source first from [] at all le lt = absurd (omega (arith, le, lt))
@@ -47,9 +47,9 @@ begins-or-touches source first from (x ∷ ss) at all le lt = go (λ l m. begins
     both true = inl refl
     both false = inr refl
 
-    behind : x.at + size_of x ≤ at → IsCharBoundary source (place_in ss at) ⊎ ((first + size_of x < at) × (place_in ss at ≡ place_in ss (at - 1) + 1)) → Result
-    behind g (inl b) = inl (subst (IsCharBoundary source) (sym (place-at at false (le-ltb at (x.at + size_of x) g))) b)
-    behind g (inr h) =
+    following : x.at + size_of x ≤ at → IsCharBoundary source (place_in ss at) ⊎ ((first + size_of x < at) × (place_in ss at ≡ place_in ss (at - 1) + 1)) → Result
+    following g (inl b) = inl (subst (IsCharBoundary source) (sym (place-at at false (le-ltb at (x.at + size_of x) g))) b)
+    following g (inr h) =
         let s = h.0 in
         inr (
           (let q : first < at = omega (arith, s) in q),
@@ -62,9 +62,9 @@ begins-or-touches source first from (x ∷ ss) at all le lt = go (λ l m. begins
     go more true e = inside (ltb-true at (x.at + size_of x) e) (both (nat_lt first at))
     go more false e =
         let g = ltb-false at (x.at + size_of x) e in
-        behind g (more (let q : first + size_of x ≤ at = omega (arith, p, g) in q) (let q : at < (first + size_of x) + length (joined source ss) = omega (arith, lt, n) in q))
+        following g (more (let q : first + size_of x ≤ at = omega (arith, p, g) in q) (let q : at < (first + size_of x) + length (joined source ss) = omega (arith, lt, n) in q))
 
--- a place of bytes, where they are read from an earlier one on
+-- the bytes from an offset on, seen from an earlier offset
 pub drop-to : (bytes : List ℕ) (ahead end : ℕ) → ahead ≤ end → drop (end - ahead) (drop ahead bytes) ≡ drop end bytes
 drop-to bytes ahead end le = drop-drop (end - ahead) ahead bytes ∙ ap (λ k. drop k bytes) (let q : ahead + (end - ahead) ≡ end = omega (arith, le) in q)
 
@@ -90,7 +90,7 @@ module _ (leaf : LeafText) (read : IsRead leaf) where
   counted : (k : ℕ) → k < length text → k < 0 + length (joined source ss)
   counted k lt = omega (arith, lt)
 
-  -- the first byte behind a place that cuts no character cuts none
+  -- the first byte of the text from a character boundary of the source on is at a character boundary of the text
   pub first-edge : (place end : ℕ) → IsCharBoundary source place → IsFirstFrom leaf place end → IsCharBoundary text end
   first-edge place end edge first = (first.within, λ lt big. go lt big (begins-or-touches source 0 0 ss end read.stretches (omega arith) (counted end lt)))
     where
@@ -108,22 +108,22 @@ module _ (leaf : LeafText) (read : IsRead leaf) where
           let some = h.0 in
           let next = h.1 in
           let a = first.before (end - 1) (let q : end - 1 < end = omega (arith, some) in q) in
-          let b = first.behind end (omega arith) lt in
+          let b = first.following end (omega arith) lt in
           from-source lt big (subst (IsCharBoundary source) (let q : place ≡ place_in ss end = omega (arith, next, a, b) in q) edge)
 
-  -- a later byte stands behind the earlier one in the source
+  -- a later byte has no earlier place
   pub order : (a b : ℕ) → a ≤ b → b < length text → place_in ss a ≤ place_in ss b
   order a b le lt = place-order source 0 0 ss a b read.stretches (omega arith) le (counted b lt)
 
-  -- where a place behind a byte of the text is asked for, it is behind that byte in the text
+  -- if a place is after that of a byte, the first byte from this place on is after that byte
   pub first-further : (place at end : ℕ) → at < length text → place_of leaf at < place → IsFirstFrom leaf place end → at < end
-  first-further place at end lt behind first = go (nat_lt at end) refl
+  first-further place at end lt following first = go (nat_lt at end) refl
     where
       go : (z : Bool) → nat_lt at end ≡ z → at < end
       go true e = ltb-true at end e
-      go false e = let g = ltb-false at end e in let p = first.behind at g lt in absurd (omega (arith, p, behind))
+      go false e = let g = ltb-false at end e in let p = first.following at g lt in absurd (omega (arith, p, following))
 
-  -- a place of the source that cuts no character where it is read from a byte on
+  -- a character boundary of the source from a byte on is one of the whole source
   pub source-edge : (at size : ℕ) → IsPart text at (length text) → IsCharBoundary (source_from leaf at) size → IsCharBoundary source (place_of leaf at + size)
   source-edge at size part h = go (nat_lt size (stop - p)) refl
     where
@@ -153,7 +153,7 @@ module _ (leaf : LeafText) (read : IsRead leaf) where
           let some = there.some in
           subst (IsCharBoundary source) (let q : stop ≡ p + size = omega (arith, g, l, sized, some) in q) there.ends
 
-  -- behind markup that the source closes the text goes on
+  -- after markup that the source closes, the text continues at a later character boundary
   pub found-edge : (at size end : ℕ) → IsPart text at (at + 1) → 0 < size → IsCharBoundary (source_from leaf at) size → IsFirstFrom leaf (place_of leaf at + size) end → (at < end) × IsCharBoundary text end
   found-edge at size end part some edge first =
       let w = part.within in
@@ -175,11 +175,11 @@ module _ (leaf : LeafText) (read : IsRead leaf) where
       ∙ sym (drop-take (q - p) (stop - q) (drop p source))
       ∙ ap (λ n. drop (q - p) (take n (drop p source))) (let h : (q - p) + (stop - q) ≡ stop - p = omega (arith, o, l) in h)
 
-  -- the source from a byte of the text on is that from the first byte on, behind what stands between them
+  -- the source from a byte on is the source from the leaf's first byte on, without the bytes before that byte
   pub source-ahead : (at : ℕ) → at < length text → source_from leaf at ≡ drop (place_of leaf at - place_of leaf 0) (source_from leaf 0)
   source-ahead at lt = source-later 0 at (omega arith) lt
 
-  -- a byte of the text that begins a character begins one there
+  -- a byte that begins a character in the text begins one in the source
   pub edge-ahead : (at : ℕ) → at < length text → IsCharBoundary text at → IsCharBoundary (source_from leaf 0) (place_of leaf at - place_of leaf 0)
   edge-ahead at lt h =
       let stop : ℕ = place_in ss (length text - 1) + 1 in

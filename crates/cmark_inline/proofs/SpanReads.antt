@@ -1,4 +1,4 @@
--- What the calls read, as one of what may be read at a special byte.
+-- The results of the calls, as results at a special byte.
 use Rattle.std.proofs.Common.{◌≡◌, ◌⊎◌, inl, inr, ℕ, Bool, List, subst}
 use Rattle.cmark_grammar.specs.Answers.{Lookup}
 use Rattle.cmark_grammar.specs.Options.{Options}

@@ -4,11 +4,11 @@ use Rattle.std.specs.Prelude.{codes}
 use Rattle.std.proofs.lemmas.Bool.{agree_below_at}
 use Rattle.std.proofs.Math.Bool.{or-false}
 use Rattle.cmark_grammar.specs.Options.{Options}
-use Rattle.cmark_grammar.specs.SpecialBytes.{is_always_special, is_one_of, is_special}
+use Rattle.cmark_inline_model.specs.SpecialBytes.{is_always_special, is_one_of, is_special}
 use Rattle.cmark_search.specs.Sets.{in_rows}
 use Rattle.cmark_inline.specs.declared.special.TheConstants.{ALWAYS, CARET, EQUALS, FORMULAS, PIPE, PUNCTUATION, TILDE}
 
--- a set, and the bytes that were joined to it under an option
+-- a set that was joined with the bytes of an option
 pub layer : (result set rows : List ℕ) (b : ℕ) (is on rest : Bool) → in_rows result b ≡ ((is && in_rows rows b) || in_rows set b) → is ≡ on → in_rows set b ≡ rest
     → in_rows result b ≡ ((on && in_rows rows b) || rest)
 layer result set rows b is on rest joined same under =
@@ -28,7 +28,7 @@ module _ (o : Options) where
       || ((o.math && formulas)
       || (o.smart_punctuation && punctuation))))))
 
-  -- all layers are the special bytes
+  -- all layers together are the special bytes
   pub all_layers : (b : ℕ) → b < 128
       → (in_rows ALWAYS b
       || ((o.tables && in_rows PIPE b)

@@ -1,4 +1,4 @@
--- Which bytes are special, and what begins at brackets and at bytes that stand for themselves.
+-- The special bytes, and the tokens at brackets and at literal bytes.
 use Rattle.std.specs.Prelude.{Option, if◌then◌else◌, codes, nat_lt}
 use Rattle.std.specs.List.{prefix_len}
 use Rattle.std.proofs.Common.{◌≡◌, ◌⊎◌, inl, inr, ℕ, suc, ◌+◌, ◌-◌, ◌<◌, ◌≤◌, ◌==◌, ◌||◌, ◌&&◌, Bool, true, false, List, [], ◌∷◌, length, drop, get_or, refl, sym, ap, ◌∙◌, arith, eqb-true, length-drop, true≢false}
@@ -9,12 +9,12 @@ use Rattle.cmark_grammar.specs.Answers.{Lookup}
 use Rattle.cmark_grammar.specs.Columns.{is_blank_byte}
 use Rattle.cmark_grammar.specs.Flanking.{Flanking, closes_beside, flanking, is_delimiter_run, is_intraword, is_run_delimiter, opens_beside}
 use Rattle.cmark_emphasis.specs.Counts.{is_run_of}
-use Rattle.cmark_grammar.specs.Formulas.{no_braces, braces_behind}
+use Rattle.cmark_grammar.specs.Formulas.{no_braces, braces_after}
 use Rattle.cmark_grammar.specs.InlineTokens.{item_at, bracket, before, dollar}
 use Rattle.cmark_grammar.specs.Items.{Plain, Token, Opens, Closes}
 use Rattle.cmark_grammar.specs.Letters.{first_is}
 use Rattle.cmark_grammar.specs.Options.{Options}
-use Rattle.cmark_grammar.specs.SpecialBytes.{is_one_of, is_always_special, is_special}
+use Rattle.cmark_inline_model.specs.SpecialBytes.{is_one_of, is_always_special, is_special}
 use Rattle.cmark_inline.specs.Tokens.{whole, reading, begins_at, is_other}
 use Rattle.cmark_inline.proofs.TokenSteps.{begins-with, unsigned}
 
@@ -59,7 +59,7 @@ special-kinds o b e = first (or_cases (is_always_special b) _ e)
     first (inl h) = inl h
     first (inr h) = second (or_cases (o.tables && (b == 124)) (((o.strikethrough || o.subscript) && (b == 126)) || ((o.superscript && (b == 94)) || ((o.highlight && (b == 61)) || ((o.math && is_one_of (codes "${}") b) || (o.smart_punctuation && is_one_of (codes ".-\"'") b))))) h)
 
--- a dot, a hyphen or a quote is special with typographic punctuation alone
+-- a dot, a hyphen or a quote is special only with typographic punctuation
 pub smart-special : (o : Options) (b : ℕ) → (b ≡ 46) ⊎ ((b ≡ 45) ⊎ ((b ≡ 34) ⊎ (b ≡ 39))) → is_special o b ≡ true → o.smart_punctuation ≡ true
 smart-special o b is e = go is
   where
@@ -81,7 +81,7 @@ smart-special o b is e = go is
     go (inr (inr (inl h))) = by 34 refl refl refl refl refl refl (special-kinds o 34 (sym (ap (is_special o) h) ∙ e))
     go (inr (inr (inr h))) = by 39 refl refl refl refl refl refl (special-kinds o 39 (sym (ap (is_special o) h) ∙ e))
 
--- a dollar sign is special with formulas alone
+-- a dollar sign is special only with formulas
 pub math-special : (o : Options) (b : ℕ) → b ≡ 36 → is_special o b ≡ true → o.math ≡ true
 math-special o b is e = by (special-kinds o 36 (sym (ap (is_special o) is) ∙ e))
   where
@@ -97,11 +97,11 @@ math-special o b is e = by (special-kinds o 36 (sym (ap (is_special o) is) ∙ e
     by (inr (inr (inr (inr (inr (inl h)))))) = h.0
     by (inr (inr (inr (inr (inr (inr h)))))) = no h.1
 
--- the bytes at which a call of its own begins
+-- the bytes that have a call of their own
 abbrev pub has_call : ℕ → Bool
 has_call b = is_one_of (codes "\n\r\\&`<![].-\"'$") b
 
--- a test that all signs pass
+-- all signs pass a test
 abbrev pub AllPass : (ℕ → Bool) → List ℕ → Type 0
 AllPass f [] = Unit {0}
 AllPass f (x ∷ xs) = (f x ≡ true) × AllPass f xs
@@ -117,7 +117,7 @@ sign-passes f b (x ∷ xs) all e = go (sign-passes f b xs all.1) (or_cases (x ==
 abbrev is_known : ℕ → Bool
 is_known n = has_call n || (is_run_delimiter n || is_other n)
 
--- all others are delimiters of runs, pipes or braces
+-- all other special bytes are delimiters of runs, pipes or braces
 pub other-special : (o : Options) (b : ℕ) → has_call b ≡ false → is_special o b ≡ true → (is_run_delimiter b ≡ true) ⊎ (is_other b ≡ true)
 other-special o b uncalled e = or_cases (is_run_delimiter b) (is_other b) (others (or_cases (has_call b) (is_run_delimiter b || is_other b) (known (special-kinds o b e))))
   where
@@ -137,7 +137,7 @@ other-special o b uncalled e = or_cases (is_run_delimiter b) (is_other b) (other
     others (inl h) = absurd (true≢false (sym h ∙ uncalled))
     others (inr h) = h
 
--- ## Brackets, and bytes that stand for themselves
+-- ## Brackets, and literal bytes
 module _ (o : Options) (l : Lookup) (cell : Bool) (text : List ℕ) (at : ℕ) (lt : at < length text) where
   one-more : suc at ≡ at + 1
   one-more = omega arith
@@ -168,7 +168,7 @@ module _ (o : Options) (l : Lookup) (cell : Bool) (text : List ℕ) (at : ℕ) (
   either-way false = ap (item_at Plain at) one-more
 
   abbrev signed : Token
-  signed = dollar (reading o l text) (whole cell text) at (drop (suc at) text) (braces_behind false (before (reading o l text) (whole cell text) at) no_braces)
+  signed = dollar (reading o l text) (whole cell text) at (drop (suc at) text) (braces_after false (before (reading o l text) (whole cell text) at) no_braces)
 
   no-sign : ◌≡◌ {A = Token} (if o.math && false then signed else if o.smart_punctuation then item_at Plain at (suc at) else item_at Plain at (suc at)) (item_at Plain at (at + 1))
   no-sign = unsigned o.math signed (if o.smart_punctuation then item_at Plain at (suc at) else item_at Plain at (suc at)) ∙ either-way o.smart_punctuation
@@ -184,7 +184,7 @@ module _ (o : Options) (l : Lookup) (cell : Bool) (text : List ℕ) (at : ℕ) (
       go (inl h) = begins-with o l cell text at 124 lt (is ∙ eqb-true b 124 h) ∙ no-sign
       go (inr h) = more (or_cases (b == 123) (b == 125) h)
 
--- each byte of a run of them
+-- each byte of a run of pipes or braces
 run-byte : (text : List ℕ) (at b end : ℕ) → get_or text at 0 ≡ b → end ≡ at + prefix_len (λ c. c == get_or text at 0) (drop at text) → (k : ℕ) → at ≤ k → k < end → (k < length text) × (get_or text k 0 ≡ b)
 run-byte text at b end is ends k low high =
     let p : ℕ → Bool = λ c. c == get_or text at 0 in
@@ -214,7 +214,7 @@ others-last text at b end is e ends some = ap is_blank_byte (run-byte text at b 
 abbrev none : Flanking
 none = record { opens = false; closes = false }
 
--- such a run is no delimiter run
+-- a run of pipes or braces is no delimiter run
 pub others-flank : (o : Options) (b size : ℕ) (before after : Option ℕ) → is_other b ≡ true → flanking o b size before after ≡ record { opens = false; closes = false }
 others-flank o b size before after e = go (or_cases (b == 124) ((b == 123) || (b == 125)) e)
   where
@@ -229,7 +229,7 @@ others-flank o b size before after e = go (or_cases (b == 124) ((b == 123) || (b
     go (inl h) = at-byte 124 h refl
     go (inr h) = more (or_cases (b == 123) (b == 125) h)
 
--- a run that can open or close is one that delimiter runs are
+-- a run that can open or close has a byte and a length that delimiter runs have
 pub flanks-known : (o : Options) (b size : ℕ) (before after : Option ℕ) (flanks : Flanking) → flanks ≡ flanking o b size before after → (flanks.opens || flanks.closes) ≡ true → is_run_of b size ≡ true
 flanks-known o b size before after flanks is e = go (or_cases flanks.opens flanks.closes e)
   where

@@ -1,4 +1,4 @@
--- The marks of what was sought hold further on, too.
+-- The marks of earlier searches also hold at later offsets.
 use Rattle.std.proofs.Common.{ℕ, ◌≤◌, arith}
 use Rattle.cmark_inline.specs.MarkupInSource.{AreUnclosed}
 use Rattle.cmark_inline.specs.declared.markup.Unclosed.{Unclosed}

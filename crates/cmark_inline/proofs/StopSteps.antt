@@ -1,4 +1,4 @@
--- If memory is refused, what was asked in a leaf is what the grammar asks up to there.
+-- If memory is refused, the grammar asks the questions that were asked in the leaf up to there.
 use Rattle.std.specs.Prelude.{Option, if◌then◌else◌}
 use Rattle.std.proofs.Common.{◌≡◌, ◌⊎◌, inl, inr, ℕ, zero, suc, ◌+◌, ◌<◌, ◌≤◌, ◌==◌, Bool, true, false, List, length, get_or, Some, refl, sym, ap, ◌∙◌, subst, arith}
 use Rattle.std.proofs.lemmas.Bool.{eqb-false}
@@ -14,7 +14,7 @@ use Rattle.cmark_grammar.specs.Parts.{Closing, Form, Nil, Opening, Parts, Single
 use Rattle.cmark_grammar.specs.Questions.{AnyAnswer, Exchange, Saying}
 use Rattle.cmark_grammar.specs.Readers.{Reader}
 use Rattle.cmark_inline_model.specs.BracketPass.{Pass, closed_by, pass}
-use Rattle.cmark_inline_model.specs.PartLists.{Cut, behind, cut_at, join}
+use Rattle.cmark_inline_model.specs.PartLists.{Cut, following, cut_at, join}
 use Rattle.cmark_inline_model.specs.PlacedTokens.{StopsAt, one_stretch, placed_item, text_reader}
 use Rattle.cmark_inline_model.specs.Progress.{Always, Fits, Keeps}
 use Rattle.cmark_inline_model.proofs.BracketsSound.{joined, results}
@@ -37,34 +37,34 @@ use Rattle.cmark_leaf_text.specs.Reads.{is_cell_of, text_of}
 use Rattle.cmark_leaf_text.specs.declared.leaf_text.LeafText.{LeafText}
 use Rattle.cmark_references.specs.declared.definitions.RefDefs.{RefDefs}
 use Rattle.cmark_slots.specs.declared.bracket.Bracket.{Bracket}
-use Rattle.cmark_text_parts.specs.declared.text.CowStr.{CowStr}
+use Rattle.cmark_values.specs.declared.text.CowStr.{CowStr}
 
 -- ## Opening brackets that are texts
 
-cut-behind : (piece : Parts) (found : Option Cut) → (cut : Cut) × (found ≡ Some cut) → (cut : Cut) × (behind piece found ≡ Some cut)
-cut-behind piece found c = (record { before = join piece c.0.before; opener = c.0.opener; inside = c.0.inside }, ap (behind piece) c.1)
+cut-following : (piece : Parts) (found : Option Cut) → (cut : Cut) × (found ≡ Some cut) → (cut : Cut) × (following piece found ≡ Some cut)
+cut-following piece found c = (record { before = join piece c.0.before; opener = c.0.opener; inside = c.0.inside }, ap (following piece) c.1)
 
--- a list with more of them than are to be nearer has a cut
+-- parts with more than `nearer` opening brackets that are texts can be cut
 cut-there : (nearer : ℕ) (whole : Parts) → nearer < openings whole → (cut : Cut) × (cut_at nearer whole ≡ Some cut)
 cut-there nearer Nil lt = absurd (omega (arith, lt))
-cut-there nearer (Single item after) lt = cut-behind (Single item Nil) (cut_at nearer after) (cut-there nearer after lt)
-cut-there nearer (Form opener inside closer formed after) lt = cut-behind (Form opener inside closer formed Nil) (cut_at nearer after) (cut-there nearer after lt)
-cut-there nearer (Closing closer after) lt = cut-behind (Closing closer Nil) (cut_at nearer after) (cut-there nearer after lt)
+cut-there nearer (Single item after) lt = cut-following (Single item Nil) (cut_at nearer after) (cut-there nearer after lt)
+cut-there nearer (Form opener inside closer formed after) lt = cut-following (Form opener inside closer formed Nil) (cut_at nearer after) (cut-there nearer after lt)
+cut-there nearer (Closing closer after) lt = cut-following (Closing closer Nil) (cut_at nearer after) (cut-there nearer after lt)
 cut-there nearer (Opening opener after) lt = go (openings after == nearer) refl (cut-there nearer after)
   where
     go : (z : Bool) → (openings after == nearer) ≡ z → (nearer < openings after → (cut : Cut) × (cut_at nearer after ≡ Some cut))
-        → (cut : Cut) × ((if z then Some (record { before = Nil; opener = opener; inside = after }) else behind (Opening opener Nil) (cut_at nearer after)) ≡ Some cut)
+        → (cut : Cut) × ((if z then Some (record { before = Nil; opener = opener; inside = after }) else following (Opening opener Nil) (cut_at nearer after)) ≡ Some cut)
     go true e there = (record { before = Nil; opener = opener; inside = after }, refl)
     go false e there =
         let other = eqb-false (openings after) nearer e in
-        cut-behind (Opening opener Nil) (cut_at nearer after) (there (omega (arith, lt, other)))
+        cut-following (Opening opener Nil) (cut_at nearer after) (there (omega (arith, lt, other)))
 
 module _ (token : ℕ → Token) (decide : State → (closer : items.Bracket) → Decision) (Says : Saying) (fits : (s : State) (closer : items.Bracket) → Always (Fits (length s.openers)) (decide s closer)) where
   comes-fit : (d : Decision) (size : ℕ) (asked : List Exchange) (outcome : Outcome) → Always (Fits size) d → Comes Says asked d outcome → Fits size outcome
   comes-fit (Settled settled) size asked outcome f c = subst (Fits size) (sym c) f
   comes-fit (Asks question answered) size asked outcome f c = subst (Fits size) (sym c.2) (f c.0)
 
-  -- a state knows as many as are texts in the parts that were read
+  -- a state knows each opening bracket that is a text in the parts that were read
   reads-known : (s : State) (parts : Parts) (t : State) → Reads token decide Says s parts t → openings parts + length s.openers ≡ length t.openers
   reads-known s Nil t h = let e = ap (λ (x : State). length x.openers) h in omega (arith, e)
   reads-known s (Single item after) t h = reads-known (moved h.0 s) after t h.2
@@ -79,10 +79,10 @@ module _ (token : ℕ → Token) (decide : State → (closer : items.Bracket) �
       omega (arith, f, b)
   reads-known s (Opening opener after) t h = let a = reads-known (opened opener s) after t h.1 in omega (arith, a)
 
--- ## What was read
+-- ## The parts that were read
 
 module _ (reader : Reader) (read : Leaf) {F : Type 0} (R : F → BrokenLink → Option (CowStr × CowStr) → F → Type 0) (before : Between) (initial now : F) where
-  -- nothing was asked for the closing bracket; or its question was, which is that of the next step
+  -- either nothing was asked for the closing bracket, or its question, which the next step asks
   pub under-way : (p : Pass) (closer : items.Bracket) (later : F) → Reads (token reader read) (decide reader read) AnyAnswer (entering read before) p.here p.state → Answered R p.state.asked initial now
       → token reader read p.state.at ≡ Closes closer → AsksOf R (decide reader read p.state closer) now later → IsUnderWay R reader read before initial later
   under-way p closer later reads answered t asks = go (decide reader read p.state closer) refl asks ((decide-recorded reader read).keeps p.state closer)
@@ -115,11 +115,11 @@ module _ (leaf : LeafText) (reader : Reader) (read : Leaf) (place : ℕ → ℕ)
   cell = is_cell_of leaf
 
   module _ {F : Type 0} (R : F → BrokenLink → Option (CowStr × CowStr) → F → Type 0) (before : Between) (tally : Tally) (initial now : F) where
-    -- so far the leaf was read with what was asked
+    -- the leaf was read up to the offset `at`, with the questions that were asked
     pub reached-under-way : (at : ℕ) (state : InlineState) → HasReached R leaf reader read place before tally initial at state now → IsUnderWay R reader read before initial now
     reached-under-way at state h = record { p = h.p; reads = h.has_read.reads; answered = h.answered }
 
-    -- the pass has come to a place, and has read the text that is pending there
+    -- the pass has read the pending text, up to the offset `at`
     record HasPassed (at : ℕ) (state : InlineState) : Type 0 where
       p : Pass
       bs : List Bracket

@@ -1,4 +1,4 @@
--- What begins at a place of a text that is read as a leaf of one stretch.
+-- The tokens of a text that is read as a leaf of one stretch.
 use Rattle.std.specs.Prelude.{Option, Some, None, option_map, max, if◌then◌else◌}
 use Rattle.std.specs.Option.{option_or}
 use Rattle.std.proofs.Common.{◌≡◌, ◌⊎◌, inl, inr, ℕ, zero, suc, ◌+◌, ◌-◌, ◌<◌, ◌≤◌, ◌==◌, ◌&&◌, Bool, true, false, List, [], ◌∷◌, length, take, drop, get_or, refl, sym, ap, subst, ◌∙◌, arith, cond, eqb-true, length-drop, drop-drop, true≢false}
@@ -8,23 +8,23 @@ use Rattle.std.proofs.lemmas.Bool.{or_cases, false_from_ne_true}
 use Rattle.std.proofs.lemmas.Slice.Eq.{bytes_eq-Decides}
 use Rattle.std.proofs.lemmas.List.{append-nil, get_or-drop, length-take-le}
 use Rattle.cmark_grammar.specs.Answers.{Lookup}
-use Rattle.cmark_grammar.specs.CodeSpans.{is_backtick, backticks, code_in, up_to_run, behind_run}
+use Rattle.cmark_grammar.specs.CodeSpans.{is_backtick, backticks, code_in, up_to_run, after_run}
 use Rattle.cmark_grammar.specs.Columns.{is_blank_byte}
 use Rattle.cmark_grammar.specs.InlineTokens.{item_at, break_or, break_to, code_or, entity_or, escape_at, escaped_backtick, from, size_to, begins}
 use Rattle.cmark_grammar.specs.Items.{SoftBreak, HardBreak, Plain, Own, Token, Stands}
 use Rattle.cmark_grammar.specs.LabelsOverLines.{piped}
-use Rattle.cmark_grammar.specs.Letters.{first_is, starts, behind_all, behind_if, and_then}
+use Rattle.cmark_grammar.specs.Letters.{first_is, starts, after_while, after_if, and_then}
 use Rattle.cmark_grammar.specs.LineBreaks.{LineBreak, hard_break, ends_with_two_spaces, blank_break, backslash_break_in, blank_break_in, line_break_in}
-use Rattle.cmark_grammar.specs.LinkDefinitions.{behind_blanks}
+use Rattle.cmark_grammar.specs.LinkDefinitions.{after_leading_blanks}
 use Rattle.cmark_grammar.specs.Options.{Options}
 use Rattle.cmark_grammar.specs.Readers.{Reader}
-use Rattle.cmark_grammar.specs.Tags.{behind_ending}
+use Rattle.cmark_grammar.specs.Tags.{after_ending}
 use Rattle.cmark_grammar.specs.Tokens.{entity_in, is_punctuation, slice}
-use Rattle.cmark_scan_parts.proofs.Lists.{rest_of}
-use Rattle.cmark_links.specs.Shown.{shown_break}
-use Rattle.cmark_links.specs.declared.breaks.LineBreak as find
+use Rattle.cmark_scan_bytes.proofs.Lists.{rest_of}
+use Rattle.cmark_link_scan.specs.Shown.{shown_break}
+use Rattle.cmark_link_scan.specs.declared.breaks.LineBreak as find
 use Rattle.cmark_inline.specs.Tokens.{whole, reading, begins_at, read_on}
-use Rattle.cmark_inline.proofs.Bytes.{blanks-are, behind-are}
+use Rattle.cmark_inline.proofs.Bytes.{blanks-are, following-are}
 
 -- a byte at which a line break may begin: a blank or a line ending
 abbrev pub IsBreakByte : ℕ → Type 0
@@ -37,7 +37,7 @@ blank-breaks b e = go (or_cases (b == 32) (b == 9) e)
     go (inl h) = inl (eqb-true b 32 h)
     go (inr h) = inr (inl (eqb-true b 9 h))
 
--- where no dollar sign stands, none is read
+-- without a dollar sign, no formula is read
 pub unsigned : {A : Type 0} (z : Bool) (x y : A) → (if z && false then x else y) ≡ y
 unsigned true x y = refl
 unsigned false x y = refl
@@ -72,29 +72,29 @@ module _ (o : Options) (l : Lookup) (cell : Bool) (text : List ℕ) where
   pub slash-begins : (at : ℕ) → at < length text → get_or text at 0 ≡ 92 → begins_at o l cell text at ≡ break_or r (whole cell text) at (backslash_break_in (drop at text)) (escape_at r (whole cell text) at (drop (suc at) text))
   slash-begins at lt is = begins-with at 92 lt is ∙ ap (λ x. break_or r (whole cell text) at (backslash_break_in x) (escape_at r (whole cell text) at (drop (suc at) text))) (sym (front at 92 lt is))
 
-  -- a break that was found ends where its line ending does
-  pub break-stands : (at end : ℕ) (found : LineBreak) (other : Token) → at ≤ end → end ≤ length text → found.behind ≡ drop end text
+  -- a break ends with its line ending
+  pub break-stands : (at end : ℕ) (found : LineBreak) (other : Token) → at ≤ end → end ≤ length text → found.following ≡ drop end text
       → break_or r (whole cell text) at (Some found) other ≡ Stands (record { kind = if found.is_hard then HardBreak else SoftBreak; start = at + found.before; end = end }) (read_on text end)
   break-stands at end found other le within is =
       let a = ap length (from-is at) in
       let b = length-drop at text in
       let c = ap length is in
       let d = length-drop end text in
-      ap (break_to r (whole cell text) at found) (let e : at + size_to r (whole cell text) at found.behind ≡ end = omega (arith, a, b, c, d, le, within) in e)
+      ap (break_to r (whole cell text) at found) (let e : at + size_to r (whole cell text) at found.following ≡ end = omega (arith, a, b, c, d, le, within) in e)
 
-  -- at a line ending with the blanks before it from another place on
+  -- the token at the blanks from `at` on before the line ending at `place`
   pub line-token : (at place end : ℕ) → at ≤ place → place < length text → place ≤ end → end ≤ length text
       → ((k : ℕ) → at ≤ k → k < place → is_blank_byte (get_or text k 0) ≡ true) → (get_or text place 0 ≡ 10) ⊎ (get_or text place 0 ≡ 13)
-      → behind_ending (drop place text) ≡ Some (drop end text)
+      → after_ending (drop place text) ≡ Some (drop end text)
       → begins_at o l cell text at ≡ Stands (record {
         kind = if ends_with_two_spaces (slice text at place) then HardBreak else SoftBreak;
         start = if ends_with_two_spaces (slice text at place) then at else place;
         end = end;
       }) (read_on text end)
-  line-token at place end le lt order within blanks ends behind =
+  line-token at place end le lt order within blanks ends following =
       break-begins at (let q : at < length text = omega (arith, le, lt) in q) (first (places at place le))
       ∙ ap (λ x. break_or r (whole cell text) at x (item_at Plain at (suc at))) found
-      ∙ break-stands at end (blank_break (slice text at place) (drop end text)) (item_at Plain at (suc at)) (let q : at ≤ end = omega (arith, le, order) in q) within (by-behind (ends_with_two_spaces (slice text at place)))
+      ∙ break-stands at end (blank_break (slice text at place) (drop end text)) (item_at Plain at (suc at)) (let q : at ≤ end = omega (arith, le, order) in q) within (by-following (ends_with_two_spaces (slice text at place)))
       ∙ by-kind (ends_with_two_spaces (slice text at place))
     where
       n : ℕ
@@ -139,16 +139,16 @@ module _ (o : Options) (l : Lookup) (cell : Bool) (text : List ℕ) where
 
       found : blank_break_in bs ≡ Some (blank_break (slice text at place) (drop end text))
       found =
-          ap (λ x. option_map (blank_break x) (behind_ending (behind_blanks bs))) (blanks-are bs n fits all last)
-          ∙ ap (λ x. option_map (blank_break (slice text at place)) (behind_ending x)) (behind-are bs n fits all last ∙ drop-drop n at text ∙ ap (λ k. drop k text) (let q : at + n ≡ place = omega (arith, le) in q))
-          ∙ ap (option_map (blank_break (slice text at place))) behind
+          ap (λ x. option_map (blank_break x) (after_ending (after_leading_blanks bs))) (blanks-are bs n fits all last)
+          ∙ ap (λ x. option_map (blank_break (slice text at place)) (after_ending x)) (following-are bs n fits all last ∙ drop-drop n at text ∙ ap (λ k. drop k text) (let q : at + n ≡ place = omega (arith, le) in q))
+          ∙ ap (option_map (blank_break (slice text at place))) following
 
       soft : LineBreak
-      soft = record { is_hard = false; before = length (slice text at place); behind = drop end text }
+      soft = record { is_hard = false; before = length (slice text at place); following = drop end text }
 
-      by-behind : (z : Bool) → (if z then hard_break (drop end text) else soft).behind ≡ drop end text
-      by-behind true = refl
-      by-behind false = refl
+      by-following : (z : Bool) → (if z then hard_break (drop end text) else soft).following ≡ drop end text
+      by-following true = refl
+      by-following false = refl
 
       size : at + length (slice text at place) ≡ place
       size = let m = length-take-le n bs fits in let q : at + length (take n bs) ≡ place = omega (arith, m, le) in q
@@ -160,13 +160,13 @@ module _ (o : Options) (l : Lookup) (cell : Bool) (text : List ℕ) where
       by-kind false = ap (λ s. Stands (record { kind = SoftBreak; start = s; end = end }) (read_on text end)) size
 
 -- ## The break that the code found
-break-end : (text : List ℕ) (at : ℕ) (found : find.LineBreak) (m : Option (List ℕ)) (make : List ℕ → LineBreak) → ((b : List ℕ) → (make b).behind ≡ b)
+break-end : (text : List ℕ) (at : ℕ) (found : find.LineBreak) (m : Option (List ℕ)) (make : List ℕ → LineBreak) → ((b : List ℕ) → (make b).following ≡ b)
     → Some (shown_break text at found) ≡ option_map make m → m ≡ Some (drop found.end text)
 break-end text at found None make is e = absurd (none e)
   where
     none : Some (shown_break text at found) ≡ None → ⊥
     none q = let z : ⊥ = cc in z
-break-end text at found (Some b) make is e = ap Some (sym (is b) ∙ sym (ap (λ (x : LineBreak). x.behind) (some e)))
+break-end text at found (Some b) make is e = ap Some (sym (is b) ∙ sym (ap (λ (x : LineBreak). x.following) (some e)))
   where
     some : Some (shown_break text at found) ≡ Some (make b) → shown_break text at found ≡ make b
     some q = let z : shown_break text at found ≡ make b = cc in z
@@ -176,40 +176,40 @@ module _ (text : List ℕ) (at : ℕ) (lt : at < length text) where
   no-more None = refl
   no-more (Some x) = refl
 
-  -- of the line ending there
-  pub found-at-ending : (found : find.LineBreak) → (get_or text at 0 ≡ 10) ⊎ (get_or text at 0 ≡ 13) → option_map (shown_break text at) (Some found) ≡ line_break_in (drop at text) → behind_ending (drop at text) ≡ Some (drop found.end text)
-  found-at-ending found ends e = break-end text at found (behind_ending (drop at text)) (blank_break []) (λ b. either b (ends_with_two_spaces [])) (e ∙ is ends)
+  -- the break at the line ending there
+  pub found-at-ending : (found : find.LineBreak) → (get_or text at 0 ≡ 10) ⊎ (get_or text at 0 ≡ 13) → option_map (shown_break text at) (Some found) ≡ line_break_in (drop at text) → after_ending (drop at text) ≡ Some (drop found.end text)
+  found-at-ending found ends e = break-end text at found (after_ending (drop at text)) (blank_break []) (λ b. either b (ends_with_two_spaces [])) (e ∙ is ends)
     where
-      either : (b : List ℕ) (z : Bool) → (if z then hard_break b else record { is_hard = false; before = 0; behind = b }).behind ≡ b
+      either : (b : List ℕ) (z : Bool) → (if z then hard_break b else record { is_hard = false; before = 0; following = b }).following ≡ b
       either b true = refl
       either b false = refl
 
-      at-ending : (b : ℕ) (bs : List ℕ) → is_blank_byte b ≡ false → blank_break_in (b ∷ bs) ≡ option_map (blank_break []) (behind_ending (b ∷ bs))
+      at-ending : (b : ℕ) (bs : List ℕ) → is_blank_byte b ≡ false → blank_break_in (b ∷ bs) ≡ option_map (blank_break []) (after_ending (b ∷ bs))
       at-ending b bs q =
-          ap (λ x. option_map (blank_break x) (behind_ending (behind_blanks (b ∷ bs)))) (blanks-are (b ∷ bs) 0 (omega arith) (λ k h. absurd (omega (arith, h))) q)
-          ∙ ap (λ x. option_map (blank_break []) (behind_ending x)) (behind-are (b ∷ bs) 0 (omega arith) (λ k h. absurd (omega (arith, h))) q)
+          ap (λ x. option_map (blank_break x) (after_ending (after_leading_blanks (b ∷ bs)))) (blanks-are (b ∷ bs) 0 (omega arith) (λ k h. absurd (omega (arith, h))) q)
+          ∙ ap (λ x. option_map (blank_break []) (after_ending x)) (following-are (b ∷ bs) 0 (omega arith) (λ k h. absurd (omega (arith, h))) q)
 
-      is : (get_or text at 0 ≡ 10) ⊎ (get_or text at 0 ≡ 13) → line_break_in (drop at text) ≡ option_map (blank_break []) (behind_ending (drop at text))
+      is : (get_or text at 0 ≡ 10) ⊎ (get_or text at 0 ≡ 13) → line_break_in (drop at text) ≡ option_map (blank_break []) (after_ending (drop at text))
       is (inl b) =
           let f : drop at text ≡ 10 ∷ drop (suc at) text = drop-cons text at 0 lt ∙ ap (λ x. x ∷ drop (suc at) text) b in
-          ap line_break_in f ∙ at-ending 10 (drop (suc at) text) refl ∙ ap (λ x. option_map (blank_break []) (behind_ending x)) (sym f)
+          ap line_break_in f ∙ at-ending 10 (drop (suc at) text) refl ∙ ap (λ x. option_map (blank_break []) (after_ending x)) (sym f)
       is (inr b) =
           let f : drop at text ≡ 13 ∷ drop (suc at) text = drop-cons text at 0 lt ∙ ap (λ x. x ∷ drop (suc at) text) b in
-          ap line_break_in f ∙ at-ending 13 (drop (suc at) text) refl ∙ ap (λ x. option_map (blank_break []) (behind_ending x)) (sym f)
+          ap line_break_in f ∙ at-ending 13 (drop (suc at) text) refl ∙ ap (λ x. option_map (blank_break []) (after_ending x)) (sym f)
 
-  -- and of the backslash there
+  -- the break at the backslash there
   pub line-at-slash : get_or text at 0 ≡ 92 → line_break_in (drop at text) ≡ backslash_break_in (drop at text)
   line-at-slash b =
       let f : drop at text ≡ 92 ∷ drop (suc at) text = drop-cons text at 0 lt ∙ ap (λ x. x ∷ drop (suc at) text) b in
       ap line_break_in f
       ∙ ap (option_or (backslash_break_in (92 ∷ drop (suc at) text)))
-      (ap (λ x. option_map (blank_break (take_while is_blank_byte (92 ∷ drop (suc at) text))) (behind_ending x)) (behind-are (92 ∷ drop (suc at) text) 0 (omega arith) (λ k h. absurd (omega (arith, h))) refl))
+      (ap (λ x. option_map (blank_break (take_while is_blank_byte (92 ∷ drop (suc at) text))) (after_ending x)) (following-are (92 ∷ drop (suc at) text) 0 (omega arith) (λ k h. absurd (omega (arith, h))) refl))
       ∙ no-more (backslash_break_in (92 ∷ drop (suc at) text)) ∙ ap backslash_break_in (sym f)
 
-  -- the hard break that begins with it
-  pub slash-break-behind : get_or text at 0 ≡ 92 → (found : find.LineBreak) → option_map (shown_break text at) (Some found) ≡ line_break_in (drop at text) → backslash_break_in (drop at text) ≡ Some (hard_break (drop found.end text))
-  slash-break-behind b found e =
-      let m : Option (List ℕ) = and_then (behind_if (λ c. c == 92) (drop at text)) behind_ending in
+  -- the hard break that begins with the backslash
+  pub slash-break-following : get_or text at 0 ≡ 92 → (found : find.LineBreak) → option_map (shown_break text at) (Some found) ≡ line_break_in (drop at text) → backslash_break_in (drop at text) ≡ Some (hard_break (drop found.end text))
+  slash-break-following b found e =
+      let m : Option (List ℕ) = and_then (after_if (λ c. c == 92) (drop at text)) after_ending in
       ap (option_map hard_break) (break-end text at found m hard_break (λ x. refl) (e ∙ line-at-slash b))
 
   pub no-break-at-ending : (get_or text at 0 ≡ 10) ⊎ (get_or text at 0 ≡ 13) → None ≡ line_break_in (drop at text) → ⊥
@@ -217,13 +217,13 @@ module _ (text : List ℕ) (at : ℕ) (lt : at < length text) where
     where
       feed : (bs : List ℕ) → line_break_in (10 ∷ bs) ≡ Some (blank_break [] bs)
       feed bs =
-          ap (λ x. option_map (blank_break x) (behind_ending (behind_blanks (10 ∷ bs)))) (blanks-are (10 ∷ bs) 0 (omega arith) (λ k h. absurd (omega (arith, h))) refl)
-          ∙ ap (λ x. option_map (blank_break []) (behind_ending x)) (behind-are (10 ∷ bs) 0 (omega arith) (λ k h. absurd (omega (arith, h))) refl)
+          ap (λ x. option_map (blank_break x) (after_ending (after_leading_blanks (10 ∷ bs)))) (blanks-are (10 ∷ bs) 0 (omega arith) (λ k h. absurd (omega (arith, h))) refl)
+          ∙ ap (λ x. option_map (blank_break []) (after_ending x)) (following-are (10 ∷ bs) 0 (omega arith) (λ k h. absurd (omega (arith, h))) refl)
 
-      return : (bs : List ℕ) → line_break_in (13 ∷ bs) ≡ option_map (blank_break []) (behind_ending (13 ∷ bs))
+      return : (bs : List ℕ) → line_break_in (13 ∷ bs) ≡ option_map (blank_break []) (after_ending (13 ∷ bs))
       return bs =
-          ap (λ x. option_map (blank_break x) (behind_ending (behind_blanks (13 ∷ bs)))) (blanks-are (13 ∷ bs) 0 (omega arith) (λ k h. absurd (omega (arith, h))) refl)
-          ∙ ap (λ x. option_map (blank_break []) (behind_ending x)) (behind-are (13 ∷ bs) 0 (omega arith) (λ k h. absurd (omega (arith, h))) refl)
+          ap (λ x. option_map (blank_break x) (after_ending (after_leading_blanks (13 ∷ bs)))) (blanks-are (13 ∷ bs) 0 (omega arith) (λ k h. absurd (omega (arith, h))) refl)
+          ∙ ap (λ x. option_map (blank_break []) (after_ending x)) (following-are (13 ∷ bs) 0 (omega arith) (λ k h. absurd (omega (arith, h))) refl)
 
       none : {A : Type 0} (x : A) → None ≡ Some x → ⊥
       none x q = let z : ⊥ = cc in z
@@ -302,7 +302,7 @@ module _ (o : Options) (l : Lookup) (cell : Bool) (text : List ℕ) (at : ℕ) (
       ∙ ap (λ z. by_first false z (first_is is_punctuation rest)) (pipe-first cell rest p) ∙ ap (by_first false false) p
       ∙ ap (item_at Plain at) (let q : suc at ≡ at + 1 = omega arith in q)
 
-  -- one that escapes a byte that is no backtick, and in the cell of a table no backslash before a pipe
+  -- a backslash that escapes a byte other than a backtick. In a table's cell, no second backslash with a pipe follows
   pub slash-escapes : backslash_break_in (drop at text) ≡ None → first_is is_backtick (drop (at + 1) text) ≡ false → (cell && starts piped (drop (at + 1) text)) ≡ false → first_is is_punctuation (drop (at + 1) text) ≡ true → begins_at o l cell text at ≡ item_at Plain (at + 1) (at + 2)
   slash-escapes none t f e =
       let p : first_is is_punctuation rest ≡ true = sym (ap (first_is is_punctuation) next-is) ∙ e in
@@ -311,14 +311,14 @@ module _ (o : Options) (l : Lookup) (cell : Bool) (text : List ℕ) (at : ℕ) (
       escaped none ∙ ap (λ z. by_first z (cell && starts piped rest) (first_is is_punctuation rest)) q ∙ ap (λ z. by_first false z (first_is is_punctuation rest)) n ∙ ap (by_first false false) p
       ∙ ap (λ s. item_at Plain s (at + 2)) (let n : suc at ≡ at + 1 = omega arith in n)
 
-  -- one before another and a pipe, in the cell of a table
+  -- a backslash before another one and a pipe, in a table's cell
   pub slash-pipe : backslash_break_in (drop at text) ≡ None → cell ≡ true → starts piped (drop (at + 1) text) ≡ true → begins_at o l cell text at ≡ item_at Plain (at + 2) (at + 3)
   slash-pipe none c e =
       let p : starts piped rest ≡ true = sym (ap (starts piped) next-is) ∙ e in
       escaped none ∙ ap (λ z. by_first z (cell && starts piped rest) (first_is is_punctuation rest)) (pipe-no-tick rest p)
       ∙ ap (λ z. by_first false (z && starts piped rest) (first_is is_punctuation rest)) c ∙ ap (λ z. by_first false z (first_is is_punctuation rest)) p
 
-  -- one that escapes a backtick of a run
+  -- a backslash that escapes the first backtick of a run
   pub slash-run : backslash_break_in (drop at text) ≡ None → first_is is_backtick (drop (at + 1) text) ≡ true
       → begins_at o l cell text at ≡ escaped_backtick (reading o l text) (whole cell text) (at + 1) (backticks (drop (at + 1) text)) (code_in (drop (at + 2) text))
   slash-run none t =
@@ -328,7 +328,7 @@ module _ (o : Options) (l : Lookup) (cell : Bool) (text : List ℕ) (at : ℕ) (
       ∙ ap (λ x. escaped_backtick (reading o l text) (whole cell text) (at + 1) (backticks (drop (at + 1) text)) (code_in x))
       (drop-drop 1 (at + 1) text ∙ ap (λ k. drop k text) (let n : at + 1 + 1 ≡ at + 2 = omega arith in n))
 
-  -- one that escapes a backtick that stands alone
+  -- a backslash that escapes a single backtick
   pub slash-lone : backslash_break_in (drop at text) ≡ None → backticks (drop (at + 1) text) ≡ 1 → begins_at o l cell text at ≡ item_at Own (at + 1) (at + 2)
   slash-lone none e =
       let one : backticks rest ≡ 1 = sym (ap backticks next-is) ∙ e in
@@ -340,4 +340,4 @@ module _ (o : Options) (l : Lookup) (cell : Bool) (text : List ℕ) (at : ℕ) (
       ∙ ap (item_at Own (at + 1)) (let n : at + 1 + 1 ≡ at + 2 = omega arith in n)
     where
       no-code : backticks (drop 1 rest) ≡ 0 → code_in (drop 1 rest) ≡ None
-      no-code z = ap (λ n. if n == 0 then None else option_map (behind_run n) (up_to_run n false (behind_all is_backtick (drop 1 rest)))) z
+      no-code z = ap (λ n. if n == 0 then None else option_map (after_run n) (up_to_run n false (after_while is_backtick (drop 1 rest)))) z

@@ -59,7 +59,7 @@ rise-one label old new h = λ folded. h folded ∙ go (bytes_eq folded label) (f
     go true (Some def) = refl
     go false x = sym (same-option x)
 
--- where no reference is formed, none is counted
+-- if no reference is formed, no use is counted
 pub none-counted : (o : Options) (label : Option (List ℕ)) (old new : FootnoteDefs) → false ≡ forms_footnote o old label → CountsOf label old new → Keeps old new
 none-counted o None old new e h = h
 none-counted o (Some label) old new e h = λ folded. h folded ∙ go folded (bytes_eq folded (fold label)) refl
@@ -72,7 +72,7 @@ none-counted o (Some label) old new e h = λ folded. h folded ∙ go folded (byt
     go folded false f = refl
     go folded true f = let same = (bytes_eq-Decides folded (fold label)).0 f in ap (λ l. option_map with_use (footnote old l)) same ∙ undefined (footnote old (fold label)) refl ∙ ap (footnote old) (sym same)
 
--- ## At most so many
+-- ## Upper bounds
 
 pub rise-up : (m n : ℕ) (old new : FootnoteDefs) → m ≤ n → RiseUpTo m old new → RiseUpTo n old new
 rise-up m n old new le h = λ folded. (let k = h folded in let few = k.1 in (k.0, (let q : k.0 ≤ n = omega (arith, few, le) in q), k.2))
@@ -98,12 +98,12 @@ counted-rise label old new h = λ folded. ((if bytes_eq folded label then 1 else
     few true = omega arith
     few false = omega arith
 
--- a call that counts a use, unless it is refused
+-- a call that counts one use, unless memory is refused
 pub either-rises : {A E : Type 0} (label : List ℕ) (old new : FootnoteDefs) (result : Result A E) → OnOk result (Counts label old new) → OnErr result (Keeps old new) → RiseUpTo 1 old new
 either-rises label old new (Ok found) counted kept = counted-rise label old new counted
 either-rises label old new (Err error) counted kept = kept-rise 1 old new kept
 
--- ## Between two places of a text
+-- ## Between two offsets of a text
 
 pub none-between : (text : List ℕ) (from to : ℕ) (notes : FootnoteDefs) → RiseBetween text from to notes notes
 none-between text from to notes = kept-rise (closing_brackets (take to text) - closing_brackets (take from text)) notes notes (λ folded. refl)

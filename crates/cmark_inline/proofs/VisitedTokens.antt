@@ -1,4 +1,4 @@
--- What begins at a place is a code span or a formula only where a search finds it, and HTML only from that place on.
+-- A code span or a formula begins at an offset only if a search finds it. HTML begins at the offset where it is read.
 use Rattle.std.specs.Prelude.{Option, is_some, if◌then◌else◌, nat_lt, codes, not, drop, take}
 use Rattle.std.specs.List.{prefix_len}
 use Rattle.std.proofs.Common.{◌≡◌, ℕ, suc, ◌+◌, ◌<◌, ◌≤◌, ◌==◌, ◌&&◌, ◌||◌, Bool, true, false, List, ◌∷◌, length, get_or, Some, None, refl, sym, ap, subst, ◌∙◌, arith, eqb-true, true≢false}
@@ -9,7 +9,7 @@ use Rattle.cmark_grammar.specs.CodeSpans.{is_backtick, backticks, code_in}
 use Rattle.cmark_grammar.specs.Columns.{is_blank_byte}
 use Rattle.cmark_grammar.specs.Flanking.{Flanking, flanking, is_run_delimiter}
 use Rattle.cmark_grammar.specs.Formulas.{is_dollar}
-use Rattle.cmark_grammar.specs.InlineHtml.{behind_markup, takes_lines}
+use Rattle.cmark_grammar.specs.InlineHtml.{after_markup, takes_lines}
 use Rattle.cmark_grammar.specs.InlineTokens.{autolink_or, begins, break_or, character_at, character_before, code_or, entity_or, escape_at, escaped_backtick, formula_or, from, item_at, less_than, markup_or, run_or, size_to, smart_or, source_from, tag_or_text}
 use Rattle.cmark_grammar.specs.Items.{ItemKind, Plain, Html, OwnedHtml, SoftBreak, HardBreak, Item, Token, Stands, Opens, Closes, Ends}
 use Rattle.cmark_grammar.specs.LabelsOverLines.{piped}
@@ -20,9 +20,9 @@ use Rattle.cmark_grammar.specs.Lines.{is_content}
 use Rattle.cmark_grammar.specs.LinkDefinitions.{Parsed}
 use Rattle.cmark_grammar.specs.Options.{Options}
 use Rattle.cmark_grammar.specs.Readers.{Reader}
-use Rattle.cmark_grammar.specs.Tags.{behind_tag, no_prefix}
+use Rattle.cmark_grammar.specs.Tags.{after_tag, no_prefix}
 use Rattle.cmark_grammar.specs.Tokens.{Entity, entity_in, is_punctuation}
-use Rattle.cmark_finds.specs.Dollars.{formula_at}
+use Rattle.cmark_span_scan.specs.Dollars.{formula_at}
 use Rattle.cmark_inline.specs.LeastSteps.{VisitsAt, closers_of, visited_in}
 use Rattle.cmark_inline.specs.Tokens.{begins_at, reading, whole}
 use Rattle.cmark_inline.specs.declared.step.Sought.{Sought}
@@ -35,7 +35,7 @@ closers_at (Opens b) = 0
 closers_at (Closes b) = 0
 closers_at Ends = 0
 
--- HTML as it stands in the source begins at the place at which it is read
+-- HTML of the source begins at the offset where it is read
 abbrev pub StartsAt : (at : ℕ) → ItemKind → (start : ℕ) → Type 0
 StartsAt at Html start = start ≡ at
 StartsAt at _ start = Unit {0}
@@ -44,7 +44,7 @@ abbrev pub IsHere : (at : ℕ) → Token → Type 0
 IsHere at (Stands x resume) = StartsAt at x.kind x.start
 IsHere at _ = Unit {0}
 
--- it is no code span and no formula, and HTML begins there
+-- the token is no code span and no formula, and if it is HTML, it begins there
 pub record IsOther (at : ℕ) (t : Token) : Type 0 where
   pub none : closers_at t ≡ 0
   pub here : IsHere at t
@@ -113,7 +113,7 @@ module _ (reader : Reader) (leaf : Leaf) (at : ℕ) where
   less-other : (bs : List ℕ) → IsOther at (less_than reader leaf at bs)
   less-other bs =
       either (first_is (λ c. c == 92) bs) _ _ (record { none = refl; here = tt })
-      (autolink-other (autolink_in reader.options.email_autolinks bs) _ (markup-other (behind_markup (source_from reader leaf at)) _ (tag-other (behind_tag no_prefix (from reader leaf at)))))
+      (autolink-other (autolink_in reader.options.email_autolinks bs) _ (markup-other (after_markup (source_from reader leaf at)) _ (tag-other (after_tag no_prefix (from reader leaf at)))))
 
   run-other : (delimiter n : ℕ) (beside : Flanking) → IsOther at (run_or reader leaf at delimiter n beside)
   run-other delimiter n beside = either (beside.opens || beside.closes) _ _ (record { none = refl; here = tt }) (record { none = refl; here = tt })
@@ -124,11 +124,11 @@ module _ (reader : Reader) (leaf : Leaf) (at : ℕ) where
       (either (b == 45) _ _ (either (nat_lt (prefix_len (λ c. c == 45) (from reader leaf at)) 2) _ _ (record { none = refl; here = tt }) (record { none = refl; here = tt }))
       (either ((b == 34) || (b == 39)) _ _ (record { none = refl; here = tt }) (record { none = refl; here = tt })))
 
-  -- at a blank or where a line ends
+  -- the token at a blank or a line ending
   pub blank-other : (b : ℕ) (bs : List ℕ) → (is_blank_byte b || not (is_content b)) ≡ true → IsOther at (begins reader leaf at (b ∷ bs))
   blank-other b bs e = first-of (is_blank_byte b || not (is_content b)) _ _ e (break-other (blank_break_in (b ∷ bs)) (item_at Plain at (suc at)) (record { none = refl; here = tt }))
 
-  -- at a byte that is neither a backtick nor a dollar sign that may open a formula
+  -- the token at a byte that is neither a backtick nor a dollar sign that may open a formula
   pub byte-other : (b : ℕ) (bs : List ℕ) → (b == 96) ≡ false → (reader.options.math && is_dollar b) ≡ false → IsOther at (begins reader leaf at (b ∷ bs))
   byte-other b bs no-tick no-sign =
       either (is_blank_byte b || not (is_content b)) _ _ (break-other (blank_break_in (b ∷ bs)) (item_at Plain at (suc at)) (record { none = refl; here = tt }))
@@ -142,9 +142,9 @@ module _ (reader : Reader) (leaf : Leaf) (at : ℕ) where
       (either (is_run_delimiter b) _ _ (run-other b (prefix_len (λ c. c == b) (b ∷ bs)) (flanking reader.options b (prefix_len (λ c. c == b) (b ∷ bs)) (character_before reader leaf at) (character_at reader leaf (at + prefix_len (λ c. c == b) (b ∷ bs)))))
       (second-of (reader.options.math && is_dollar b) _ _ no-sign (either reader.options.smart_punctuation _ _ (smart-other b) (record { none = refl; here = tt })))))))))))
 
--- ## The item that begins at a place
+-- ## The item at an offset
 module _ (o : Options) (l : Lookup) (cell : Bool) (text : List ℕ) (at : ℕ) (lt : at < length text) (x : Item) (resume : ℕ) (t : begins_at o l cell text at ≡ Stands x resume) where
-  -- where it is HTML, it begins there
+  -- if it is HTML, it begins there
   pub starts-there : StartsAt at x.kind x.start
   starts-there = subst (IsHere at) t (by (get_or text at 0 == 96) refl (o.math && is_dollar (get_or text at 0)) refl)
     where
@@ -164,7 +164,7 @@ module _ (o : Options) (l : Lookup) (cell : Bool) (text : List ℕ) (at : ℕ) (
           subst (IsHere at) (sym (formula-begins o l cell text at lt (eqb-true (get_or text at 0) 36 both.1) both.0 (first_is is_dollar (drop (at + 1) text)) refl)) (formula (first_is is_dollar (drop (at + 1) text)) (formula_at text at))
       by false e false f = (subst (IsOther at) (sym (begins-with o l cell text at (get_or text at 0) lt refl)) (byte-other (reading o l text) (whole cell text) at (get_or text at 0) (drop (suc at) text) e f)).here
 
-  -- ## What a call has visited
+  -- ## The runs that a call has visited
   module _ (was sought : Sought) where
     abbrev Visited : Type 0
     Visited = closers_of x.kind + visited_in was ≤ visited_in sought
@@ -172,12 +172,12 @@ module _ (o : Options) (l : Lookup) (cell : Bool) (text : List ℕ) (at : ℕ) (
     none-visited : was.runs.visited ≤ sought.runs.visited → was.dollars.visited ≤ sought.dollars.visited → IsOther at (begins_at o l cell text at) → Visited
     none-visited runs signs other = let n = sym (ap closers_at t) ∙ other.none in omega (arith, runs, signs, n)
 
-    -- at a blank or where a line ends
+    -- at a blank or a line ending
     pub blank-visited : was.runs.visited ≤ sought.runs.visited → was.dollars.visited ≤ sought.dollars.visited → (is_blank_byte (get_or text at 0) || not (is_content (get_or text at 0))) ≡ true → Visited
     blank-visited runs signs e =
         none-visited runs signs (subst (IsOther at) (sym (begins-with o l cell text at (get_or text at 0) lt refl)) (blank-other (reading o l text) (whole cell text) at (get_or text at 0) (drop (suc at) text) e))
 
-    -- at the byte at which it was called
+    -- at the byte of the call
     pub there-visited : VisitsAt text at was sought → Visited
     there-visited v = by (get_or text at 0 == 96) refl (o.math && is_dollar (get_or text at 0)) refl
       where

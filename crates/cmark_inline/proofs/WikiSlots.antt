@@ -5,13 +5,13 @@ use Rattle.std.proofs.Math.Seq.{drop-append_seam, take-append_seam}
 use Rattle.std.proofs.lemmas.Bool.{cases_lt}
 use Rattle.std.proofs.lemmas.List.{append-nil, drop_all, get_or_default, length-map, length-take-le, map-append, take-map}
 use Rattle.cmark_grammar.specs.Emphasis.{IsEmphasis, Pair}
-use Rattle.cmark_grammar.specs.EmphasisModel.{pairs_of, spans_of}
+use Rattle.cmark_inline_model.specs.EmphasisModel.{pairs_of, spans_of}
 use Rattle.cmark_grammar.specs.LinkType as link
 use Rattle.cmark_grammar.specs.Options.{Options}
 use Rattle.cmark_grammar.specs.Siblings.{tag_by, wiki_tag}
 use Rattle.cmark_grammar.specs.Spans.{Spans}
 use Rattle.cmark_grammar.specs.Tag.{Linked}
-use Rattle.cmark_grammar.proofs.EmphasisSound.{sound}
+use Rattle.cmark_inline_model.proofs.EmphasisSound.{sound}
 use Rattle.cmark_leaf_text.specs.Reads.{place_of}
 use Rattle.cmark_leaf_text.specs.declared.leaf_text.LeafText.{LeafText}
 use Rattle.cmark_inline_model.specs.SlotRows as row
@@ -25,7 +25,7 @@ use Rattle.cmark_slots.specs.Standing.{AreNamed, AreSound, CanSettle}
 use Rattle.cmark_slots.specs.Slots.{AreSlots}
 use Rattle.cmark_slots.specs.Cuts.{Hides, hidden}
 use Rattle.cmark_inline.specs.Wikilinks.{IsNamed, Shows, display_place, has_pothole, shown_name}
-use Rattle.cmark_inline.specs.FormedSlots.{Forgets, dressed_behind, end_slot, wrapped}
+use Rattle.cmark_inline.specs.FormedSlots.{Forgets, dressed_after, end_slot, wrapped}
 use Rattle.cmark_slots.specs.declared.bracket.Bracket.{Bracket}
 use Rattle.cmark_slots.specs.declared.bracket.Brackets.{Brackets}
 use Rattle.cmark_slots.specs.declared.delimiter.PlacedRun.{PlacedRun}
@@ -38,7 +38,7 @@ use Rattle.cmark_slots.specs.declared.slot.SlotKind.TheVariants as kind
 use Rattle.cmark_inline.specs.declared.state.InlineState.{InlineState}
 use Rattle.cmark_inline.specs.declared.wikilink.Wikilink.{Wikilink}
 use Rattle.cmark_inline.proofs.ElementWrites.{element-dressed, image-shown, link-shown}
-use Rattle.cmark_inline.proofs.HiddenSlots.{cut-at-slot, hides-behind}
+use Rattle.cmark_inline.proofs.HiddenSlots.{cut-at-slot, hides-following}
 use Rattle.cmark_slots.proofs.Longer.{shown-longer}
 use Rattle.cmark_slots.proofs.Marks.{no-slot}
 use Rattle.cmark_slots.proofs.Placing.{no-quote, no-run, runs-within}
@@ -59,7 +59,7 @@ wiki-shown : (wikilink : Wikilink) (links : List Link) (parts : Link) (index : �
 wiki-shown wikilink links parts index true made h e is = ap (shown_element (links ++ (parts ∷ []))) is ∙ image-shown links parts index e ∙ ap (tag_by true) (named-shown wikilink parts h)
 wiki-shown wikilink links parts index false made h e is = ap (shown_element (links ++ (parts ∷ []))) is ∙ link-shown links parts index e ∙ ap (tag_by false) (named-shown wikilink parts h)
 
--- ## What the calls write
+-- ## The slots that the calls write
 
 pub writes-shown : (options : Options) (text : List ℕ) (doubled : Bracket) (close : ℕ) (wikilink : Wikilink) (old new : InlineState) (parts : Link) (index : ℕ) (made : Element) (shown : List Slot) (inside : Bracket)
     → (at : ℕ) × Shows text doubled close wikilink old.slots.items shown at × AreLeft at old.delimiters.placed.items old.quotes.placed.items doubled inside
@@ -67,7 +67,7 @@ pub writes-shown : (options : Options) (text : List ℕ) (doubled : Bracket) (cl
     → CanSettle (doubled.slot + 1) shown (drop inside.runs old.delimiters.placed.items) (drop inside.quotes old.quotes.placed.items) → new.texts.items ≡ old.texts.items → new.links.items ≡ old.links.items ++ (parts ∷ []) → IsNamed wikilink parts
     → index ≡ length old.links.items → made ≡ (if doubled.is_image then element.Image index else element.Link index) → Forgets doubled old new
     → ((leaf : LeafText) (pairs : List Pair) (spans : Spans) → IsEmphasis (siblings_from 0 (drop inside.runs old.delimiters.placed.items)) pairs spans → shown_slots leaf new.texts.items new.links.items new.slots.items
-    ≡ dressed_behind options inside pairs old.delimiters.placed.items old.quotes.placed.items (shown_slots leaf new.texts.items new.links.items (set shown doubled.slot (begun_as made (close + 2) (get_or shown doubled.slot no-slot)) ++ (end_slot close (close + 2) ∷ []))))
+    ≡ dressed_after options inside pairs old.delimiters.placed.items old.quotes.placed.items (shown_slots leaf new.texts.items new.links.items (set shown doubled.slot (begun_as made (close + 2) (get_or shown doubled.slot no-slot)) ++ (end_slot close (close + 2) ∷ []))))
     → WritesShown options text doubled close wikilink old new
 writes-shown options text doubled close wikilink old new parts index made shown inside is there longer before stand named can texts links is_named is_index is_made forgets dressed = record {
   forgets = forgets;
@@ -88,16 +88,16 @@ writes-shown options text doubled close wikilink old new parts index made shown 
       let low : (get_or old.slots.items at d).end ≤ end = omega (arith, e) in
       let tag = wiki_tag doubled.is_image wikilink.name.now (has_pothole wikilink.display) in
       let begin : Slot → ℕ → row.Slot = λ s n. row.BeginSlot tag (first_of leaf s) (place_of leaf n + 1) in
-      let around : row.Slot → List row.Slot = λ b. wrapped at b (dressed_behind options inside pairs old.delimiters.placed.items old.quotes.placed.items (shown_slots leaf old.texts.items old.links.items shown)) in
+      let around : row.Slot → List row.Slot = λ b. wrapped at b (dressed_after options inside pairs old.delimiters.placed.items old.quotes.placed.items (shown_slots leaf old.texts.items old.links.items shown)) in
       dressed leaf pairs spans emphasis
-      ∙ ap (λ l. dressed_behind options inside pairs old.delimiters.placed.items old.quotes.placed.items (shown_slots leaf l new.links.items (set shown at (begun_as made end (get_or shown at no-slot)) ++ (end_slot close end ∷ [])))) texts
+      ∙ ap (λ l. dressed_after options inside pairs old.delimiters.placed.items old.quotes.placed.items (shown_slots leaf l new.links.items (set shown at (begun_as made end (get_or shown at no-slot)) ++ (end_slot close end ∷ [])))) texts
       ∙ element-dressed leaf old.texts.items old.links.items new.links.items at shown there1 made tag
       (ap (λ l. shown_element l made) links ∙ wiki-shown wikilink old.links.items parts index doubled.is_image made is_named is_index is_made) close end (begun_as made end (get_or shown at no-slot)) d
       (subst (λ (s : Slot). s.end ≤ end) (sym kept) low) same (ap (begun_as made end) first) options inside pairs old.delimiters.placed.items old.quotes.placed.items is.2.slot can
       ∙ ap around (ap (λ s. begin s (end - 1)) kept ∙ ap (begin (get_or old.slots.items at d)) (let q : end - 1 ≡ close + 1 = omega arith in q));
 }
 
--- the doubled bracket that was taken is left out
+-- taking the doubled bracket does not change the slots
 pub writes-taken : (options : Options) (text : List ℕ) (doubled : Bracket) (close : ℕ) (wikilink : Wikilink) (old new : InlineState) (left : Brackets) → WritesShown options text doubled close wikilink (record old { doubled = left }) new
     → WritesShown options text doubled close wikilink old new
 writes-taken options text doubled close wikilink old new left w = record {
@@ -110,10 +110,10 @@ writes-taken options text doubled close wikilink old new left w = record {
   slots = w.slots;
 }
 
--- ## Where nothing stays of the slots behind the bracket
+-- ## If no slot after the bracket stays
 
 module _ (options : Options) (inside : Bracket) (runs : List PlacedRun) (quotes : List PlacedQuote) (slots : List row.Slot) (r : drop inside.runs runs ≡ []) (q : drop inside.quotes quotes ≡ []) where
-  none-dressed : (pairs : List Pair) → dressed_behind options inside pairs runs quotes slots ≡ slots
+  none-dressed : (pairs : List Pair) → dressed_after options inside pairs runs quotes slots ≡ slots
   none-dressed pairs =
       ap (λ (l : List PlacedRun). marked options (places_of l) (marks_by (length (places_of l)) pairs) (quoted (map (λ (x : PlacedQuote). x.slot) (drop inside.quotes quotes)) (characters_of (drop inside.quotes quotes)) slots) []) r
       ∙ ap (λ (l : List PlacedQuote). quoted (map (λ (x : PlacedQuote). x.slot) l) (characters_of l) slots) q
@@ -133,7 +133,7 @@ module _ (text : List ℕ) (doubled : Bracket) (close : ℕ) (wikilink : Wikilin
     where
       go : (at < length old) ⊎ (length old ≤ at) → at ≡ length old
       go (inl lt) =
-          let past = h.first.behind no-slot lt in
+          let past = h.first.following no-slot lt in
           let most = (stand at no-slot lt).before in
           absurd (omega (arith, past, most, ends))
       go (inr le) = let w = h.first.within in omega (arith, le, w)
@@ -146,7 +146,7 @@ module _ (text : List ℕ) (doubled : Bracket) (close : ℕ) (wikilink : Wikilin
       let all : (front ++ one) ++ rest ≡ old = append_assoc front one rest ∙ cut-at-slot old doubled.slot there in
       let from : doubled.slot + 1 ≡ length (front ++ one) = omega (arith, size, long) in
       let between : h.between ≡ (front ++ one) ++ map hidden rest =
-      hides-behind (front ++ one) rest h.between (subst (λ l. Hides (length (front ++ one)) (length l) l h.between) (sym all) (subst (λ n. Hides n (length old) old h.between) from (subst (λ n. Hides (doubled.slot + 1) n old h.between) all-hidden h.hides))) in
+      hides-following (front ++ one) rest h.between (subst (λ l. Hides (length (front ++ one)) (length l) l h.between) (sym all) (subst (λ n. Hides n (length old) old h.between) from (subst (λ n. Hides (doubled.slot + 1) n old h.between) all-hidden h.hides))) in
       let m = h.hides.size in
       let e = all-hidden in
       let name = shown_name doubled close wikilink.source_end wikilink.display in
@@ -155,16 +155,16 @@ module _ (text : List ℕ) (doubled : Bracket) (close : ℕ) (wikilink : Wikilin
       ∙ ap (λ l. l ++ name) (between ∙ append_assoc front one (map hidden rest))
       ∙ append_assoc front (here ∷ map hidden rest) name
 
--- around slots behind one
-around : (slots front behind : List row.Slot) (at : ℕ) (here begin : row.Slot) → slots ≡ front ++ (here ∷ behind) → length front ≡ at → wrapped at begin slots ≡ front ++ (begin ∷ (behind ++ (row.EndSlot ∷ [])))
-around slots front behind at here begin e size =
+-- an element around the slots after one
+around : (slots front following : List row.Slot) (at : ℕ) (here begin : row.Slot) → slots ≡ front ++ (here ∷ following) → length front ≡ at → wrapped at begin slots ≡ front ++ (begin ∷ (following ++ (row.EndSlot ∷ [])))
+around slots front following at here begin e size =
     let one : List row.Slot = here ∷ [] in
     let long = length-append front one in
     ap (wrapped at begin) e
-    ∙ ap (λ l. l ++ (begin ∷ (drop (suc at) (front ++ (here ∷ behind)) ++ (row.EndSlot ∷ [])))) (ap (λ n. take n (front ++ (here ∷ behind))) (sym size) ∙ take-append_seam front (here ∷ behind))
-    ∙ ap (λ l. front ++ (begin ∷ (l ++ (row.EndSlot ∷ [])))) (ap (drop (suc at)) (sym (append_assoc front one behind)) ∙ ap (λ n. drop n ((front ++ one) ++ behind)) (let q : suc at ≡ length (front ++ one) = omega (arith, size, long) in q) ∙ drop-append_seam (front ++ one) behind)
+    ∙ ap (λ l. l ++ (begin ∷ (drop (suc at) (front ++ (here ∷ following)) ++ (row.EndSlot ∷ [])))) (ap (λ n. take n (front ++ (here ∷ following))) (sym size) ∙ take-append_seam front (here ∷ following))
+    ∙ ap (λ l. front ++ (begin ∷ (l ++ (row.EndSlot ∷ [])))) (ap (drop (suc at)) (sym (append_assoc front one following)) ∙ ap (λ n. drop n ((front ++ one) ++ following)) (let q : suc at ≡ length (front ++ one) = omega (arith, size, long) in q) ∙ drop-append_seam (front ++ one) following)
 
--- the wikilink shows one slot of its own
+-- a wikilink that shows one slot of its own
 pub record ShowsOwn (doubled : Bracket) (close : ℕ) (wikilink : Wikilink) (old new : InlineState) : Type 0 where
   pub nothing : List row.Slot
   pub none : seen nothing ≡ []
@@ -227,7 +227,7 @@ shows-own options text doubled close wikilink old new w there stand texts links 
       where
         go : (w.inside.runs < length runs) ⊎ (length runs ≤ w.inside.runs) → length runs ≤ w.inside.runs
         go (inl lt) =
-            let low = w.left.runs_behind no-run lt in
+            let low = w.left.runs_after no-run lt in
             let high = runs-within old.slots.items 0 0 runs sound_so.sizes sound_so.runs_are w.inside.runs no-run lt in
             let some = sound_so.sizes w.inside.runs no-run lt in
             let e = all-hidden text doubled close wikilink old.slots.items w.shown w.at w.shows there stand ends in
@@ -239,7 +239,7 @@ shows-own options text doubled close wikilink old new w there stand texts links 
       where
         go : (w.inside.quotes < length quotes) ⊎ (length quotes ≤ w.inside.quotes) → length quotes ≤ w.inside.quotes
         go (inl lt) =
-            let low = w.left.quotes_behind no-quote lt in
+            let low = w.left.quotes_after no-quote lt in
             let high = (sound_so.quotes_are w.inside.quotes no-quote lt).0 in
             let e = all-hidden text doubled close wikilink old.slots.items w.shown w.at w.shows there stand ends in
             absurd (omega (arith, low, high, e))

@@ -1,4 +1,4 @@
--- What is written into the slots between two others leaves these: the characters of quotes and the marks of runs.
+-- The characters of quotes and the marks of runs in the slots between two others do not change these two.
 use Rattle.std.proofs.Common.{◌≡◌, ℕ, zero, suc, ◌+◌, ◌-◌, ◌<◌, ◌≤◌, List, [], ◌∷◌, ◌++◌, length, drop, take, get_or, set, Option, Some, None, refl, ap, ◌∙◌, arith, append_assoc}
 use Rattle.std.specs.Prelude.{All, map}
 use Rattle.std.proofs.lemmas.List.{get_or_append_left, get_or-set_other, length-set, set-append_left, set_comm, set_split}
@@ -14,7 +14,7 @@ use Rattle.cmark_slots.specs.declared.quote.PlacedQuote.{PlacedQuote}
 use Rattle.cmark_slots.specs.declared.slot.Slot.{Slot as CodeSlot}
 use Rattle.cmark_slots.proofs.Placing.{all-head, all-tail}
 
--- these places are behind one, and before the end
+-- all these indices are after `at` and below `size`
 abbrev pub AreInside : (at size : ℕ) → List ℕ → Type 0
 AreInside at size [] = Unit {0}
 AreInside at size (b ∷ bs) = (at < b) × (b < size) × AreInside at size bs
@@ -24,14 +24,14 @@ module _ (at : ℕ) (x y : Slot) where
   both slots = set slots at x ++ (y ∷ [])
 
   get-both : (slots : List Slot) (k : ℕ) (d : Slot) → at < k → k < length slots → get_or (both slots) k d ≡ get_or slots k d
-  get-both slots k d behind within =
+  get-both slots k d following within =
       let n = length-set slots at x in
-      get_or_append_left (set slots at x) (y ∷ []) d k (let q : k < length (set slots at x) = omega (arith, n, within) in q) ∙ get_or-set_other slots at k x d (λ (e : k ≡ at). absurd (omega (arith, e, behind)))
+      get_or_append_left (set slots at x) (y ∷ []) d k (let q : k < length (set slots at x) = omega (arith, n, within) in q) ∙ get_or-set_other slots at k x d (λ (e : k ≡ at). absurd (omega (arith, e, following)))
 
   set-both : (slots : List Slot) (k : ℕ) (z : Slot) → at < k → k < length slots → set (both slots) k z ≡ both (set slots k z)
-  set-both slots k z behind within =
+  set-both slots k z following within =
       let n = length-set slots at x in
-      set-append_left (set slots at x) (y ∷ []) k z (let q : k < length (set slots at x) = omega (arith, n, within) in q) ∙ ap (λ l. l ++ (y ∷ [])) (set_comm slots at k x z (λ (e : at ≡ k). absurd (omega (arith, e, behind))))
+      set-append_left (set slots at x) (y ∷ []) k z (let q : k < length (set slots at x) = omega (arith, n, within) in q) ∙ ap (λ l. l ++ (y ∷ [])) (set_comm slots at k x z (λ (e : at ≡ k). absurd (omega (arith, e, following))))
 
   -- ## Quotes
 
@@ -59,11 +59,11 @@ module _ (at : ℕ) (x y : Slot) where
   length-used (suc count) k slots = length-used count (suc k) (set slots k NothingSlot) ∙ length-set slots k NothingSlot
 
   used-both : (count k : ℕ) (slots : List Slot) → at < k → k + count ≤ length slots → used_up k count (both slots) ≡ both (used_up k count slots)
-  used-both zero k slots behind within = refl
-  used-both (suc count) k slots behind within =
+  used-both zero k slots following within = refl
+  used-both (suc count) k slots following within =
       let n = length-set slots k NothingSlot in
-      ap (used_up (suc k) count) (set-both slots k NothingSlot behind (omega (arith, within)))
-      ∙ used-both count (suc k) (set slots k NothingSlot) (omega (arith, behind)) (let q : suc k + count ≤ length (set slots k NothingSlot) = omega (arith, n, within) in q)
+      ap (used_up (suc k) count) (set-both slots k NothingSlot following (omega (arith, within)))
+      ∙ used-both count (suc k) (set slots k NothingSlot) (omega (arith, following)) (let q : suc k + count ≤ length (set slots k NothingSlot) = omega (arith, n, within) in q)
 
   length-spanned : (t : Option Tag) (first last : ℕ) (slots : List Slot) → length (spanned t first last slots) ≡ length slots
   length-spanned (Some t) first last slots = length-set (set slots last EndSlot) first _ ∙ length-set slots last EndSlot
@@ -111,14 +111,14 @@ module _ (at : ℕ) (x y : Slot) where
         ap (λ s. marked options places marks s begun) (set-both slots k NothingSlot h.0 (let q : k < length slots = omega (arith, l, n) in q))
         ∙ marked-both places marks (set slots k NothingSlot) begun size (length-set slots k NothingSlot ∙ n) h.2 b
 
-    -- all of it
+    -- quotes and marks together
     dressed-both : (places : List ℕ) (marks : List Mark) (quotes characters : List ℕ) (slots : List Slot) → AreInside at (length slots) places → AreInside at (length slots) quotes
         → marked options places marks (quoted quotes characters (both slots)) [] ≡ both (marked options places marks (quoted quotes characters slots) [])
     dressed-both places marks quotes characters slots p q =
         ap (λ l. marked options places marks l []) (quoted-both quotes characters slots (length slots) refl q)
         ∙ marked-both places marks (quoted quotes characters slots) [] (length slots) (length-quoted quotes characters slots) p tt
 
--- an element around slots into which something was written
+-- an element around slots with characters and marks
 pub dressed-wrapped : (options : Options) (at : ℕ) (x : Slot) (places : List ℕ) (marks : List Mark) (quotes characters : List ℕ) (slots : List Slot) → at < length slots → AreInside at (length slots) places → AreInside at (length slots) quotes
     → marked options places marks (quoted quotes characters (set slots at x ++ (EndSlot ∷ []))) [] ≡ wrapped at x (marked options places marks (quoted quotes characters slots) [])
 dressed-wrapped options at x places marks quotes characters slots there p q =
@@ -129,7 +129,7 @@ dressed-wrapped options at x places marks quotes characters slots there p q =
     ∙ ap (λ l. l ++ (EndSlot ∷ [])) (set_split dressed at x (let g : at < length dressed = omega (arith, n, m, there) in g))
     ∙ append_assoc (take at dressed) (x ∷ drop (suc at) dressed) (EndSlot ∷ [])
 
--- ## Where quotes and the bytes of runs stand
+-- ## The slots of quotes and of the bytes of runs
 
 pub ahead-inside : (slots : List CodeSlot) (from end : ℕ) (places : List ℕ) (at : ℕ) → at < from → AreAhead slots from end places → AreInside at (length slots) places
 ahead-inside slots from end [] at lt h = tt

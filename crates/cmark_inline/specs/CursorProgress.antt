@@ -16,7 +16,7 @@ use Rattle.cmark_references.specs.declared.definitions.RefDefs.{RefDefs}
 use Rattle.cmark_references.specs.declared.footnotes.FootnoteDefs.{FootnoteDefs}
 use Rattle.cmark_leaf_text.specs.Reads.{is_cell_of, text_of}
 use Rattle.cmark_leaf_text.specs.declared.leaf_text.LeafText.{LeafText}
-use Rattle.cmark_text_parts.specs.declared.text.CowStr.{CowStr}
+use Rattle.cmark_values.specs.declared.text.CowStr.{CowStr}
 use Rattle.cmark_inline_model.specs.BracketPass.{Pass}
 use Rattle.cmark_inline.specs.Closers.{ShowsState}
 use Rattle.cmark_inline.specs.Decided.{ReadsSame}
@@ -31,15 +31,14 @@ use Rattle.cmark_inline.specs.declared.state.InlineState.{InlineState}
 use Rattle.cmark_inline.specs.declared.step.Cursor.{Cursor}
 use Rattle.cmark_inline.specs.declared.step.Sought.{Sought}
 
--- ## The text that is pending
+-- ## The pending text
 module _ (options : Options) (lookup : Lookup) (is_cell : Bool) (text : List ℕ) where
-  -- bytes that stand for themselves, one item behind the other, from a place up to another: each item ends at one of these places
+  -- the bytes from `from` to `to` are literal items, which end at the offsets `ends`
   abbrev pub AreTexts : (from : ℕ) → (ends : List ℕ) → (to : ℕ) → Type 0
   AreTexts from [] to = from ≡ to
   AreTexts from (end ∷ ends) to = (from < end) × (begins_at options lookup is_cell text from ≡ item_at Plain from end) × AreTexts end ends to
 
-  -- at one place bytes begin that stand for themselves, perhaps behind a backslash; with those that touch them they are a text from
-  -- `start` up to another place
+  -- literal bytes begin at `at`, perhaps after a backslash. With the literal bytes after them, they are a text from `start` to `to`
   pub record HasBegun (at start to : ℕ) : Type 0 where
     pub end : ℕ
     pub some : start < end
@@ -47,27 +46,27 @@ module _ (options : Options) (lookup : Lookup) (is_cell : Bool) (text : List ℕ
     pub ends : List ℕ
     pub texts : AreTexts end ends to
 
-  -- behind the backslash at one place stands a run of backticks, of which the first was read: it stands for itself where the rest of the
-  -- run opens a code span
+  -- a run of backticks follows the backslash at `at`, and its first backtick was read. This backtick is literal if the rest of the run
+  -- opens a code span
   pub record HasEscaped (at start to : ℕ) : Type 0 where
     pub slash : slice_index text at ≡ 92
     pub token : begins_at options lookup is_cell text at ≡ escaped_backtick (reading options lookup text) (whole is_cell text) start (backticks (drop start text)) (code_in (drop to text))
-    pub behind : to ≡ start + 1
+    pub following : to ≡ start + 1
     pub byte : slice_index text start ≡ 96
     pub several : 1 < backticks (drop start text)
 
-  -- while the pass of the grammar stands at one place: nothing is pending there; or a text has begun, which is no backtick, and does not
-  -- end with a blank before the leaf does; or a backtick that is escaped
+  -- the pending text, if the grammar's pass is at the offset `at`. Either nothing is pending, or an escaped backtick, or a text. The text
+  -- begins with no backtick, and ends with no blank unless the leaf ends there
   abbrev pub IsPending : (at : ℕ) → Cursor → Type 0
   IsPending at cursor =
       ((at ≡ cursor.pending) × (cursor.pending ≡ cursor.at))
       ⊎ ((HasBegun at cursor.pending cursor.at × (slice_index text cursor.pending ≡ 96 → ⊥) × (cursor.at < length text → is_blank_byte (slice_index text (cursor.at - 1)) ≡ false))
       ⊎ HasEscaped at cursor.pending cursor.at)
 
--- ## What is read
+-- ## The parts that were read
 module _ {F : Type 0} (R : F → BrokenLink → Option (CowStr × CowStr) → F → Type 0) (leaf : LeafText) (reader : Reader) (read : Leaf) (place : ℕ → ℕ) (before : Between) (tally : Tally) where
-  -- a pass of the grammar has come to a place, and has read what this state stands for, with the answers that the callback gave; the
-  -- steps that its parts ask for are counted
+  -- a pass of the grammar has reached the offset `at`, with the answers that the callback gave. It has read what this state represents. The
+  -- steps that its parts need are counted
   pub record HasReached (initial : F) (at : ℕ) (state : InlineState) (now : F) : Type 0 where
     pub p : Pass
     pub bs : List Bracket
@@ -77,21 +76,22 @@ module _ {F : Type 0} (R : F → BrokenLink → Option (CowStr × CowStr) → F 
     pub answered : Answered R p.state.asked initial now
     pub counted : AreCounted reader p.here tally state.delimiters.examined
 
-  -- and the text from there on up to a cursor is pending
+  -- a pass of the grammar has reached an offset, and the text from there up to the cursor is pending
   pub record HasCome (initial : F) (cursor : Cursor) (state : InlineState) (now : F) : Type 0 where
     pub from : ℕ
     pub reached : HasReached initial from state now
     pub pending : IsPending reader.options reader.lookup (is_cell_of leaf) (text_of leaf) from cursor
 
--- where a leaf is read up to a cursor as the grammar reads it, it is so up to the next one: for each reading with the same options,
--- entities, definitions and footnotes, where HTML and texts of the source end in the source where their slots end
+-- if a leaf is read up to a cursor as the grammar reads it, it is read up to the next one in this way. This holds for each reading with the
+-- same options, entities, definitions and footnotes. HTML and texts of the source have to end where their slots end
 abbrev pub ComesOn : {F : Type 0} → (F → BrokenLink → Option (CowStr × CowStr) → F → Type 0) → Options → Lookup → RefDefs → (notes others : FootnoteDefs) → LeafText → (sought found : Sought) → (cursor next : Cursor) → (old new : InlineState) → (now later : F) → Type 0
 ComesOn {F} R options lookup references notes others leaf sought found cursor next old new now later =
     (reader : Reader) (read : Leaf) (place : ℕ → ℕ) (before : Between) (begun : FootnoteDefs) (initial : F) → ReadsSame options lookup references notes leaf reader read place → ReadsPlaces leaf reader read place
     → AreEnded leaf old.slots.items → HasCome R leaf reader read place before (record { sought = sought; begun = begun; notes = notes }) initial cursor old now
     → HasCome R leaf reader read place before (record { sought = found; begun = begun; notes = others }) initial next new later
 
--- so far it is read from its begin on, with so much left of the reference expansion limit there and nothing asked
+-- the leaf is read up to the cursor from its beginning, where `expansion_left` is left of the reference expansion limit and nothing was
+-- asked
 abbrev pub ComesTo : {F : Type 0} → (F → BrokenLink → Option (CowStr × CowStr) → F → Type 0) → Options → Lookup → RefDefs → FootnoteDefs → LeafText → (expansion_left : ℕ) → (initial : F) → Sought → (notes : FootnoteDefs) → Cursor → InlineState → (now : F) → Type 0
 ComesTo R options lookup references begun leaf expansion_left initial sought notes cursor state now =
     (reader : Reader) (read : Leaf) (place : ℕ → ℕ) → ReadsSame options lookup references begun leaf reader read place → ReadsPlaces leaf reader read place
@@ -99,20 +99,20 @@ ComesTo R options lookup references begun leaf expansion_left initial sought not
 
 -- ## If memory is refused
 
--- the grammar has read a part of the leaf. In it, it puts the questions that were put, and no others
+-- the grammar has read a part of the leaf, with the questions that were asked, and no others
 pub record IsUnderWay {F : Type 0} (R : F → BrokenLink → Option (CowStr × CowStr) → F → Type 0) (reader : Reader) (read : Leaf) (before : Between) (initial now : F) : Type 0 where
   pub p : Pass
   pub reads : Reads (token reader read) (decide reader read) AnyAnswer (entering read before) p.here p.state
   pub answered : Answered R p.state.asked initial now
 
--- if the leaf is read up to a cursor as the grammar reads it, the grammar also puts the questions that were put after the cursor
+-- if the grammar's pass has read the leaf up to a cursor, it also asks the questions that were asked after the cursor
 abbrev pub StopsOn : {F : Type 0} → (F → BrokenLink → Option (CowStr × CowStr) → F → Type 0) → Options → Lookup → RefDefs → (notes : FootnoteDefs) → LeafText → (sought : Sought) → Cursor → (old : InlineState) → (now later : F) → Type 0
 StopsOn {F} R options lookup references notes leaf sought cursor old now later =
     (reader : Reader) (read : Leaf) (place : ℕ → ℕ) (before : Between) (begun : FootnoteDefs) (initial : F) → ReadsSame options lookup references notes leaf reader read place → ReadsPlaces leaf reader read place
     → HasCome R leaf reader read place before (record { sought = sought; begun = begun; notes = notes }) initial cursor old now
     → IsUnderWay R reader read before initial later
 
--- ## The begin of a leaf
+-- ## The beginning of a leaf
 
 -- a state without slots, runs, quotes and brackets, as it is before a leaf is read
 pub record IsCleared (state : InlineState) : Type 0 where

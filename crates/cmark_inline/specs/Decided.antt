@@ -1,9 +1,9 @@
--- What a decision about a closing bracket comes to, where a callback answers its question.
+-- The outcome of a decision about a closing bracket, if a callback answers its question.
 use Rattle.std.specs.Prelude.{◌≡◌, ◌⊎◌, ◌≤◌, ◌<◌, ℕ, suc, ◌+◌, ◌-◌, Bool, true, false, List, length, get_or, Option, Some, None, is_some, option_map}
 use Rattle.cmark_grammar.specs.Answers as answers
 use Rattle.cmark_grammar.specs.Answers.{Lookup}
 use Rattle.cmark_grammar.specs.BlockDocument as block
-use Rattle.cmark_grammar.specs.BracketDecisions.{behind, is_there, link_or, links, stays, or_empty}
+use Rattle.cmark_grammar.specs.BracketDecisions.{following, is_there, link_or, links, stays, or_empty}
 use Rattle.cmark_grammar.specs.BracketStates.{State, Outcome, Decision, Settled, Asks}
 use Rattle.cmark_grammar.specs.Items as items
 use Rattle.cmark_grammar.specs.LeafText.{Leaf}
@@ -21,8 +21,8 @@ use Rattle.cmark_leaf_text.specs.Reads as reads
 use Rattle.cmark_leaf_text.specs.Reads.{source_of, text_of, is_cell_of}
 use Rattle.cmark_leaf_text.specs.declared.leaf_text.LeafText.{LeafText}
 use Rattle.cmark_references.specs.Links.{shown_link}
-use Rattle.cmark_text_parts.specs.Shown.{shown_link_type, text_bytes}
-use Rattle.cmark_text_parts.specs.declared.text.CowStr.{CowStr}
+use Rattle.cmark_values.specs.Shown.{shown_link_type, text_bytes}
+use Rattle.cmark_values.specs.declared.text.CowStr.{CowStr}
 use Rattle.cmark_inline_model.specs.TextPlaces.{ArePlaces}
 use Rattle.cmark_inline.specs.BracketViews.{IsPlaced}
 use Rattle.cmark_inline.specs.Footnoted.{footnote_of, forms_footnote}
@@ -32,12 +32,12 @@ use Rattle.cmark_inline.specs.declared.state.InlineState.{InlineState}
 use Rattle.cmark_inline.specs.declared.callback.BrokenLink.{BrokenLink}
 use Rattle.cmark_inline.specs.declared.link.Target.{Target}
 
--- ## What is read
+-- ## The leaf that is read
 
 abbrev pub said : block.Reference → Said
 said reference = record { destination = reference.destination; title = or_empty reference.title }
 
--- the grammar reads the same leaf, with the same options, entities, definitions and footnotes, and a callback
+-- the grammar reads this leaf, with these options, entities, definitions and footnotes, and a callback
 pub record ReadsSame (options : Options) (lookup : Lookup) (references : RefDefs) (footnotes : FootnoteDefs) (leaf : LeafText) (reader : Reader) (read : Leaf) (place : ℕ → ℕ) : Type 0 where
   pub source : reader.source ≡ source_of leaf
   pub options_are : reader.options ≡ options
@@ -49,7 +49,7 @@ pub record ReadsSame (options : Options) (lookup : Lookup) (references : RefDefs
   pub places : ArePlaces reader read (text_of leaf) place
   pub bytes : (k : ℕ) → k < length (text_of leaf) → reads.place_of leaf k ≡ place k
 
--- the closing bracket of the grammar is the one at this place of the text
+-- `closer` is the grammar's closing bracket at the offset `close` of the text
 pub record IsCloser (text : List ℕ) (place : ℕ → ℕ) (close : ℕ) (closer : items.Bracket) : Type 0 where
   pub within : close < length text
   pub byte : get_or text close 0 ≡ 93
@@ -65,13 +65,13 @@ abbrev pub is_full : link.LinkType → Bool
 is_full link.Reference = true
 is_full _ = false
 
--- the state has the same left of the reference expansion limit, and the same closing bracket of a full reference's label
+-- both states have equal rests of the reference expansion limit, and one closing bracket of a full reference's label
 pub record Remembers (text : List ℕ) (place : ℕ → ℕ) (s : State) (state : InlineState) : Type 0 where
   pub expansion_left : s.expansion_left ≡ state.expansion_left
   pub label : s.label_close ≡ option_map place state.label_close
   pub within : EndsWithin text state.label_close
 
--- ## What is asked
+-- ## Questions and answers
 
 abbrev pub shown_question : BrokenLink → Question
 shown_question link = record { start = link.span.start; end = link.span.end; link_type = shown_link_type link.link_type; reference = text_bytes link.reference }
@@ -79,7 +79,7 @@ shown_question link = record { start = link.span.start; end = link.span.end; lin
 abbrev pub shown_answer : CowStr × CowStr → answers.Destination
 shown_answer answer = record { url = text_bytes answer.0; title = text_bytes answer.1 }
 
--- a callback was asked this, and answered so
+-- a callback was asked `question`, and gave `answer`
 pub record AsksThis {F : Type 0} (R : F → BrokenLink → Option (CowStr × CowStr) → F → Type 0) (question : Question) (answer : Option answers.Destination) (before after : F) : Type 0 where
   pub link : BrokenLink
   pub told : Option (CowStr × CowStr)
@@ -87,53 +87,54 @@ pub record AsksThis {F : Type 0} (R : F → BrokenLink → Option (CowStr × Cow
   pub answer_is : option_map shown_answer told ≡ answer
   pub run : R before link told after
 
--- a decision comes to this: nothing is asked where it is settled, and else its question alone
+-- the outcome of a decision. If the decision is settled, nothing was asked; otherwise only its question was asked
 abbrev pub ComesTo : {F : Type 0} → (F → BrokenLink → Option (CowStr × CowStr) → F → Type 0) → Decision → Outcome → (before after : F) → Type 0
 ComesTo R (Settled settled) outcome before after = (outcome ≡ settled) × (after ≡ before)
 ComesTo R (Asks question answered) outcome before after = (answer : Option answers.Destination) × AsksThis R question answer before after × (outcome ≡ answered answer)
 
--- what was asked for a decision, if memory was refused: nothing, or its question
+-- the questions for a decision, if memory was refused: either nothing was asked, or its question
 abbrev pub AsksOf : {F : Type 0} → (F → BrokenLink → Option (CowStr × CowStr) → F → Type 0) → Decision → (before after : F) → Type 0
 AsksOf R (Settled settled) before after = after ≡ before
 AsksOf R (Asks question answered) before after = (after ≡ before) ⊎ ((answer : Option answers.Destination) × AsksThis R question answer before after)
 
--- ## What is formed
+-- ## Links and images
 
--- a link or an image with this target; where there is none, the closing bracket is a text
+-- the outcome for a link or an image with this target. Without a target, the closing bracket is a text
 abbrev pub target_outcome : Reader → Leaf → (place : ℕ → ℕ) → Taken → (closer : items.Bracket) → State → Option Target → Outcome
 target_outcome reader leaf place taken closer s None = stays reader leaf closer s
 target_outcome reader leaf place taken closer s (Some target) = links reader leaf taken (shown_link target.link) (place target.end) (place target.resume) s
 
--- the state with what is left of the reference expansion limit, the closing bracket of a full reference's label, and the questions
+-- the state with these three values: the rest of the reference expansion limit, the closing bracket of a full reference's label, the
+-- questions
 abbrev pub with_left : (expansion_left : ℕ) → (label_close : Option ℕ) → List Exchange → State → State
 with_left expansion_left label_close asked s = record { at = s.at; expansion_left = expansion_left; label_close = label_close; asked = asked; openers = s.openers }
 
--- a decision comes to a link or an image with this target, or to nothing, and leaves so much of the reference expansion limit, and the
--- closing bracket of a label
+-- a decision leads to a link or an image with the target `found`, or to nothing. It leaves `expansion_left` of the reference expansion
+-- limit, and the closing bracket `label_close` of a label
 pub record LeadsTo {F : Type 0} (R : F → BrokenLink → Option (CowStr × CowStr) → F → Type 0) (reader : Reader) (leaf : Leaf) (place : ℕ → ℕ) (taken : Taken) (closer : items.Bracket) (decision : Decision) (s : State) (expansion_left : ℕ)
     (label_close : Option ℕ) (found : Option Target) (before after : F) : Type 0 where
   pub asked : List Exchange
   pub comes : ComesTo R decision (target_outcome reader leaf place taken closer (with_left expansion_left label_close asked s) found) before after
 
--- a target ends behind its last byte, which ends no line
+-- a target ends directly after the place of its last byte, since this byte ends no line
 abbrev pub EndsTogether : LeafText → (place : ℕ → ℕ) → Option Target → Type 0
 EndsTogether leaf place None = Unit {0}
 EndsTogether leaf place (Some target) = reads.place_of leaf (target.end - 1) + 1 ≡ place target.end
 
--- with the bracket that it takes a closing bracket forms what the grammar says where it is no footnote reference: with this target, or
--- nothing
+-- if the closing bracket forms no footnote reference with the bracket that it takes, the grammar decides on a link or an image. It has the
+-- target `found`, or is nothing
 abbrev pub TargetDecides : {F : Type 0} → (F → BrokenLink → Option (CowStr × CowStr) → F → Type 0) → Options → Lookup → RefDefs → LeafText → (text : List ℕ) → Bracket → (close : ℕ) → (old new : InlineState) → Option Target → (before after : F) → Type 0
 TargetDecides R options lookup references leaf text bracket close old new found before after =
     (footnotes : FootnoteDefs) (reader : Reader) (read : Leaf) (place : ℕ → ℕ) (taken : Taken) (closer : items.Bracket) (s : State)
     → ReadsSame options lookup references footnotes leaf reader read place → IsCloser text place close closer → IsPlaced place taken.opener bracket → Remembers text place s old
     → forms_footnote options footnotes (footnote_of options (is_cell_of leaf) (is_there close old.label_close) text close (Some bracket)) ≡ false
-    → LeadsTo R reader read place taken closer (link_or reader read (link_tail_in (behind reader read closer.end)) taken closer s) s new.expansion_left (option_map place new.label_close) found before after
+    → LeadsTo R reader read place taken closer (link_or reader read (link_tail_in (following reader read closer.end)) taken closer s) s new.expansion_left (option_map place new.label_close) found before after
     × EndsTogether leaf place found
 
--- what was asked for this target, if memory was refused
+-- the questions for this target, if memory was refused
 abbrev pub AsksOfTarget : {F : Type 0} → (F → BrokenLink → Option (CowStr × CowStr) → F → Type 0) → Options → Lookup → RefDefs → LeafText → (text : List ℕ) → Bracket → (close : ℕ) → (old : InlineState) → (before after : F) → Type 0
 AsksOfTarget R options lookup references leaf text bracket close old before after =
     (footnotes : FootnoteDefs) (reader : Reader) (read : Leaf) (place : ℕ → ℕ) (taken : Taken) (closer : items.Bracket) (s : State)
     → ReadsSame options lookup references footnotes leaf reader read place → IsCloser text place close closer → IsPlaced place taken.opener bracket → Remembers text place s old
     → forms_footnote options footnotes (footnote_of options (is_cell_of leaf) (is_there close old.label_close) text close (Some bracket)) ≡ false
-    → AsksOf R (link_or reader read (link_tail_in (behind reader read closer.end)) taken closer s) before after
+    → AsksOf R (link_or reader read (link_tail_in (following reader read closer.end)) taken closer s) before after

@@ -1,4 +1,4 @@
--- Which slots are written where brackets form a footnote reference or a wikilink, in slots of the model.
+-- The slots that are written if brackets form a footnote reference or a wikilink, as slots of the model.
 use Rattle.std.specs.Prelude.{◌≡◌, ◌<◌, ◌≤◌, ℕ, ◌+◌, ◌-◌, if◌then◌else◌, List, [], ◌∷◌, ◌++◌, drop, get_or, length, take}
 use Rattle.cmark_grammar.specs.Emphasis.{IsEmphasis, Pair}
 use Rattle.cmark_grammar.specs.Items as items
@@ -13,7 +13,7 @@ use Rattle.cmark_inline.specs.Footnoted.{reference_start}
 use Rattle.cmark_slots.specs.MarkedSlots.{siblings_from}
 use Rattle.cmark_slots.specs.SlotViews.{first_of, item_slot, shown_slot, shown_slots}
 use Rattle.cmark_inline.specs.Wikilinks.{IsWikilink, Shows, has_pothole}
-use Rattle.cmark_inline.specs.FormedSlots.{Forgets, dressed_behind, wrapped}
+use Rattle.cmark_inline.specs.FormedSlots.{Forgets, dressed_after, wrapped}
 use Rattle.cmark_slots.specs.declared.bracket.Bracket.{Bracket}
 use Rattle.cmark_slots.specs.declared.delimiter.PlacedRun.{PlacedRun}
 use Rattle.cmark_slots.specs.declared.quote.PlacedQuote.{PlacedQuote}
@@ -34,8 +34,8 @@ mark_before leaf bracket = if bracket.is_image then shown_slot leaf [] [] (mark_
 abbrev pub shown_reference : LeafText → Bracket → (label : List ℕ) → (end : ℕ) → row.Slot
 shown_reference leaf bracket label end = item_slot (items.FootnoteReference label) (place_of leaf (reference_start bracket)) (place_of leaf (end - 1) + 1)
 
--- a footnote reference with this label stands in the place of the slot of its bracket, behind the `!` of an image, and the slots behind it
--- are nothing
+-- a footnote reference with this label has the slot of its bracket, or the next one after the `!` of an image. The slots after it are
+-- nothing
 pub record WritesReference (bracket : Bracket) (label : List ℕ) (end : ℕ) (old new : InlineState) : Type 0 where
   pub forgets : Forgets bracket old new
   pub hidden : List row.Slot
@@ -45,16 +45,16 @@ pub record WritesReference (bracket : Bracket) (label : List ℕ) (end : ℕ) (o
 
 -- ## Wikilinks
 
--- what a wikilink shows begins with this slot: of the runs and the quotes behind its doubled bracket these are left, and those before them
--- have earlier slots
+-- the display text of a wikilink begins with the slot at the index `at`. The runs and quotes after `inside` have this slot or later ones.
+-- Those between `doubled` and `inside` have earlier slots
 pub record AreLeft (at : ℕ) (runs : List PlacedRun) (quotes : List PlacedQuote) (doubled inside : Bracket) : Type 0 where
   pub slot : inside.slot ≡ doubled.slot
   pub runs_order : doubled.runs ≤ inside.runs
   pub runs_before : (k : ℕ) (d : PlacedRun) → doubled.runs ≤ k → k < inside.runs → (get_or runs k d).slot < at
-  pub runs_behind : (d : PlacedRun) → inside.runs < length runs → at ≤ (get_or runs inside.runs d).slot
+  pub runs_after : (d : PlacedRun) → inside.runs < length runs → at ≤ (get_or runs inside.runs d).slot
   pub quotes_order : doubled.quotes ≤ inside.quotes
   pub quotes_before : (k : ℕ) (d : PlacedQuote) → doubled.quotes ≤ k → k < inside.quotes → (get_or quotes k d).slot < at
-  pub quotes_behind : (d : PlacedQuote) → inside.quotes < length quotes → at ≤ (get_or quotes inside.quotes d).slot
+  pub quotes_after : (d : PlacedQuote) → inside.quotes < length quotes → at ≤ (get_or quotes inside.quotes d).slot
 
 -- the link or the image begins in the slot of the doubled bracket, around the slots that the wikilink shows, which are dressed
 pub record WritesShown (options : Options) (text : List ℕ) (doubled : Bracket) (close : ℕ) (wikilink : Wikilink) (old new : InlineState) : Type 0 where
@@ -67,9 +67,9 @@ pub record WritesShown (options : Options) (text : List ℕ) (doubled : Bracket)
   pub slots : (leaf : LeafText) (pairs : List Pair) (spans : Spans) (d : Slot) → IsEmphasis (siblings_from 0 (drop inside.runs old.delimiters.placed.items)) pairs spans
       → shown_slots leaf new.texts.items new.links.items new.slots.items
       ≡ wrapped doubled.slot (row.BeginSlot (wiki_tag doubled.is_image wikilink.name.now (has_pothole wikilink.display)) (first_of leaf (get_or old.slots.items doubled.slot d)) (place_of leaf (close + 1) + 1))
-      (dressed_behind options inside pairs old.delimiters.placed.items old.quotes.placed.items (shown_slots leaf old.texts.items old.links.items shown))
+      (dressed_after options inside pairs old.delimiters.placed.items old.quotes.placed.items (shown_slots leaf old.texts.items old.links.items shown))
 
--- so does the wikilink that stands between a doubled bracket and a closing one
+-- the wikilink between a doubled bracket and a closing one is written in this way
 pub record WritesWikilink (options : Options) (leaf : LeafText) (text : List ℕ) (doubled : Bracket) (close : ℕ) (old new : InlineState) : Type 0 where
   pub wikilink : Wikilink
   pub is : IsWikilink leaf doubled close wikilink

@@ -1,4 +1,4 @@
--- The leaf of the grammar that the text of a leaf is.
+-- The leaf of the grammar that a leaf's text represents.
 use Rattle.std.specs.Prelude.{List, [], ◌∷◌}
 use Rattle.cmark_grammar.specs.LeafText as grammar
 use Rattle.cmark_grammar.specs.LeafText.{Leaf}
@@ -6,7 +6,7 @@ use Rattle.cmark_leaf_text.specs.Reads.{is_cell_of}
 use Rattle.cmark_leaf_text.specs.declared.leaf_text.LeafText.{LeafText}
 use Rattle.cmark_leaf_text.specs.declared.stretch.Stretch.{Stretch}
 
--- the same stretches of the source
+-- the same stretch of the source
 abbrev pub shown_stretch : Stretch → grammar.Stretch
 shown_stretch s = record { start = s.start; end = s.end }
 

@@ -20,8 +20,8 @@ use Rattle.cmark_slots.specs.declared.delimiter.PlacedRun.{PlacedRun}
 use Rattle.cmark_slots.specs.declared.quote.PlacedQuote.{PlacedQuote}
 use Rattle.cmark_inline.specs.declared.state.InlineState.{InlineState}
 
--- the grammar reads the leaf whose text this is, and its bytes have these places: its lines stand in order in the source and end with line
--- endings, and no pipe stands between them
+-- the grammar reads the leaf with this text, and `place` gives the place of each byte. The lines are in order in the source and end with
+-- line endings, and no pipe is between them
 pub record ReadsPlaces (leaf : LeafText) (reader : Reader) (read : Leaf) (place : ℕ → ℕ) : Type 0 where
   pub places : AreLeafPlaces reader read (text_of leaf) place
   pub cell : read.is_cell ≡ is_cell_of leaf
@@ -32,7 +32,7 @@ pub record ReadsPlaces (leaf : LeafText) (reader : Reader) (read : Leaf) (place 
   pub lines : HaveLineEnds reader.source read.stretches
   pub pipes : (k x : ℕ) → suc k < length (text_of leaf) → place k < x → x < place (suc k) → (get_or reader.source x 0 == 124) ≡ false
 
--- an opening bracket, with what stands before it in the row
+-- an opening bracket with the index of its slot, and with the numbers of runs and quotes before it
 abbrev pub bracket_place : (place : ℕ → ℕ) → Bracket → BracketPlace
 bracket_place place b = record {
   bracket = record { is_image = b.is_image; start = place b.start; end = place b.inside };
@@ -47,7 +47,7 @@ runs_of placed = map (λ (p : PlacedRun). shown_run p.run) placed
 abbrev pub quotes_of : List PlacedQuote → List Quote
 quotes_of placed = map (λ (p : PlacedQuote). shown_quote p.quote) placed
 
--- a pass of the grammar has read what this state's slots stand for; its opening brackets are these
+-- the pass `p` of the grammar has read what the slots of this state represent, and its opening brackets are `bs`
 abbrev pub HasRead : LeafText → Reader → Leaf → (place : ℕ → ℕ) → Between → Pass → List Bracket → InlineState → Type 0
 HasRead leaf reader read place before p bs state =
     IsReached reader read before p (map (bracket_place place) bs) (shown_slots leaf state.texts.items state.links.items state.slots.items) (places_of state.delimiters.placed.items)

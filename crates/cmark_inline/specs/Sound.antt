@@ -1,5 +1,4 @@
--- What holds of the slots of a leaf while it is read: of the texts and links that they name, and of the quotes, the delimiter runs
--- and the brackets that stand in them.
+-- Facts about the slots of a leaf while it is read: their texts and links, and their quotes, delimiter runs and brackets.
 use Rattle.std.specs.Prelude.{length}
 use Rattle.cmark_leaf_text.specs.declared.leaf_text.LeafText.{LeafText}
 use Rattle.cmark_slots.specs.declared.bracket.Bracket.{Bracket}
@@ -16,7 +15,7 @@ IsTakenFrom state bracket = IsTaken state.slots.items state.delimiters.placed.it
 abbrev pub IsPairFrom : InlineState → Bracket → Type 0
 IsPairFrom state bracket = IsTakenPair state.slots.items state.delimiters.placed.items state.quotes.placed.items state.brackets.standing.items bracket
 
--- what holds of a state holds of the next one
+-- these facts hold after a call if they hold before it
 pub record KeepsSound (old new : InlineState) : Type 0 where
   pub sound : IsSound old → IsSound new
   pub ends : (leaf : LeafText) → AreEnded leaf old.slots.items → AreEnded leaf new.slots.items

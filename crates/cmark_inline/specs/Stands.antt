@@ -1,4 +1,4 @@
--- What holds while the text of a leaf is read.
+-- Facts that hold while the text of a leaf is read.
 use Rattle.std.specs.Prelude.{◌≡◌, ℕ, ◌+◌, ◌*◌, ◌≤◌, ◌<◌, List, length, slice_index}
 use Rattle.std.specs.Str.{IsCharBoundary}
 use Rattle.cmark_inline.specs.declared.reference.LinkReference.{LinkReference}
@@ -7,9 +7,9 @@ use Rattle.cmark_inline.specs.declared.state.InlineState.{InlineState}
 use Rattle.cmark_inline.specs.declared.step.Cursor.{Cursor}
 use Rattle.cmark_slots.specs.Slots.{AreBrackets, AreFree, AreSlots, PushesText, bytes_of}
 
--- all slots and brackets, the doubled ones too, stand before this place of the text, there are no more slots than bytes before it,
--- no link begins behind a bracket that may form one, there is a slot for each byte of the delimiter runs, and of the open runs that may be
--- examined for each run, fifteen at most, those of the runs that are not resolved were not
+-- the state of a pass that has read the text up to the offset `at`. All slots, brackets and doubled brackets end by this offset. There are
+-- at most `at` slots, and one for each byte of the delimiter runs. No link begins after a bracket that may form one. At most 15 open runs are
+-- examined for each byte: those examined so far, with 15 for each run that is not resolved
 pub record Stands (text : List ℕ) (at : ℕ) (state : InlineState) : Type 0 where
   pub slots : AreSlots text at state.slots.items
   pub brackets : AreBrackets text at state.brackets.standing.items
@@ -20,34 +20,34 @@ pub record Stands (text : List ℕ) (at : ℕ) (state : InlineState) : Type 0 wh
   pub runs : bytes_of state.delimiters.placed.items ≤ length state.slots.items
   pub examined : state.delimiters.examined + 15 * length state.delimiters.placed.items ≤ 15 * at
 
--- a place that is reached, and the one from which on the text stands in no slot, cut no character
+-- the offsets of a cursor are in order, and character boundaries of the text
 pub record IsCursor (text : List ℕ) (cursor : Cursor) : Type 0 where
   pub pending : IsCharBoundary text cursor.pending
   pub at : IsCharBoundary text cursor.at
   pub ordered : cursor.pending ≤ cursor.at
 
--- a byte of ASCII stands at the cursor, and all that was read stands before what is pending
+-- a byte of ASCII is at the cursor, and the slots and brackets of the state end by the pending text
 pub record IsAtByte (text : List ℕ) (here : Cursor) (state : InlineState) : Type 0 where
   pub stands : Stands text here.pending state
   pub cursor : IsCursor text here
   pub within : here.at < length text
   pub ascii : slice_index text here.at < 128
 
--- the text was read further than to this place
+-- the text was read beyond the offset `at`
 pub record Moves (text : List ℕ) (at : ℕ) (state : InlineState) (next : Cursor) : Type 0 where
   pub stands : Stands text next.pending state
   pub cursor : IsCursor text next
   pub further : at < next.at
 
--- a state that had room for the slot of the text that was pending up to a place
+-- memory sufficed for the slot of the pending text from `start` to `end`
 pub record Flushes (start end : ℕ) (old : InlineState) : Type 0 where
   pub flushed : InlineState
   pub pushes : PushesText start end old.slots.items flushed.slots.items
   pub others : flushed ≡ record old { slots = flushed.slots }
 
--- what forms a link ends behind its closing bracket, and so does what it uses up
+-- a target ends after its closing bracket, and so do the bytes that it uses up
 pub record IsTarget (text : List ℕ) (close : ℕ) (target : Target) : Type 0 where
-  pub behind : close < target.end
+  pub following : close < target.end
   pub ordered : target.end ≤ target.resume
   pub ends : IsCharBoundary text target.end
   pub resume : IsCharBoundary text target.resume
@@ -59,9 +59,9 @@ pub record SameSpans (old new : InlineState) : Type 0 where
   pub doubled : new.doubled ≡ old.doubled
   pub delimiters : new.delimiters ≡ old.delimiters
 
--- a reference ends behind its closing bracket, and so does what it uses up
+-- a reference ends after its closing bracket, and so do the bytes that it uses up
 pub record IsLinkReference (text : List ℕ) (close : ℕ) (link_reference : LinkReference) : Type 0 where
-  pub behind : close < link_reference.end
+  pub following : close < link_reference.end
   pub ordered : link_reference.end ≤ link_reference.resume
   pub ends : IsCharBoundary text link_reference.end
   pub resume : IsCharBoundary text link_reference.resume

@@ -1,5 +1,5 @@
--- What begins at a place of a leaf's text, and the slots that stand for it. The text is read as a leaf of one stretch, so places are
--- those of the text; it may be that of a cell of a table, where a backslash before a pipe means something else.
+-- The tokens of a leaf's text, and the slots that represent them. The text is read as a leaf of one stretch, so its places are offsets of
+-- the text. It may be the text of a table's cell, in which a backslash before a pipe has another meaning.
 use Rattle.std.specs.Prelude.{◌≡◌, ◌⊎◌, ℕ, ◌+◌, ◌-◌, ◌≤◌, ◌<◌, Bool, true, false, ◌==◌, ◌||◌, List, [], ◌∷◌, ◌++◌, length, drop, encode_utf8, slice_index, slice_get, Some, None, is_some}
 use Rattle.cmark_grammar.specs.Answers.{Lookup}
 use Rattle.cmark_grammar.specs.CodeSpans.{is_backtick, backticks, code_in, code_text}
@@ -18,8 +18,8 @@ use Rattle.cmark_grammar.specs.Tokens.{is_punctuation, slice}
 use Rattle.cmark_emphasis.specs.Shown.{shown_quote, shown_run}
 use Rattle.cmark_emphasis.specs.declared.quotes.Quote.{Quote}
 use Rattle.cmark_emphasis.specs.declared.run.Run.{Run}
-use Rattle.cmark_text_parts.specs.Shown.{text_bytes}
-use Rattle.cmark_text_parts.specs.declared.text.CowStr.{CowStr}
+use Rattle.cmark_values.specs.Shown.{text_bytes}
+use Rattle.cmark_values.specs.declared.text.CowStr.{CowStr}
 use Rattle.cmark_inline.specs.Linked.{IsAutolink}
 use Rattle.cmark_slots.specs.Slots.{PushesText, byte_slots}
 use Rattle.cmark_references.specs.declared.link.Link.{Link}
@@ -33,7 +33,7 @@ use Rattle.cmark_inline.specs.declared.step.Cursor.{Cursor}
 abbrev pub whole : (is_cell : Bool) → (text : List ℕ) → Leaf
 whole is_cell text = record { stretches = record { start = 0; end = length text } ∷ []; is_cell = is_cell }
 
--- what it is read with
+-- a reader of this text, without definitions, footnotes and a callback
 abbrev pub reading : Options → Lookup → (text : List ℕ) → Reader
 reading options lookup text = record {
   source = text;
@@ -44,23 +44,24 @@ reading options lookup text = record {
   has_callback = false;
 }
 
--- what begins at a place, where each byte that stands for itself is an item
+-- the token at the offset `at`, if each literal byte is an item of its own
 abbrev pub begins_at : Options → Lookup → (is_cell : Bool) → (text : List ℕ) → (at : ℕ) → Token
 begins_at options lookup is_cell text at = tokens.begins_at (reading options lookup text) (whole is_cell text) at
 
--- where the text is read on behind a break and behind inline HTML
+-- the offset at which reading continues after a break, or after inline HTML, that ends at `at`
 abbrev pub read_on : (text : List ℕ) → (at : ℕ) → ℕ
 read_on text at = tokens.read_on (reading no_options (λ name. None) text) (whole false text) at
 
--- the URI of an autolink from its `<` to behind its `>`, and what is behind it
+-- the address of an autolink whose `<` is at `at` and which ends at `end`, with the bytes after it
 abbrev pub shown_autolink : (text : List ℕ) → (at end : ℕ) → Parsed
-shown_autolink text at end = record { bytes = slice text (at + 1) (end - 1); behind = drop end text }
+shown_autolink text at end = record { bytes = slice text (at + 1) (end - 1); following = drop end text }
 
--- behind a `<` a comment, a declaration, a CDATA section or a processing instruction may open: these are sought in the source
+-- whether the bytes after a `<` may open a comment, a declaration, a CDATA section or a processing instruction. These are read in the
+-- source
 abbrev pub opens_markup : (rest : List ℕ) → Bool
 opens_markup rest = first_is (λ b. (b == 33) || (b == 63)) rest
 
--- a slot of these bytes stands for an item of this kind, where the state owns these texts
+-- a slot from `start` to `end` represents an item of this kind, if `texts` are the owned texts
 abbrev pub Says : (is_cell : Bool) → (text : List ℕ) → (texts : List CowStr) → (start end : ℕ) → ItemKind → SlotKind → Type 0
 Says is_cell text texts start end Plain kind.Text = Unit {0}
 Says is_cell text texts start end Own kind.Text = Unit {0}
@@ -80,13 +81,13 @@ pub record IsItem (is_cell : Bool) (text : List ℕ) (texts : List CowStr) (item
   pub end : slot.end ≡ item.end
   pub says : Says is_cell text texts slot.start slot.end item.kind slot.kind
 
--- a text up to a place, unless it is empty, and then a slot were appended
+-- the text from `start` to `text_end`, unless it is empty, and then `slot` were appended
 pub record Puts (start text_end : ℕ) (slot : Slot) (old new : List Slot) : Type 0 where
   pub before : List Slot
   pub text : PushesText start text_end old before
   pub slot_is : new ≡ before ++ (slot ∷ [])
 
--- a text up to a place, unless it is empty, and then the link of this index around its text, which is all but the brackets
+-- the text from `start` to `at`, unless it is empty, and then the autolink with this index were appended. Its text has no angle brackets
 pub record PutsAutolink (index start at end : ℕ) (old new : List Slot) : Type 0 where
   pub before : List Slot
   pub text : PushesText start at old before
@@ -95,17 +96,17 @@ pub record PutsAutolink (index start at end : ℕ) (old new : List Slot) : Type 
       ++ (record { kind = kind.Text; start = at + 1; end = end - 1 } ∷ []))
       ++ (record { kind = kind.End; start = end - 1; end = end } ∷ [])
 
--- nothing was appended: from the place that was reached to the next one the bytes are one item that stands for itself
+-- nothing was appended: the bytes from the cursor to the next one are one literal item
 pub record Passes (options : Options) (lookup : Lookup) (is_cell : Bool) (text : List ℕ) (here : Cursor) (old new : InlineState) (next : Cursor) : Type 0 where
   pub token : begins_at options lookup is_cell text here.at ≡ item_at Plain here.at next.at
   pub pending : next.pending ≡ here.pending
   pub same : new ≡ old
 
--- pipes, and the braces of the contexts of formulas, which stand for themselves
+-- pipes, and the braces that delimit the contexts of formulas. They are literal
 abbrev pub is_other : ℕ → Bool
 is_other b = (b == 124) || ((b == 123) || (b == 125))
 
--- nothing was appended: from the place that was reached to the next one each byte is an item that stands for itself
+-- nothing was appended: each byte from the cursor to the next one is a literal item
 pub record PassesOver (options : Options) (lookup : Lookup) (is_cell : Bool) (text : List ℕ) (here : Cursor) (old new : InlineState) (next : Cursor) : Type 0 where
   pub further : here.at < next.at
   pub plain : (k : ℕ) → here.at ≤ k → k < next.at → begins_at options lookup is_cell text k ≡ item_at Plain k (k + 1)
@@ -113,21 +114,22 @@ pub record PassesOver (options : Options) (lookup : Lookup) (is_cell : Bool) (te
   pub pending : next.pending ≡ here.pending
   pub same : new ≡ old
 
--- The item begins at the byte that was reached, which ends no line and opens no markup that is sought in the source; a run of backticks
--- behind one that is pending opens a code span. Or it begins at the blanks in front of a line ending, of those that are pending the first
+-- the item begins at the byte at the cursor, or at the first of the pending blanks before it. In the first case, the byte ends no line and
+-- opens no markup that is read in the source. A run of backticks directly after a pending one then opens a code span. In the second case,
+-- the byte at the cursor ends a line
 abbrev pub BeginsThere : (text : List ℕ) → (here : Cursor) → (from : ℕ) → Type 0
 BeginsThere text here from =
     ((from ≡ here.at) × (is_content (slice_index text here.at) ≡ true) × (slice_index text here.at ≡ 60 → opens_markup (drop (here.at + 1) text) ≡ false)
     × (slice_index text here.at ≡ 96 → here.pending + 1 ≡ here.at → slice_index text here.pending ≡ 96 → is_some (code_in (drop here.at text)) ≡ true))
     ⊎ ((is_content (slice_index text here.at) ≡ false) × (here.pending < from → is_blank_byte (slice_index text (from - 1)) ≡ false))
 
--- the text that was pending, and then a slot for the item that begins at the place that was reached, or at the blanks before it; it is
--- no text that goes on with what it touches
+-- the pending text was appended, and then a slot for the item that begins at the cursor, or at the blanks before it. The item is no literal
+-- text, which would be joined with its neighbours
 pub record Appends (options : Options) (lookup : Lookup) (is_cell : Bool) (text : List ℕ) (here : Cursor) (old new : InlineState) (next : Cursor) : Type 0 where
   pub from : ℕ
   pub item : Item
   pub slot : Slot
-  pub behind : here.pending ≤ from
+  pub following : here.pending ≤ from
   pub before : from ≤ here.at
   pub blanks : (k : ℕ) → from ≤ k → k < here.at → is_blank_byte (slice_index text k) ≡ true
   pub there : BeginsThere text here from
@@ -140,7 +142,7 @@ pub record Appends (options : Options) (lookup : Lookup) (is_cell : Bool) (text 
   pub is : IsItem is_cell text new.texts.items item slot
   pub others : new ≡ record old { slots = new.slots; texts = new.texts }
 
--- the text that was pending, and then three slots for the autolink that begins at the place that was reached
+-- the pending text was appended, and then three slots for the autolink that begins at the cursor
 pub record AppendsAutolink (options : Options) (lookup : Lookup) (is_cell : Bool) (text : List ℕ) (here : Cursor) (old new : InlineState) (next : Cursor) : Type 0 where
   pub token : begins_at options lookup is_cell text here.at ≡ item_at (Autolink (slice text (here.at + 1) (next.at - 1))) here.at next.at
   pub pending : next.pending ≡ next.at
@@ -150,8 +152,8 @@ pub record AppendsAutolink (options : Options) (lookup : Lookup) (is_cell : Bool
   pub links : new.links.items ≡ old.links.items ++ (parts ∷ [])
   pub others : new ≡ record old { slots = new.slots; links = new.links }
 
--- the text that was pending; behind the backslash at the place that was reached a text begins with the byte that it escapes. A run
--- of backticks is not settled there yet: its first one stands for itself where the rest of it opens a code span
+-- the pending text was appended, and a text begins with the byte after the backslash at the cursor. If this byte is the first of several
+-- backticks, the token depends on the others. The first one is literal if they open a code span
 pub record Escapes (options : Options) (lookup : Lookup) (is_cell : Bool) (text : List ℕ) (here : Cursor) (old new : InlineState) (next : Cursor) : Type 0 where
   pub byte : slice_index text here.at ≡ 92
   pub escaped : first_is is_punctuation (drop (here.at + 1) text) ≡ true
@@ -164,8 +166,8 @@ pub record Escapes (options : Options) (lookup : Lookup) (is_cell : Bool) (text 
   pub slots : PushesText here.pending here.at old.slots.items new.slots.items
   pub others : new ≡ record old { slots = new.slots }
 
--- in the cell of a table: the text that was pending; behind the backslash at the place that was reached stand another one and a pipe,
--- with which a text begins
+-- in a table's cell, the pending text was appended. Another backslash and a pipe follow the backslash at the cursor, and a text begins with
+-- the pipe
 pub record EscapesPipe (options : Options) (lookup : Lookup) (is_cell : Bool) (text : List ℕ) (here : Cursor) (old new : InlineState) (next : Cursor) : Type 0 where
   pub cell : is_cell ≡ true
   pub pipe : starts piped (drop (here.at + 1) text) ≡ true
@@ -175,7 +177,7 @@ pub record EscapesPipe (options : Options) (lookup : Lookup) (is_cell : Bool) (t
   pub slots : PushesText here.pending here.at old.slots.items new.slots.items
   pub others : new ≡ record old { slots = new.slots }
 
--- the run of backticks that was reached is a text together with the escaped backtick before it
+-- the run of backticks at the cursor is a text together with the escaped backtick before it
 pub record TakesEscaped (options : Options) (lookup : Lookup) (is_cell : Bool) (text : List ℕ) (here : Cursor) (old new : InlineState) (next : Cursor) : Type 0 where
   pub escaped : (here.pending + 1 ≡ here.at) × (slice_index text here.pending ≡ 96)
   pub token : begins_at options lookup is_cell text here.at ≡ item_at Own here.at next.at
@@ -183,9 +185,9 @@ pub record TakesEscaped (options : Options) (lookup : Lookup) (is_cell : Bool) (
   pub slots : new.slots.items ≡ old.slots.items ++ (record { kind = kind.Text; start = here.pending; end = next.at } ∷ [])
   pub others : new ≡ record old { slots = new.slots }
 
--- ## Quotes and delimiter runs, which are settled among their siblings
+-- ## Quotes and delimiter runs, which are resolved among their siblings
 
--- the text that was pending, and then a slot for the quote that begins at the place that was reached
+-- the pending text was appended, and then a slot for the quote at the cursor
 pub record AppendsQuote (options : Options) (lookup : Lookup) (is_cell : Bool) (text : List ℕ) (here : Cursor) (old new : InlineState) (next : Cursor) : Type 0 where
   pub quote : Quote
   pub token : begins_at options lookup is_cell text here.at ≡ item_at (Quoted (shown_quote quote)) here.at next.at
@@ -197,7 +199,7 @@ pub record AppendsQuote (options : Options) (lookup : Lookup) (is_cell : Bool) (
   pub placed : new.quotes.placed.items ≡ old.quotes.placed.items ++ (record { slot = length before; quote = quote } ∷ [])
   pub others : new ≡ record old { slots = new.slots; quotes = new.quotes }
 
--- the text that was pending, and then a slot for each byte of the delimiter run that begins at the place that was reached
+-- the pending text was appended, and then a slot for each byte of the delimiter run at the cursor
 pub record AppendsRun (options : Options) (lookup : Lookup) (is_cell : Bool) (text : List ℕ) (here : Cursor) (old new : InlineState) (next : Cursor) : Type 0 where
   pub run : Run
   pub token : begins_at options lookup is_cell text here.at ≡ item_at (Delimiters (shown_run run)) here.at next.at
@@ -213,8 +215,8 @@ pub record AppendsRun (options : Options) (lookup : Lookup) (is_cell : Bool) (te
 
 -- ## Opening brackets
 
--- a text up to a place, unless it is empty, and then a slot for an opening bracket, which knows its slot and how many runs and
--- quotes stand before it
+-- the text from `start` to `at`, unless it is empty, and then a slot for an opening bracket were appended. The bracket knows its slot and
+-- the numbers of runs and quotes before it
 pub record PutsBracket (is_image : Bool) (start at inside : ℕ) (old new : InlineState) : Type 0 where
   pub before : List Slot
   pub text : PushesText start at old.slots.items before

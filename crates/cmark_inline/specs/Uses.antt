@@ -1,4 +1,4 @@
--- How uses of footnotes are counted (this profile's own).
+-- The counts of uses of footnotes (this profile's own).
 use Rattle.std.specs.Prelude.{◌≡◌, ◌≤◌, ℕ, zero, suc, ◌+◌, ◌-◌, List, take, bytes_eq, if◌then◌else◌, option_map}
 use Rattle.cmark_grammar.specs.BracketStates.{Result, StaysText, Forms}
 use Rattle.cmark_grammar.specs.Labels.{case_folded}
@@ -10,7 +10,7 @@ use Rattle.cmark_inline.specs.Asking.{closing_brackets}
 
 -- ## The references that are formed
 
--- the number of references with this folded label; the label of a reference is in normal form
+-- the number of footnote references with this folded label. The label of a reference is in normal form
 abbrev pub uses_in : (folded : List ℕ) → Formed → ℕ
 uses_in folded (Footnote label end) = if bytes_eq folded (case_folded label) then 1 else 0
 uses_in folded (Linking target) = 0
@@ -42,6 +42,6 @@ RiseBy uses old new = (folded : List ℕ) → footnote new folded ≡ option_map
 abbrev pub RiseUpTo : (most : ℕ) → (old new : FootnoteDefs) → Type 0
 RiseUpTo most old new = (folded : List ℕ) → (uses : ℕ) × (uses ≤ most) × (footnote new folded ≡ option_map (with_uses uses) (footnote old folded))
 
--- by at most one for each closing bracket between two places of a text
+-- the use counts have risen by at most one for each closing bracket between the offsets `from` and `to` of a text
 abbrev pub RiseBetween : (text : List ℕ) → (from to : ℕ) → (old new : FootnoteDefs) → Type 0
 RiseBetween text from to old new = RiseUpTo (closing_brackets (take to text) - closing_brackets (take from text)) old new

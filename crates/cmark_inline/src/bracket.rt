@@ -1,8 +1,8 @@
-//! Where an opening bracket begins (CommonMark 6.3 and 6.4).
+//! Opening brackets (CommonMark 6.3 and 6.4).
 
 ghost use Rattle.std.specs.Prelude.{◌≡◌, true, OnOk, ◌⊎◌, Bool, slice_index, IfOk, ◌+◌};
 ghost use Rattle.cmark_slots.specs.Doubled.{doubles};
-ghost use Rattle.cmark_text_parts.specs.Shown.{shown_options};
+ghost use Rattle.cmark_values.specs.Shown.{shown_options};
 ghost use Rattle.cmark_inline.specs.ReadsOn.{ReadsOn};
 ghost use Rattle.cmark_inline.specs.Stands.{IsAtByte, IsCursor, Stands};
 ghost use Rattle.cmark_grammar.specs.Answers.{Lookup};
@@ -12,7 +12,7 @@ ghost use Rattle.std.specs.Str.{IsCharBoundary};
 ghost use Rattle.cmark_leaf_text.specs.Reads.{IsPart};
 ghost use Rattle.cmark_inline.specs.Closers.{OpensAs};
 
-use crate::place::{behind, is_followed_by, pass};
+use crate::place::{following, is_followed_by, pass};
 use crate::state::InlineState;
 use crate::step::Cursor;
 use cmark_slots::bracket::Bracket;
@@ -21,7 +21,7 @@ use cmark_text::Options;
 use std::alloc::AllocError;
 
 impl<'a> InlineState<'a> {
-    // `!`: with a bracket behind it the begin of an image.
+    // Reads `!`: with a bracket after it, it opens an image; otherwise it is text.
     #[tactic(auto, using(std::proofs::lemmas::Str::lead_after_ascii))]
     pub(crate) fn exclamation(
         &mut self,
@@ -34,13 +34,14 @@ impl<'a> InlineState<'a> {
         ensures token { (lookup : Lookup) (is_cell : Bool) → slice_index text.now here.at ≡ 33 → IfOk result (λ next. Passes (shown_options options) lookup is_cell text.now here self.old self.new next ⊎ OpensBracket (shown_options options) lookup is_cell text.now here self.old self.new next) }
     {
         if is_followed_by(text, here.at, b'[') {
-            let inside = behind(text, behind(text, here.at));
+            let inside = following(text, following(text, here.at));
             return self.open_bracket(options, text, here, inside, true);
         }
         Ok(pass(text, here))
     }
 
-    // A bracket that may open a link or an image.
+    // Appends an opening bracket, which ends at the offset `inside` and may open a link or an image. If wikilinks are read, two brackets that
+    // touch may also open a wikilink.
     #[inline(always)]
     pub(crate) fn open_bracket(
         &mut self,

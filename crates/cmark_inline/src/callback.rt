@@ -1,21 +1,22 @@
-//! What is asked of the caller for references without a definition.
+//! Callbacks for references without a definition.
 
 ghost use Rattle.std.specs.Prelude.{◌≡◌, ⊤, ℕ, List, IfOk, Option, None};
 ghost use Rattle.std.specs.DynBox.{dyn_box_with};
-ghost use Rattle.cmark_text_parts.specs.Shown.{text_bytes};
+ghost use Rattle.cmark_values.specs.Shown.{text_bytes};
 ghost use Rattle.cmark_inline.specs.Linked.{IsQuestion};
-ghost use Rattle.cmark_text_parts.specs.declared.kind.LinkType.{LinkType as Kind};
-ghost use Rattle.cmark_text_parts.specs.declared.text.CowStr.{CowStr};
+ghost use Rattle.cmark_values.specs.declared.kind.LinkType.{LinkType as Kind};
+ghost use Rattle.cmark_values.specs.declared.text.CowStr.{CowStr};
 ghost use Rattle.cmark_inline.specs.declared.callback.BrokenLink.{BrokenLink as Question};
 
 use cmark_text::{CowStr, LinkType};
 use std::alloc::{AllocError, Global};
 use std::ops::Range;
 
-/// A reference without a definition.
+/// A reference whose label has no definition.
 #[derive(Debug, Drop)]
 pub struct BrokenLink<'a> {
-    /// Its bytes in the source: from its opening bracket to behind the label, without a following `[]`.
+    /// Its byte range in the source. It begins with the opening bracket, or with the `!` of an image. It ends after the label's closing
+    /// bracket, and does not include a `[]` after that.
     pub span: Range<usize>,
     /// How it is written: `Reference`, `Collapsed` or `Shortcut`.
     pub link_type: LinkType,
@@ -24,7 +25,7 @@ pub struct BrokenLink<'a> {
 }
 
 impl<'a> BrokenLink<'a> {
-    /// The same in a value that borrows nothing.
+    /// Copies the borrowed text, so that the value borrows nothing. Fails only if memory is refused.
     pub fn into_static(self, alloc: Global) -> Result<BrokenLink<'static>, AllocError>
         ensures { IfOk result (λ made. IsQuestion self.entry.link_type (text_bytes self.entry.reference) self.entry.span.start self.entry.span.end made) }
     {
@@ -42,14 +43,15 @@ impl<'a> BrokenLink<'a> {
     }
 }
 
-/// What the caller says of references without a definition.
+/// A callback that says where references without a definition lead.
 pub trait BrokenLinkCallback<'input> {
     // Holds of the callbacks that may be asked.
     ghost ready: { Self → Type 0 } = { λ _. ⊤ };
 
+    // Relates the callback before a call, the question, the answer, and the callback after the call.
     ghost answers: { Self → Question → Option (CowStr × CowStr) → Self → Type 0 };
 
-    /// Where such a reference leads and its title; `None` where it is no link.
+    /// The destination and the title of the reference `link`; `None` if it is no link.
     fn handle_broken_link(
         &mut self,
         link: BrokenLink<'input>,
@@ -59,7 +61,7 @@ pub trait BrokenLinkCallback<'input> {
         ensures answers { answers self.old link.entry result self.new };
 }
 
-/// A closure, which may be called whatever it is asked. Each question is one call of it.
+/// A callback that calls a closure once for each question. The closure must be callable with every question.
 ///
 /// ```text
 /// let pages = FnCallback::new(|link| match link.reference.as_str() {
@@ -71,7 +73,7 @@ pub trait BrokenLinkCallback<'input> {
 pub struct FnCallback<F>(pub F);
 
 impl<F> FnCallback<F> {
-    /// A callback that asks this closure. The types of its parameter and its result need not be written.
+    /// A callback that calls `closure`. The types of the closure's parameter and result can be left out.
     pub fn new<'input>(closure: F) -> FnCallback<F>
     where
         F: FnMut(BrokenLink<'input>) -> Option<(CowStr<'input>, CowStr<'input>)>,
@@ -97,7 +99,7 @@ impl<
     }
 }
 
-/// No such reference is a link.
+/// The callback for which no reference without a definition is a link.
 #[derive(Clone, Copy, Debug, Drop)]
 pub struct DefaultBrokenLinkCallback;
 
@@ -112,12 +114,12 @@ impl<'input> BrokenLinkCallback<'input> for DefaultBrokenLinkCallback {
     }
 }
 
-/// A callback that borrows nothing, so that a box of it is one for every source.
+/// A callback that borrows nothing. A box of it is a callback for every source.
 pub trait OwnedLinkCallback: Drop {
     ghost says: { Self → ℕ → ℕ → Kind → List ℕ → Option (CowStr × CowStr) → Self → Type 0 };
 
-    /// Where a reference without a definition leads and its title; `None` where it is no link. `start` and `end` are the ends of
-    /// its span, byte offsets of the source, and `reference` is the normal form of its label.
+    /// The destination and the title of a reference without a definition; `None` if it is no link. The reference is at the byte offsets
+    /// from `start` to `end` of the source. `reference` is the normal form of its label.
     fn handle_owned(
         &mut self,
         start: usize,
@@ -129,11 +131,11 @@ pub trait OwnedLinkCallback: Drop {
 }
 
 impl<'input> BrokenLinkCallback<'input> for Box<dyn OwnedLinkCallback> {
-    // What the callback in the box says, which stays in the box as the call leaves it.
+    // The answer is the one of the callback in the box, and the box holds this callback as the call leaves it.
     ghost answers = { λ before link answer after. (value : _) × (OwnedLinkCallback-box before).says before.value link.span.start link.span.end link.link_type (text_bytes link.reference) answer value
         × (after ≡ dyn_box_with before before.vtable value) };
 
-    /// Hands on both ends of the span, the type and the text of the label, and answers what it is answered.
+    /// Passes both ends of the span, the type and the label's text to the callback in the box, and returns its answer.
     fn handle_broken_link(
         &mut self,
         link: BrokenLink<'input>,

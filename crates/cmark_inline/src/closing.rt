@@ -2,10 +2,10 @@
 
 ghost use Rattle.std.specs.Prelude.{◌≡◌, ◌<◌, length, IfOk, OnErr, OnOk, false, ◌+◌, ◌*◌, ◌^◌, IfSome, None, Bool, ℕ, List, ◌++◌, ◌∷◌, [], ◌≤◌, drop, take};
 ghost use Rattle.cmark_leaf_text.specs.Reads.{IsRead, text_of, IsPart};
-ghost use Rattle.cmark_text_parts.specs.Shown.{shown_options};
+ghost use Rattle.cmark_values.specs.Shown.{shown_options};
 ghost use Rattle.cmark_emphasis.specs.Least.{least_examined};
 ghost use Rattle.cmark_inline.specs.Asking.{AsksOnce};
-ghost use Rattle.cmark_inline.specs.Closers.{AsksOfCloser, AsksOfLink, Closes, DeactivatesBehind, LinksTaken, LeavesElement};
+ghost use Rattle.cmark_inline.specs.Closers.{AsksOfCloser, AsksOfLink, Closes, DeactivatesAfter, LinksTaken, LeavesElement};
 ghost use Rattle.cmark_inline.specs.Footnoted.{SameFootnotes};
 ghost use Rattle.cmark_inline.specs.Uses.{RiseUpTo};
 ghost use Rattle.cmark_slots.specs.Standing.{AreEnded, CanSettle, IsSettled};
@@ -18,9 +18,9 @@ ghost use Rattle.cmark_grammar.specs.OpenBrackets.{nearest, used_up};
 ghost use Rattle.cmark_inline.specs.BracketViews.{StandFor, TakenAs};
 ghost use Rattle.cmark_slots.specs.declared.bracket.Bracket.{Bracket as Opening};
 ghost use Rattle.cmark_inline.specs.Decided.{AsksOfTarget, EndsWithin, TargetDecides};
-ghost use Rattle.cmark_inline.specs.FormedSlots.{WritesElement, dressed_behind, end_slot};
+ghost use Rattle.cmark_inline.specs.FormedSlots.{WritesElement, dressed_after, end_slot};
 ghost use Rattle.cmark_grammar.specs.Spans.{Spans};
-ghost use Rattle.cmark_text_parts.specs.declared.text.CowStr.{CowStr as Texts};
+ghost use Rattle.cmark_values.specs.declared.text.CowStr.{CowStr as Texts};
 ghost use Rattle.cmark_grammar.specs.Emphasis.{IsEmphasis, Pair, runs_of};
 ghost use Rattle.cmark_slots.specs.MarkedSlots.{siblings_from};
 ghost use Rattle.cmark_slots.specs.SlotViews.{shown_slots};
@@ -28,7 +28,7 @@ ghost use Rattle.cmark_references.specs.declared.link.Link.{Link as Links};
 
 use crate::callback::BrokenLinkCallback;
 use crate::link::{Target, inline_target};
-use crate::place::behind;
+use crate::place::following;
 use crate::read::Reader;
 use crate::reference::link_reference_at;
 use crate::state::InlineState;
@@ -42,6 +42,8 @@ use cmark_text::{EntityLookup, Options};
 use std::alloc::AllocError;
 
 impl<'a> InlineState<'a> {
+    // Reads a closing bracket. It ends a wikilink, a footnote reference, or a link or an image, in this order of preference; otherwise it
+    // is text. The nearest opening bracket is used up in each case.
     #[tactic(auto, using(std::proofs::lemmas::Str::lead_after_ascii))]
     pub(crate) fn close_bracket<E: EntityLookup, F: BrokenLinkCallback<'a>>(
         &mut self,
@@ -71,7 +73,7 @@ impl<'a> InlineState<'a> {
         ensures stops { OnErr result (AsksOfCloser F.answers (shown_options reader.now.options) (E.replacement reader.now.entities.now) reader.now.references.now footnotes.old leaf.now text.now here.at self.old callback.old callback.new) }
     {
         self.flush(text, here, here.at)?;
-        let behind_it = behind(text, here.at);
+        let following_it = following(text, here.at);
         let taken = self.take_bracket(text, here.at);
         if let Some(next) = self.wikilink(leaf, reader.options, text, here.at)? {
             return Ok(next);
@@ -85,7 +87,7 @@ impl<'a> InlineState<'a> {
         let slot = Slot {
             kind: SlotKind::Text,
             start: here.at,
-            end: behind_it,
+            end: following_it,
         };
         let flushed = Cursor {
             pending: here.at,
@@ -94,7 +96,8 @@ impl<'a> InlineState<'a> {
         self.put(text, flushed, here.at, slot)
     }
 
-    // The link or the image that the bracket forms which was taken, if one was; `None` where it forms none.
+    // Forms the link or the image of the opening bracket `taken` and the closing bracket at `close`, and returns the cursor after it.
+    // Returns `None` if no bracket was taken, or if the brackets form neither.
     fn link<E: EntityLookup, F: BrokenLinkCallback<'a>>(
         &mut self,
         leaf: &LeafText<'a>,
@@ -138,7 +141,7 @@ impl<'a> InlineState<'a> {
         }))
     }
 
-    // The nearest opening bracket, which is used up, if it can form a link or an image.
+    // Uses up the nearest opening bracket. Returns it if it can form a link or an image.
     fn take_bracket(&mut self, text: &str, at: usize) -> Option<Bracket>
         requires stands { Stands text.now at self.old }
         requires sound { IsSound self.old }
@@ -155,6 +158,8 @@ impl<'a> InlineState<'a> {
         if forms { Some(bracket) } else { None }
     }
 
+    // The target of the link or the image between `bracket` and the closing bracket at `close`. It is the target of an inline link, or else
+    // of a reference. Returns `None` if there is neither. A reference has no target if nothing is left of the reference expansion limit.
     fn target<E: EntityLookup, F: BrokenLinkCallback<'a>>(
         &mut self,
         leaf: &LeafText<'a>,
@@ -199,6 +204,7 @@ impl<'a> InlineState<'a> {
         Ok(found)
     }
 
+    // Forms the link or the image of `bracket` with this target. After a link, no earlier bracket forms one (CommonMark 6.3).
     fn form(
         &mut self,
         options: Options,
@@ -227,17 +233,17 @@ impl<'a> InlineState<'a> {
         let Target { link, end, .. } = target;
         let element = linked_element(bracket.is_image, self.links.len());
         self.links.push(link)?;
-        self.doubled.drop_behind(bracket.start);
+        self.doubled.drop_after(bracket.start);
         begin(&mut self.slots, bracket.slot, element, end);
         self.finish(options, bracket, close, end)?;
-        self.deactivate_behind(bracket.is_image);
+        self.deactivate_after(bracket.is_image);
         Ok(())
     }
 
-    // Behind a link no bracket before it forms another one; behind an image they do.
-    fn deactivate_behind(&mut self, is_image: bool)
-        ensures brackets { DeactivatesBehind is_image self.old.brackets self.new.brackets }
-        ensures doubled { DeactivatesBehind is_image self.old.doubled self.new.doubled }
+    // After a link, no bracket before it forms another link. An image changes nothing.
+    fn deactivate_after(&mut self, is_image: bool)
+        ensures brackets { DeactivatesAfter is_image self.old.brackets self.new.brackets }
+        ensures doubled { DeactivatesAfter is_image self.old.doubled self.new.doubled }
         ensures others { self.new ≡ record self.old { brackets = self.new.brackets; doubled = self.new.doubled } }
     {
         if !is_image {
@@ -246,7 +252,7 @@ impl<'a> InlineState<'a> {
         }
     }
 
-    // Ends the link or the image that a bracket began, and resolves the quotes and the delimiter runs in it.
+    // Ends the element of `bracket` by a slot from `close` to `end`, and resolves the quotes and the delimiter runs in it.
     pub(crate) fn finish(
         &mut self,
         options: Options,
@@ -277,7 +283,7 @@ impl<'a> InlineState<'a> {
         ensures links { OnOk result (NoNewLink self.old.slots.items self.new.slots.items) }
         ensures runs { OnOk result (bytes_of self.new.delimiters.placed.items ≤ bytes_of self.old.delimiters.placed.items) }
         ensures dressed { OnOk result ((leaf : LeafTexts) (texts : List Texts) (links : List Links) (pairs : List Pair) (spans : Spans) → IsEmphasis (siblings_from 0 (drop bracket.runs self.old.delimiters.placed.items)) pairs spans
-            → shown_slots leaf texts links self.new.slots.items ≡ dressed_behind (shown_options options) bracket pairs self.old.delimiters.placed.items self.old.quotes.placed.items (shown_slots leaf texts links (self.old.slots.items ++ (end_slot close end ∷ [])))) }
+            → shown_slots leaf texts links self.new.slots.items ≡ dressed_after (shown_options options) bracket pairs self.old.delimiters.placed.items self.old.quotes.placed.items (shown_slots leaf texts links (self.old.slots.items ++ (end_slot close end ∷ [])))) }
     {
         push_slot(&mut self.slots, SlotKind::End, close, end)?;
         self.quotes.resolve(bracket.quotes, &mut self.slots)?;

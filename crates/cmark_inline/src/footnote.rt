@@ -2,16 +2,16 @@
 
 ghost use Rattle.std.specs.Prelude.{◌≡◌, false, ◌<◌, ◌≤◌, ◌+◌, ◌++◌, ◌∷◌, ℕ, List, [], drop, length, is_some, IfOk, OnErr, OnOk, IfSome, None, Some, option_copied, option_map};
 ghost use Rattle.std.specs.Str.{IsCharBoundary};
-ghost use Rattle.cmark_links.specs.Shown.{shown_label};
+ghost use Rattle.cmark_link_scan.specs.Shown.{shown_label};
 ghost use Rattle.cmark_grammar.specs.BracketDecisions.{is_there};
 ghost use Rattle.cmark_grammar.specs.Labels.{fold, normal_form};
 ghost use Rattle.cmark_grammar.specs.LinkTails.{reference_label_in};
 ghost use Rattle.cmark_grammar.specs.Tokens.{slice};
 ghost use Rattle.cmark_references.specs.Footnotes.{Counts, Keeps};
 ghost use Rattle.cmark_leaf_text.specs.Reads.{IsPart, is_cell_of};
-ghost use Rattle.cmark_text_parts.specs.Shown.{shown_options, text_bytes};
+ghost use Rattle.cmark_values.specs.Shown.{shown_options, text_bytes};
 ghost use Rattle.cmark_inline.specs.Closers.{LeavesFootnote};
-ghost use Rattle.cmark_inline.specs.Footnoted.{CountsOf, KeepsLabel, PutsReference, SameFootnotes, fits_footnote, footnote_behind, footnote_label, footnote_of, forms_footnote, is_accepted, is_footnote_label, reference_as, reference_slot, reference_start, unless_footnote, with_mark};
+ghost use Rattle.cmark_inline.specs.Footnoted.{CountsOf, KeepsLabel, PutsReference, SameFootnotes, fits_footnote, footnote_after, footnote_label, footnote_of, forms_footnote, is_accepted, is_footnote_label, reference_as, reference_slot, reference_start, unless_footnote, with_mark};
 ghost use Rattle.cmark_inline.specs.Hiding.{WritesReference};
 ghost use Rattle.cmark_inline.specs.Uses.{RiseUpTo};
 ghost use Rattle.cmark_slots.specs.Standing.{AreEnded};
@@ -24,21 +24,22 @@ use crate::reference::label_text;
 use crate::state::InlineState;
 use crate::step::Cursor;
 use bitflags::Flags;
-use cmark_finds::has_line_ending;
 use cmark_leaf_text::LeafText;
-use cmark_links::{ReferenceLabel, behind_byte, is_bracketed_label, link_tail, reference_label};
+use cmark_link_scan::{ReferenceLabel, after_byte, is_bracketed_label, link_tail, reference_label};
 use cmark_references::FootnoteDefs;
 use cmark_slots::bracket::Bracket;
 use cmark_slots::slot::{Slot, SlotKind, hide, put_slot, replace_slot};
+use cmark_span_scan::has_line_ending;
 use cmark_text::{CowStr, FootnoteLabel, Options};
 use std::alloc::{AllocError, Global};
 
-/// The label of a footnote without its `^`, if what stands between two brackets is one. It is on one line but for old footnotes.
+/// The label of a footnote without its `^`, if `between`, the text between two brackets, is one. The label is on one line, unless old
+/// footnotes are read. Returns `None` without the option for footnotes.
 pub fn footnote_label(options: Options, between: &str) -> Option<&str>
     ensures value { option_copied result ≡ footnote_label (shown_options options) between.entry.now }
 {
     if options.contains(Options::ENABLE_FOOTNOTES) {
-        let label = behind_byte(b'^', between)?;
+        let label = after_byte(b'^', between)?;
         if fits_footnote(options, label) {
             return Some(label);
         }
@@ -46,7 +47,7 @@ pub fn footnote_label(options: Options, between: &str) -> Option<&str>
     None
 }
 
-/// Whether a footnote may have this label: it has no bracket but escaped ones, and is on one line but for old footnotes.
+/// Whether a footnote may have this label. It may if it can be a link label, and is on one line unless old footnotes are read.
 fn fits_footnote(options: Options, label: &str) -> bool
     ensures { result ≡ fits_footnote (shown_options options) label.now }
 {
@@ -54,14 +55,14 @@ fn fits_footnote(options: Options, label: &str) -> bool
         && (options.contains(Options::ENABLE_OLD_FOOTNOTES) || !has_line_ending(label))
 }
 
-/// Whether what stands between two brackets is the label of a footnote.
+/// Whether `between`, the text between two brackets, is the label of a footnote.
 pub fn is_footnote_label(options: Options, between: &str) -> bool
     ensures { result ≡ is_footnote_label (shown_options options) between.now }
 {
     footnote_label(options, between).is_some()
 }
 
-/// The label of a full reference at this place of the text, which stands right behind a closing bracket; one of a footnote is none.
+/// The label of a full reference, if it begins at the offset `at`, directly after a closing bracket. A footnote's label is not one.
 pub fn full_label(options: Options, text: &str, at: usize) -> Option<ReferenceLabel<'_>>
     requires { IsCharBoundary text.now at }
     ensures value { option_map (shown_label text.entry.now) result ≡ unless_footnote (shown_options options) (reference_label_in (drop at text.entry.now)) }
@@ -75,8 +76,8 @@ pub fn full_label(options: Options, text: &str, at: usize) -> Option<ReferenceLa
     Some(label)
 }
 
-/// The label of the footnote reference whose bracket closes at `close`. `None` where a destination in parentheses or the label of a
-/// link follows, and where the bracket closes the label of a full reference.
+/// The label of the footnote reference between `bracket` and `close`. Returns `None` if a destination in parentheses or the label of a full
+/// reference follows. Also returns `None` if the bracket at `close` ends the label of an earlier full reference.
 fn footnote_at<'t>(
     options: Options,
     text: &'t str,
@@ -86,7 +87,7 @@ fn footnote_at<'t>(
 ) -> Option<&'t str>
     requires bracket { IsBracket text.now close bracket }
     requires close { IsPart text.now close (close + 1) }
-    ensures value { option_copied result ≡ footnote_behind (shown_options options) closes_label (slice text.entry.now bracket.inside close) (drop (close + 1) text.entry.now) }
+    ensures value { option_copied result ≡ footnote_after (shown_options options) closes_label (slice text.entry.now bracket.inside close) (drop (close + 1) text.entry.now) }
 {
     let label = footnote_label(options, &text[bracket.inside..close])?;
     if closes_label
@@ -98,7 +99,8 @@ fn footnote_at<'t>(
     Some(label)
 }
 
-/// Counts a use of the footnote of a label, and says whether the label forms a reference: it needs a footnote but for old ones.
+/// Counts a use of the footnote with this label, and returns whether the label forms a reference. It does if a footnote has the label, or
+/// if old footnotes are read. If memory is refused, no count changes.
 fn count(options: Options, footnotes: &mut FootnoteDefs, label: &str) -> Result<bool, AllocError>
     ensures value { IfOk result (λ accepted. accepted ≡ is_accepted (shown_options options) footnotes.old label.now) }
     ensures counts { OnOk result (Counts (fold label.now) footnotes.old footnotes.new) }
@@ -109,7 +111,7 @@ fn count(options: Options, footnotes: &mut FootnoteDefs, label: &str) -> Result<
     Ok(is_defined || !options.has_gfm_footnotes())
 }
 
-/// The normal form of a footnote's label, as a text of its own.
+/// The normal form of a footnote's label, as an owned text. Fails only if memory is refused.
 fn name_of<'a>(alloc: Global, label: &str) -> Result<CowStr<'a>, AllocError>
     ensures { IfOk result (λ name. text_bytes name ≡ normal_form label.now) }
 {
@@ -117,7 +119,7 @@ fn name_of<'a>(alloc: Global, label: &str) -> Result<CowStr<'a>, AllocError>
     CowStr::Borrowed(label.as_str()).into_static(alloc)
 }
 
-/// The name of the footnote that a bracket refers to, if it refers to one; a use of it is counted.
+/// The name of the footnote that `bracket` refers to. Counts a use of the footnote. Returns `None` if the bracket refers to no footnote.
 fn referred_footnote<'a>(
     alloc: Global,
     leaf: &LeafText<'a>,
@@ -151,7 +153,7 @@ fn referred_footnote<'a>(
     Ok(Some(name))
 }
 
-/// The index of the slot of the reference that a bracket opens: that of the bracket's slot, or of an image's the one behind it.
+/// The index of the slot for the reference that `bracket` opens: its own slot, or the next one if it opens an image.
 fn reference_slot(bracket: Bracket) -> usize
     requires { bracket.slot < 18446744073709551615 }
     ensures { result ≡ reference_slot bracket }
@@ -163,7 +165,7 @@ fn reference_slot(bracket: Bracket) -> usize
     }
 }
 
-/// Where the reference begins that a bracket opens: with its `[`, since a `!` before that is a text.
+/// The offset of the `[` of a bracket. The reference begins there, since a `!` before it is a text.
 fn reference_start(bracket: Bracket) -> usize
     requires { bracket.start < bracket.inside }
     ensures { result ≡ reference_start bracket }
@@ -175,7 +177,7 @@ fn reference_start(bracket: Bracket) -> usize
     }
 }
 
-/// Makes the slot of an image's bracket that of its `!` alone.
+/// Reduces the slot of an image's bracket to the `!`. Changes no other bracket's slot.
 fn put_mark(slots: &mut Vec<Slot>, bracket: Bracket)
     requires there { bracket.slot < length slots.old.items }
     requires start { bracket.start < bracket.inside }
@@ -195,8 +197,8 @@ fn put_mark(slots: &mut Vec<Slot>, bracket: Bracket)
 }
 
 impl<'a> InlineState<'a> {
-    // The footnote reference that the bracket forms which was taken, if one was; `None` where it forms none. A use of its footnote is
-    // counted.
+    // Forms the footnote reference of the opening bracket `taken` and the closing bracket at `close`, and returns the cursor after it.
+    // Counts a use of its footnote. Returns `None` if no bracket was taken, or if the brackets form no footnote reference.
     pub(crate) fn footnote(
         &mut self,
         leaf: &LeafText<'a>,
@@ -252,7 +254,7 @@ impl<'a> InlineState<'a> {
         }))
     }
 
-    // Whether a closing bracket is that of a full reference's label, and so forms no reference by its own.
+    // Whether the closing bracket at `close` ends the label of an earlier full reference. It then forms no reference by its own label.
     pub(crate) fn closes_label(&self, close: usize) -> bool
         ensures { result ≡ is_there close self.now.label_close }
     {
@@ -262,8 +264,8 @@ impl<'a> InlineState<'a> {
         }
     }
 
-    // Forms a footnote reference: what stands between its brackets is nothing any more, and all brackets before it are dropped, so that
-    // no link is formed across it. Doubled brackets before it stay.
+    // Forms a footnote reference. The slots between its brackets become `Nothing`. All brackets before it are removed, so that no link is
+    // formed over it. Doubled brackets before it stay.
     fn form_footnote(
         &mut self,
         text: &str,
@@ -298,11 +300,12 @@ impl<'a> InlineState<'a> {
         self.quotes.truncate(bracket.quotes);
         self.delimiters.truncate(bracket.runs);
         self.brackets.clear();
-        self.doubled.drop_behind(bracket.start);
+        self.doubled.drop_after(bracket.start);
         Ok(())
     }
 
-    // Puts the slot of a footnote reference into the place of all slots from that of the bracket on. The `!` before it is a text.
+    // Puts the slot of a footnote reference in the place of the bracket's slot, or after the `!` of an image, which is a text. Later slots
+    // become `Nothing`.
     fn put_reference(&mut self, bracket: Bracket, reference: Slot) -> Result<(), AllocError>
         requires there { bracket.slot < length self.old.slots.items }
         requires start { bracket.start < bracket.inside }

@@ -3,7 +3,7 @@
 ghost use Rattle.std.specs.Prelude.{◌≡◌, ◌<◌, ◌≤◌, true, false, if◌then◌else◌, Bool, length, slice_index, is_some, IfOk, OnOk};
 ghost use Rattle.cmark_grammar.specs.Answers.{Lookup};
 ghost use Rattle.cmark_grammar.specs.Options.{Options};
-ghost use Rattle.cmark_finds.specs.Dollars.{AreDollarsOf, formula_at};
+ghost use Rattle.cmark_span_scan.specs.Dollars.{AreDollarsOf, formula_at};
 ghost use Rattle.cmark_inline.specs.Paid.{DollarsPaid};
 ghost use Rattle.cmark_inline.specs.ReadsOn.{ReadsOn};
 ghost use Rattle.cmark_inline.specs.Stands.{IsCursor, Stands};
@@ -11,15 +11,15 @@ ghost use Rattle.cmark_slots.specs.Slots.{begins_link};
 ghost use Rattle.cmark_inline.specs.Tokens.{Appends};
 ghost use Rattle.cmark_slots.specs.declared.slot.SlotKind.TheVariants as slot_kind;
 
-use crate::place::behind;
+use crate::place::following;
 use crate::state::InlineState;
 use crate::step::Cursor;
-use cmark_finds::{Dollars, Formula};
 use cmark_slots::slot::{Slot, SlotKind};
+use cmark_span_scan::{Dollars, Formula};
 use std::alloc::AllocError;
 
 impl<'a> InlineState<'a> {
-    // A dollar sign: it opens a formula, or it is a text. `dollars` are those of this text.
+    // Reads a dollar sign: it opens a formula, or is text. `dollars` are the dollar signs of this text.
     pub(crate) fn dollar(
         &mut self,
         dollars: &mut Dollars,
@@ -50,13 +50,13 @@ impl<'a> InlineState<'a> {
         let slot = Slot {
             kind: SlotKind::Text,
             start: here.at,
-            end: behind(text, here.at),
+            end: following(text, here.at),
         };
         self.put(text, here, here.at, slot)
     }
 }
 
-/// What the slot of a formula stands for.
+/// The kind of a formula's slot.
 fn kind_of(formula: Formula) -> SlotKind
     ensures value { result ≡ (if formula.is_display then slot_kind.DisplayMath formula.content_start formula.content_end else slot_kind.InlineMath formula.content_start formula.content_end) }
     ensures link { begins_link result ≡ false }

@@ -1,4 +1,4 @@
-//! Theorems over the text of a leaf and the grammar's leaf, each the contract of a function that does nothing.
+//! Theorems about the text of a leaf and the grammar's leaf. Each is the contract of a function that does nothing.
 
 ghost use Rattle.std.specs.Prelude.{◌≡◌, ◌<◌, ◌≤◌, ◌-◌, ℕ, suc, false, List, drop, length};
 ghost use Rattle.cmark_grammar.specs.Event.{Ranged};
@@ -16,7 +16,7 @@ ghost use Rattle.cmark_inline_model.specs.SlotRows.{ItemSlot};
 ghost use Rattle.cmark_inline_model.specs.TextPlaces.{place_in, text_of as bytes_in};
 ghost use Rattle.cmark_leaf_text.specs.Reads.{IsRead, is_cell_of, place_of, source_of, text_of};
 ghost use Rattle.cmark_leaf_text.specs.declared.leaf_text.LeafText.{LeafText};
-ghost use Rattle.cmark_text_parts.specs.declared.text.CowStr.{CowStr};
+ghost use Rattle.cmark_values.specs.declared.text.CowStr.{CowStr};
 ghost use Rattle.cmark_inline.specs.LeafViews.{shown_leaf};
 ghost use Rattle.cmark_inline.specs.PlainStretches.{StandsForItself};
 ghost use Rattle.cmark_inline.specs.Reached.{ReadsPlaces};
@@ -31,8 +31,8 @@ pub use cmark_inline_model::laws::{
     references_lead_to_their_definitions,
 };
 
-/// A leaf's text, whose lines end with whole line endings, has the places of the grammar's leaf of the same stretches (`places`), and each
-/// byte stands where the text says (`bytes`).
+/// If its lines end with whole line endings, a leaf's text has the places of the grammar's leaf of the same stretches (`places`). Each byte
+/// is at the place that the text says (`bytes`).
 pub fn a_leaf_text_is_a_leaf_of_the_grammar()
     ensures places { (leaf : LeafText) (reader : Reader) → IsRead leaf → reader.source ≡ source_of leaf
         → HaveLineEnds reader.source (shown_leaf leaf).stretches → HaveWholeEndings (text_of leaf) (place_of leaf)
@@ -41,16 +41,16 @@ pub fn a_leaf_text_is_a_leaf_of_the_grammar()
         → (k : ℕ) → k < length (text_of leaf) → place_of leaf k ≡ place_in reader (shown_leaf leaf) k }
 {}
 
-/// A leaf whose lines end with line endings begins in the place of its first byte (`first`), and ends directly behind that of its last one
-/// (`last`).
+/// A leaf whose lines end with line endings begins at the place of its first byte (`first`). It ends directly after the place of its last
+/// byte (`last`).
 pub fn a_leaf_begins_and_ends_with_its_bytes()
     ensures first { (reader : Reader) (leaf : Leaf) → InTurn 0 leaf.stretches (length reader.source) → HaveLineEnds reader.source leaf.stretches → begin_of leaf.stretches ≡ place_in reader leaf 0 }
     ensures last { (reader : Reader) (leaf : Leaf) → HaveLineEnds reader.source leaf.stretches → 0 < length (bytes_in reader leaf)
         → place_in reader leaf (length (bytes_in reader leaf)) ≡ suc (place_in reader leaf (length (bytes_in reader leaf) - 1)) }
 {}
 
-/// A slot that stands for an item of a leaf's text is like this item in the places of the source: it gives the same event, and comes from
-/// the same bytes.
+/// A slot that represents an item of a leaf's text is like this item in the places of the source. It gives the same event, from the same
+/// bytes.
 pub fn a_slot_is_like_its_item_in_the_source()
     ensures { (leaf : LeafText) (reader : Reader) (read : Leaf) (place : ℕ → ℕ) → ReadsPlaces leaf reader read place
         → (texts : List CowStr) (links : List Link) (slot : Slot) (item : Item) (at resume : ℕ)
@@ -59,8 +59,8 @@ pub fn a_slot_is_like_its_item_in_the_source()
         → IsLike reader.source (shown_slot leaf texts links slot) (ItemSlot (placed_item place item)) }
 {}
 
-/// The text that is pending is one item of the grammar, and its slot is like it: from a place where bytes that stand for themselves begin,
-/// perhaps behind a backslash, up to one where none begin.
+/// A pending text is one item of the grammar (`token`), and its slot is like this item (`slot`). It begins with literal bytes, perhaps after a
+/// backslash, and ends where no literal byte follows.
 pub fn a_pending_text_is_one_item_in_the_source()
     ensures token { (leaf : LeafText) (reader : Reader) (read : Leaf) (place : ℕ → ℕ) → ReadsPlaces leaf reader read place → (at start end to : ℕ)
         → begins_at reader.options reader.lookup (is_cell_of leaf) (text_of leaf) at ≡ item_at Plain start end → may_open_markup reader.options.email_autolinks (drop at (text_of leaf)) ≡ false
@@ -75,9 +75,9 @@ pub fn a_pending_text_is_one_item_in_the_source()
         → IsLike reader.source (shown_slot leaf texts links (record { kind = kind.Text; start = start; end = to })) (ItemSlot (placed_item place (record { kind = Plain; start = start; end = to }))) }
 {}
 
-/// A leaf has one reading: what it is read as with the same reader, which knows the text, the options, what entity names stand for, the
-/// definitions and the footnotes, with as much left of the reference expansion limit, and with the same answers in turn, are the same spans,
-/// the same events and ranges, and the same is left behind it.
+/// A leaf has only one reading: its spans, its events with their ranges, and the state after it are determined. They depend on the reader,
+/// the rest of the reference expansion limit before the leaf, and the answers in turn. The reader knows the text, the options, the
+/// entities, the definitions and the footnotes.
 pub fn one_spans()
     ensures { (reader : Reader) (leaf : Leaf) (before one other : Between) (asked others : List Exchange) (first second : List Ranged) → answers_of asked ≡ answers_of others
         → (h : ReadsLeaf reader (IsNext asked) leaf before first one) → (k : ReadsLeaf reader (IsNext others) leaf before second other) → (h.spans ≡ k.spans) × (first ≡ second) × (one ≡ other) }

@@ -1,31 +1,32 @@
-//! Links and images, and the inline ones: their destination and their title stand behind the closing bracket (CommonMark 6.3 and 6.4).
+//! The targets of links and images. An inline one has its destination and title after the closing bracket (CommonMark 6.3 and 6.4).
 
 ghost use Rattle.std.specs.Prelude.{◌≡◌, ◌==◌, List, None, ℕ, drop, IfOk, option_copied};
 ghost use Rattle.std.specs.Str.{IsCharBoundary};
 ghost use Rattle.cmark_leaf_text.specs.Reads.{IsRead, is_cell_of, text_of};
 ghost use Rattle.cmark_grammar.specs.Letters.{first_is};
-ghost use Rattle.cmark_text_parts.specs.Shown.{text_bytes};
+ghost use Rattle.cmark_values.specs.Shown.{text_bytes};
 ghost use Rattle.cmark_inline.specs.Linked.{FindsInline, resolved_title, shown_target};
 
 use cmark_leaf_text::LeafText;
-use cmark_links::{link_tail, title_text};
+use cmark_link_scan::{link_tail, title_text};
 use cmark_references::Link;
-use cmark_scan_parts::unescape;
+use cmark_scan_bytes::unescape;
 use cmark_text::{CowStr, EntityLookup, LinkType};
 use std::alloc::{AllocError, Global};
 
-/// What forms a link or an image.
+/// The target of a link or an image.
 #[derive(Drop)]
 pub struct Target<'a> {
-    /// What it says of itself.
+    /// Its type, destination, title and id.
     pub link: Link<'a>,
-    /// The place behind the link.
+    /// The offset after the link or the image.
     pub end: usize,
-    /// The place behind all that it uses up, where the text is read on.
+    /// The offset after all bytes that it uses up. Reading continues there.
     pub resume: usize,
 }
 
-/// An inline link behind its closing bracket, whose texts stand in the text `text`, perhaps that of a cell of a table.
+/// The target of the inline link whose closing bracket ends at `at`; `None` if there is none. Its texts can borrow from `text`. If
+/// `is_cell`, `text` is the text of a table's cell.
 fn inline_in<'t, E: EntityLookup>(
     alloc: Global,
     text: &'t str,
@@ -53,7 +54,7 @@ fn inline_in<'t, E: EntityLookup>(
     }))
 }
 
-/// The text of a title, which is empty where there is none.
+/// The text of a title; empty if there is none.
 fn resolved_title<'t, E: EntityLookup>(
     alloc: Global,
     title: Option<&'t str>,
@@ -68,7 +69,7 @@ fn resolved_title<'t, E: EntityLookup>(
     }
 }
 
-/// The same in a value that borrows nothing.
+/// Copies the borrowed texts of a target, so that it borrows nothing. Fails only if memory is refused.
 fn own_target(alloc: Global, target: Target<'_>) -> Result<Target<'static>, AllocError>
     ensures value { IfOk result (λ made. (text : List ℕ) → shown_target text made ≡ shown_target text target.entry) }
     ensures ends { IfOk result (λ made. (made.end ≡ target.entry.end) × (made.resume ≡ target.entry.resume)) }
@@ -95,7 +96,7 @@ fn own_target(alloc: Global, target: Target<'_>) -> Result<Target<'static>, Allo
     })
 }
 
-/// Whether an opening parenthesis stands at a place, as it does where an inline link follows.
+/// Whether an opening parenthesis is at `at`. An inline link has one after its closing bracket.
 #[inline(always)]
 fn opens_tail(text: &str, at: usize) -> bool
     ensures { result ≡ first_is (λ b. b == 40) (drop at text.now) }
@@ -107,7 +108,8 @@ fn opens_tail(text: &str, at: usize) -> bool
     bytes[at] == b'('
 }
 
-/// The inline link behind a closing bracket. Its texts are borrowed where the leaf's text is a part of the source.
+/// The target of the inline link whose closing bracket ends at the offset `at` of `text` (CommonMark 6.3); `None` if there is none. Its
+/// texts can borrow from the source if the leaf's text is a slice of it. Fails only if memory is refused.
 #[inline(always)]
 pub fn inline_target<'a, E: EntityLookup>(
     alloc: Global,
@@ -127,7 +129,8 @@ pub fn inline_target<'a, E: EntityLookup>(
     tail_target(alloc, leaf, text, at, entities)
 }
 
-// The same where a parenthesis stands. It is apart, so that no other bracket waits for the room that a link takes.
+// The target of an inline link, if an opening parenthesis is at `at`. The function is not inlined: Rattle clears locals on entry, and a
+// link takes much room.
 #[inline(never)]
 fn tail_target<'a, E: EntityLookup>(
     alloc: Global,

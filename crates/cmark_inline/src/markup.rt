@@ -1,9 +1,9 @@
-//! Inline HTML where it stands (CommonMark 6.6): tags in the text of a leaf, and markup, which is all else, in the source.
+//! Inline HTML (CommonMark 6.6). Tags are read in the text of a leaf. All other kinds, called markup here, are read in the source.
 
 ghost use Rattle.std.specs.Prelude.{◌≡◌, ◌<◌, ◌≤◌, ◌+◌, ◌^◌, ℕ, length, drop, true, false, Some, None, IfSome, MatchOption, option_map};
 ghost use Rattle.std.specs.Str.{IsCharBoundary};
-ghost use Rattle.cmark_grammar.specs.InlineHtml.{behind_inline_html, behind_markup};
-ghost use Rattle.cmark_scan_parts.specs.Guards.{may_pass};
+ghost use Rattle.cmark_grammar.specs.InlineHtml.{after_inline_html, after_markup};
+ghost use Rattle.cmark_scan_bytes.specs.Guards.{may_pass};
 ghost use Rattle.cmark_leaf_text.specs.Reads.{IsRead, IsPart, source_of, text_of};
 ghost use Rattle.cmark_inline.specs.MarkupInSource.{AreUnclosed, FindsNone, IsFound, IsInSource, source_from};
 ghost use Rattle.cmark_inline.specs.Counted.{extent_of};
@@ -15,31 +15,31 @@ ghost use Rattle.cmark_slots.specs.declared.slot.SlotKind.TheVariants as slot_ki
 ghost use Rattle.cmark_leaf_text.specs.declared.leaf_text.LeafText.{LeafText as Leaf};
 
 use crate::place::{is_followed_by, part_end};
-use cmark_finds::{inline_html, inline_markup};
 use cmark_leaf_text::LeafText;
-use cmark_scan_parts::HtmlScanGuard;
+use cmark_scan_bytes::HtmlScanGuard;
 use cmark_slots::slot::SlotKind;
+use cmark_span_scan::{inline_html, inline_markup};
 
-/// What searches for markup in a leaf remember. Places are counted in the source, from the leaf's first byte on.
+/// The memory of the searches for markup in a leaf. Its offsets are counted in the source, from the leaf's first byte on.
 #[derive(Clone, Copy)]
 pub struct Unclosed {
-    /// The marks of kinds that are not closed.
+    /// The marks of the kinds that are not closed.
     guard: HtmlScanGuard,
-    /// How many bytes of the source were passed.
+    /// The number of bytes of the source that were passed.
     pub passed: u128,
 }
 
 /// Inline HTML that was found.
 #[derive(Clone, Copy)]
 pub struct FoundHtml {
-    /// What the slot stands for.
+    /// The kind of its slot.
     pub kind: SlotKind,
-    /// The place behind it: the first byte of the leaf's text that does not belong to it.
+    /// The offset after it: that of the first byte of the leaf's text that does not belong to it.
     pub end: usize,
 }
 
 impl Unclosed {
-    /// None was sought.
+    /// The memory before the first search.
     pub fn none() -> Unclosed
         ensures kept { (leaf : Leaf) (at : ℕ) → AreUnclosed leaf at result }
         ensures paid { (leaf : Leaf) → length (text_of leaf) ≤ extent_of leaf → MarkupPaid leaf 0 result }
@@ -50,9 +50,9 @@ impl Unclosed {
         }
     }
 
-    /// The inline HTML whose `<` stands at this place. A tag is sought in the text of the leaf. Markup is sought in the source,
-    /// up to the end of the leaf's last line: prefixes of later lines are read as they stand there. Where a closer was sought in
-    /// vain, it is not sought again.
+    /// The inline HTML whose `<` is at the offset `at`; `None` if there is none. Tags are read in the text of the leaf. Markup is read in
+    /// the source, up to the end of the leaf's last line, and includes the prefixes of later lines. A search that found no end is not
+    /// repeated.
     pub fn inline_html(&mut self, leaf: &LeafText<'_>, text: &str, at: usize) -> Option<FoundHtml>
         requires read { IsRead leaf.now }
         requires same { text.now ≡ text_of leaf.now }
@@ -76,7 +76,7 @@ impl Unclosed {
         self.in_source(leaf, text, at)
     }
 
-    // The markup whose `<` stands at this place, as the source reads from there on.
+    // The markup whose `<` is at `at`, as the source reads from there on; `None` if there is none.
     fn in_source(&mut self, leaf: &LeafText<'_>, text: &str, at: usize) -> Option<FoundHtml>
         requires read { IsRead leaf.now }
         requires same { text.now ≡ text_of leaf.now }
@@ -89,7 +89,7 @@ impl Unclosed {
         ensures kind { IfSome result (λ found. begins_link found.kind ≡ false) }
         ensures edge { IfSome result (λ found. (end : ℕ) → found.kind ≡ slot_kind.SourceHtml end → IsCharBoundary (source_of leaf.now) end) }
         ensures is { IfSome result (IsInSource leaf.now at) }
-        ensures none { result ≡ None → behind_markup (source_from leaf.now at) ≡ None }
+        ensures none { result ≡ None → after_markup (source_from leaf.now at) ≡ None }
         ensures kept { AreUnclosed leaf.now at self.new }
         ensures paid { MatchOption result (MarkupPaid leaf.now (at + 1) self.new) (λ found. MarkupPaid leaf.now found.end self.new) }
         ensures grows { self.old.passed ≤ self.new.passed }
@@ -104,14 +104,14 @@ impl Unclosed {
         })
     }
 
-    // How many bytes of the source the markup takes whose `<` stands at this place.
+    // The number of bytes of the source in the markup whose `<` is at `at`; `None` if there is none.
     fn size_in_source(&mut self, leaf: &LeafText<'_>, text: &str, at: usize) -> Option<usize>
         requires read { IsRead leaf.now }
         requires same { text.now ≡ text_of leaf.now }
         requires part { IsPart text.now at (at + 1) }
         requires kept { AreUnclosed leaf.now at self.old }
         requires room { self.old.passed < 2 ^ 127 }
-        ensures value { option_map (λ size. drop size (source_from leaf.now at)) result ≡ behind_markup (source_from leaf.now at) }
+        ensures value { option_map (λ size. drop size (source_from leaf.now at)) result ≡ after_markup (source_from leaf.now at) }
         ensures some { IfSome result (λ size. 0 < size) }
         ensures within { IfSome result (λ size. size ≤ length (source_from leaf.now at)) }
         ensures ends { IfSome result (IsCharBoundary (source_from leaf.now at)) }
@@ -130,7 +130,7 @@ impl Unclosed {
     }
 }
 
-// Whether the `<` at this place opens markup in the text.
+// Whether the `<` at `at` opens markup.
 fn opens_in_source(text: &str, at: usize) -> bool
     requires { at < length text.now }
     ensures { result ≡ opens_markup (drop (at + 1) text.now) }
@@ -138,15 +138,15 @@ fn opens_in_source(text: &str, at: usize) -> bool
     is_followed_by(text, at, b'!') || is_followed_by(text, at, b'?')
 }
 
-// The tag whose `<` stands at this place.
+// The tag whose `<` is at `at`; `None` if there is none.
 fn tag(text: &str, at: usize) -> Option<FoundHtml>
     requires { IsCharBoundary text.now at }
     ensures part { IfSome result (λ found. IsPart text.now at found.end) }
     ensures content { IfSome result (λ found. IsContent text.now found.kind) }
     ensures kind { IfSome result (λ found. begins_link found.kind ≡ false) }
     ensures edge { IfSome result (λ found. (end : ℕ) → found.kind ≡ slot_kind.SourceHtml end → ⊥) }
-    ensures is { IfSome result (λ found. (found.kind ≡ slot_kind.InlineHtml) × (behind_inline_html (drop at text.now) ≡ Some (drop found.end text.now))) }
-    ensures none { result ≡ None → behind_inline_html (drop at text.now) ≡ None }
+    ensures is { IfSome result (λ found. (found.kind ≡ slot_kind.InlineHtml) × (after_inline_html (drop at text.now) ≡ Some (drop found.end text.now))) }
+    ensures none { result ≡ None → after_inline_html (drop at text.now) ≡ None }
 {
     let end = inline_html(text, at)?;
     Some(FoundHtml {

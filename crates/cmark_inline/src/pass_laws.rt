@@ -1,4 +1,4 @@
-//! Theorems over the states of the inline pass and those of the grammar's, each the contract of a function that does nothing.
+//! Theorems about the states of the inline pass and of the grammar's pass. Each is the contract of a function that does nothing.
 
 ghost use Rattle.std.specs.Prelude.{◌≡◌, ℕ, suc, true, List, [], ◌∷◌, ◌++◌, Some, drop, length, map, take};
 ghost use Rattle.cmark_emphasis.specs.Shown.{shown_quote, shown_run};
@@ -14,7 +14,7 @@ ghost use Rattle.cmark_grammar.specs.Parts.{Form, Formed, Linking, Nil, Opening,
 ghost use Rattle.cmark_grammar.specs.Questions.{AnyAnswer, Exchange, IsNext};
 ghost use Rattle.cmark_grammar.specs.Readers.{Reader};
 ghost use Rattle.cmark_grammar.specs.Siblings.{item, quotes_of};
-ghost use Rattle.cmark_grammar.specs.SiblingsModel.{siblings_of};
+ghost use Rattle.cmark_inline_model.specs.SiblingsModel.{siblings_of};
 ghost use Rattle.cmark_grammar.specs.Spans.{Spans};
 ghost use Rattle.cmark_leaf_text.specs.Reads.{source_of};
 ghost use Rattle.cmark_leaf_text.specs.declared.leaf_text.LeafText.{LeafText};
@@ -34,9 +34,9 @@ ghost use Rattle.cmark_slots.specs.declared.quote.PlacedQuote.{PlacedQuote};
 ghost use Rattle.cmark_slots.specs.declared.slot.Slot.{Slot};
 ghost use Rattle.cmark_inline.specs.declared.state.InlineState.{InlineState};
 
-/// Where the grammar's pass has read what a state stands for, it has read one step more with a slot more that is like an item (`own`),
-/// with the slots and the place of a delimiter run (`run`), of a quote (`quote`), and of an opening bracket (`opening`). What is noted on the
-/// way leaves the slots before as they are shown.
+/// Let the grammar's pass have read what a state represents. With one slot more that is like an item, it has read one step more (`own`).
+/// This also holds for the slots and the place of a delimiter run (`run`), of a quote (`quote`), and of an opening bracket (`opening`). A
+/// premise in each case: the new texts and links do not change how the earlier slots are shown.
 pub fn a_step_more_is_read()
     ensures own { (leaf : LeafText) (reader : Reader) (read : Leaf) (place : ℕ → ℕ) (before : Between) (p : Pass) (bs : List Bracket) (old new : InlineState) → HasRead leaf reader read place before p bs old
         → shown_slots leaf new.texts.items new.links.items old.slots.items ≡ shown_slots leaf old.texts.items old.links.items old.slots.items
@@ -64,9 +64,9 @@ pub fn a_step_more_is_read()
         → HasRead leaf reader read place before (pass (opened opener p.state) (join p.here (Opening opener Nil))) (b ∷ bs) new }
 {}
 
-/// Where the grammar's closing bracket forms a link or an image, the state stands for it whose slots from the opening bracket's on are the
-/// element around those behind it, once the quotes there are characters and the pairs of the runs there have written their marks, and
-/// which has forgotten these quotes and runs.
+/// If the grammar's closing bracket forms a link or an image, the new state represents the result. Its slots from the opening bracket's on
+/// are the element around the later slots. In these, quotes are characters, and the pairs of the runs have written their marks. The new
+/// state has forgotten these quotes and runs.
 pub fn a_link_more_is_read()
     ensures { (leaf : LeafText) (reader : Reader) (read : Leaf) (place : ℕ → ℕ) (before : Between) (p : Pass) (bs : List Bracket) (old new : InlineState) → HasRead leaf reader read place before p bs old
         → (b : Bracket) (closer : Opener) (nearer : ℕ) (target : Target) (next : State) → drop nearer bs ≡ b ∷ drop (suc nearer) bs → token reader read p.state.at ≡ Closes closer
@@ -80,9 +80,9 @@ pub fn a_link_more_is_read()
         → HasRead leaf reader read place before (closed_by p closer (record { result = Forms nearer (Linking target); after = next })) (drop (suc nearer) bs) new }
 {}
 
-/// Before a leaf is read, a state with no slots, runs and quotes stands for nothing (`first`). A closing bracket that stays a text has one
-/// slot more (`closing`). Where the grammar's pass has come to the end of the leaf, and all quotes are characters and all pairs have written
-/// their marks, the leaf is read as the events of its slots, for the answers that were given (`end`).
+/// Before a leaf is read, a state without slots, runs and quotes represents nothing (`first`). A closing bracket that remains a text has
+/// one slot more (`closing`). At the end of the leaf all quotes are characters, and all pairs have written their marks. The leaf is then
+/// read as the events of its slots, for the answers that were given (`end`).
 pub fn a_leaf_is_read_from_its_begin_to_its_end()
     ensures first { (leaf : LeafText) (reader : Reader) (read : Leaf) (place : ℕ → ℕ) (before : Between) (state : InlineState)
         → state.slots.items ≡ [] → state.delimiters.placed.items ≡ [] → state.quotes.placed.items ≡ [] → HasRead leaf reader read place before (pass (entering read before) Nil) [] state }
@@ -101,8 +101,8 @@ pub fn a_leaf_is_read_from_its_begin_to_its_end()
         → ReadsLeaf reader (IsNext all) read before (all_events leaf new.texts.items new.links.items new.slots.items) (leaving p.state) }
 {}
 
-/// Where the grammar's closing bracket forms what shows nothing of what stands between the brackets, as a footnote reference does and a
-/// wikilink that shows its name, the state stands for it that has slots of its own in the place of the opening bracket's and of all behind it.
+/// Let the grammar's closing bracket form something that shows nothing of its inside: a footnote reference, or a wikilink that shows its
+/// name. Then the new state represents the result. Its own slots take the place of the opening bracket's slot and of all later ones.
 pub fn what_hides_its_inside_is_read()
     ensures { (leaf : LeafText) (reader : Reader) (read : Leaf) (place : ℕ → ℕ) (before : Between) (p : Pass) (bs : List Bracket) (old new : InlineState) → HasRead leaf reader read place before p bs old
         → (b : Bracket) (closer : Opener) (nearer : ℕ) (what : Formed) (next : State) → drop nearer bs ≡ b ∷ drop (suc nearer) bs → token reader read p.state.at ≡ Closes closer

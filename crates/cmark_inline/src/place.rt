@@ -1,4 +1,4 @@
-//! Places in a leaf's text.
+//! Byte offsets in a leaf's text.
 
 ghost use Rattle.std.specs.Prelude.{◌≡◌, ◌⊎◌, ◌==◌, true, false, ◌<◌, ◌≤◌, ◌+◌, ◌-◌, ℕ, drop, take, reverse, chars, length, slice_index, IfSome, Some, option_map};
 ghost use Rattle.std.specs.List.{prefix_len};
@@ -9,21 +9,21 @@ ghost use Rattle.cmark_grammar.specs.Columns.{is_blank_byte};
 ghost use Rattle.cmark_grammar.specs.InlineTokens.{first_of};
 ghost use Rattle.cmark_grammar.specs.LabelsOverLines.{piped};
 ghost use Rattle.cmark_grammar.specs.Letters.{first_is, starts};
-ghost use Rattle.cmark_grammar.specs.LinkDefinitions.{behind_blanks};
+ghost use Rattle.cmark_grammar.specs.LinkDefinitions.{after_leading_blanks};
 ghost use Rattle.cmark_grammar.specs.Tokens.{is_punctuation};
 ghost use Rattle.cmark_leaf_text.specs.Reads.{IsPart};
-ghost use Rattle.cmark_text_parts.specs.Shown.{shown_options};
+ghost use Rattle.cmark_values.specs.Shown.{shown_options};
 ghost use Rattle.cmark_inline.specs.Stands.{IsCursor, Moves};
 ghost use Rattle.cmark_inline.specs.Tokens.{read_on, shown_autolink};
 ghost use Rattle.cmark_inline.specs.declared.state.InlineState.{InlineState};
 
 use crate::step::Cursor;
 use bitflags::Flags;
-use cmark_scan_parts::bytes::is_blank;
-use cmark_scan_parts::scan_autolink;
+use cmark_scan_bytes::bytes::is_blank;
+use cmark_scan_bytes::scan_autolink;
 use cmark_text::Options;
 
-// The place behind the run of the byte at this place.
+// The offset after the bytes from `at` on that equal the byte at `at`.
 pub(crate) fn run_end(text: &str, at: usize) -> usize
     requires within { at < length text.now }
     requires ascii { slice_index text.now at < 128 }
@@ -41,12 +41,12 @@ pub(crate) fn run_end(text: &str, at: usize) -> usize
     end
 }
 
-// Where the blanks before this place begin.
+// The offset where the pending blanks directly before the cursor begin; that of the cursor if there are none.
 pub(crate) fn before_blanks(text: &str, here: Cursor) -> usize
     requires { IsCursor text.now here }
     ensures blanks { (k : ℕ) → result ≤ k → k < here.at → is_blank_byte (slice_index text.now k) ≡ true }
     ensures first { here.pending < result → is_blank_byte (slice_index text.now (result - 1)) ≡ false }
-    ensures behind { here.pending ≤ result }
+    ensures following { here.pending ≤ result }
     ensures before { result ≤ here.at }
     ensures boundary { IsCharBoundary text.now result }
 {
@@ -58,10 +58,10 @@ pub(crate) fn before_blanks(text: &str, here: Cursor) -> usize
     text_end
 }
 
-// The place behind the blanks that stand at this place.
-fn behind_blanks(text: &str, at: usize) -> usize
+// The offset after the blanks at `at`; `at` itself if there are none.
+fn after_leading_blanks(text: &str, at: usize) -> usize
     requires { IsCharBoundary text.now at }
-    ensures value { drop result text.now ≡ behind_blanks (drop at text.now) }
+    ensures value { drop result text.now ≡ after_leading_blanks (drop at text.now) }
     ensures order { at ≤ result }
     ensures boundary { IsCharBoundary text.now result }
 {
@@ -73,7 +73,8 @@ fn behind_blanks(text: &str, at: usize) -> usize
     end
 }
 
-// Where the text of a run of backticks that is no code span begins: with the escaped backtick before it, if one is pending.
+// The offset where the text of the backticks at the cursor begins, if they open no code span. It includes an escaped backtick directly
+// before them, if that is pending.
 pub(crate) fn text_start(text: &str, here: Cursor) -> usize
     requires here { here.at < length text.now }
     requires cursor { IsCursor text.now here }
@@ -89,9 +90,9 @@ pub(crate) fn text_start(text: &str, here: Cursor) -> usize
     here.at
 }
 
-// The place behind a byte of ASCII.
+// The offset after the ASCII byte at `at`.
 #[tactic(auto, using(std::proofs::lemmas::Str::lead_after_ascii))]
-pub(crate) fn behind(text: &str, at: usize) -> usize
+pub(crate) fn following(text: &str, at: usize) -> usize
     requires place { IsCharBoundary text.now at }
     requires within { at < length text.now }
     requires ascii { slice_index text.now at < 128 }
@@ -101,7 +102,7 @@ pub(crate) fn behind(text: &str, at: usize) -> usize
     at + 1
 }
 
-// The byte at this place stands for itself.
+// The cursor after the ASCII byte at the cursor, which becomes pending text.
 #[tactic(auto, using(std::proofs::lemmas::Str::lead_after_ascii))]
 pub(crate) fn pass(text: &str, here: Cursor) -> Cursor
     requires cursor { IsCursor text.now here }
@@ -118,8 +119,8 @@ pub(crate) fn pass(text: &str, here: Cursor) -> Cursor
     }
 }
 
-// The place behind so many bytes, if they are some and no character is cut there.
-pub(crate) fn end_behind(text: &str, at: usize, size: usize) -> Option<usize>
+// The offset `size` bytes after `at`. Returns `None` if `size` is 0, or if this offset is no character boundary of the text.
+pub(crate) fn following_end(text: &str, at: usize, size: usize) -> Option<usize>
     requires { IsCharBoundary text.now at }
     ensures part { IfSome result (IsPart text.now at) }
     ensures value { IfSome result (λ end. end ≡ at + size) }
@@ -136,7 +137,7 @@ pub(crate) fn end_behind(text: &str, at: usize, size: usize) -> Option<usize>
     }
 }
 
-// This place, if it is behind the other and no character is cut there.
+// Returns `end` if it is after `at` and a character boundary of the text.
 pub(crate) fn part_end(text: &str, at: usize, end: usize) -> Option<usize>
     requires { IsCharBoundary text.now at }
     ensures part { IfSome result (IsPart text.now at) }
@@ -150,7 +151,7 @@ pub(crate) fn part_end(text: &str, at: usize, end: usize) -> Option<usize>
     }
 }
 
-// Where the words of the line begin that begins at this place; the place itself, where none does.
+// If a later line of the text begins at `at`, the offset after its leading blanks; otherwise `at`.
 fn words_from(text: &str, at: usize) -> usize
     requires { IsCharBoundary text.now at }
     ensures value { result ≡ read_on text.now at }
@@ -160,10 +161,10 @@ fn words_from(text: &str, at: usize) -> usize
     if at == 0 || !matches!(text.as_bytes()[at - 1], b'\n' | b'\r') {
         return at;
     }
-    behind_blanks(text, at)
+    after_leading_blanks(text, at)
 }
 
-// The cursor behind the blanks in front of a line, where one begins there; the cursor itself, where none does.
+// If a later line of the text begins at the cursor `next`, the cursor after its leading blanks; otherwise `next`.
 #[inline(always)]
 pub(crate) fn onto_words(text: &str, next: Cursor) -> Cursor
     requires boundary { IsCharBoundary text.now next.pending }
@@ -180,7 +181,8 @@ pub(crate) fn onto_words(text: &str, next: Cursor) -> Cursor
     }
 }
 
-// The place after the autolink whose `<` is at this place (CommonMark 6.5). With the option for them its address may be an email address.
+// The offset after the autolink whose `<` is at `at` (CommonMark 6.5); `None` if there is none. With the option for email autolinks, its
+// address may be an email address.
 #[tactic(auto, using(std::proofs::lemmas::Str::lead_after_ascii))]
 pub(crate) fn autolink_end(options: Options, text: &str, at: usize) -> Option<usize>
     requires place { IsCharBoundary text.now at }
@@ -199,7 +201,7 @@ pub(crate) fn autolink_end(options: Options, text: &str, at: usize) -> Option<us
     }
 }
 
-// The character that ends at this place.
+// The character that ends at `at`; `None` at the start of the text.
 #[inline]
 pub(crate) fn character_before(text: &str, at: usize) -> Option<char>
     requires { IsCharBoundary text.now at }
@@ -211,7 +213,7 @@ pub(crate) fn character_before(text: &str, at: usize) -> Option<char>
     }
 }
 
-// The character that begins at this place.
+// The character that begins at `at`; `None` at the end of the text.
 #[inline]
 pub(crate) fn character_at(text: &str, at: usize) -> Option<char>
     requires { IsCharBoundary text.now at }
@@ -220,7 +222,7 @@ pub(crate) fn character_at(text: &str, at: usize) -> Option<char>
     text[at..].chars().next()
 }
 
-// Whether ASCII punctuation follows the byte at this place, which a backslash there escapes.
+// Whether ASCII punctuation follows the byte at `at`. A backslash at `at` then escapes it (CommonMark 2.4).
 pub(crate) fn is_escape(text: &str, at: usize) -> bool
     requires { at < length text.now }
     ensures value { result ≡ first_is is_punctuation (drop (at + 1) text.now) }
@@ -234,7 +236,7 @@ pub(crate) fn is_escape(text: &str, at: usize) -> bool
     bytes[at + 1].is_ascii_punctuation()
 }
 
-// Whether this byte of ASCII follows the byte at this place.
+// Whether `byte`, a byte of ASCII, follows the byte at `at`.
 pub(crate) fn is_followed_by(text: &str, at: usize, byte: u8) -> bool
     requires within { at < length text.now }
     ensures within { result ≡ true → at + 1 < length text.now }
@@ -248,7 +250,7 @@ pub(crate) fn is_followed_by(text: &str, at: usize, byte: u8) -> bool
     bytes[at + 1] == byte
 }
 
-// The bytes from this place on; none, where the text ends before it.
+// The bytes of the text from `at` on; empty if the text ends before `at`.
 #[inline(always)]
 fn bytes_from(text: &str, at: usize) -> &[u8]
     ensures { result.now ≡ drop at text.entry.now }
@@ -256,7 +258,7 @@ fn bytes_from(text: &str, at: usize) -> &[u8]
     text.as_bytes().get(at..).unwrap_or(&[])
 }
 
-// Whether a backslash directly before a pipe stands at this place.
+// Whether the text has a backslash and then a pipe at `at`.
 pub(crate) fn is_pipe_escape(text: &str, at: usize) -> bool
     ensures value { result ≡ starts piped (drop at text.now) }
     ensures within { result ≡ true → at + 1 < length text.now }
@@ -268,7 +270,7 @@ pub(crate) fn is_pipe_escape(text: &str, at: usize) -> bool
     }
 }
 
-// Whether a run of one backtick stands at this place.
+// Whether the text has a single backtick at `at`.
 pub(crate) fn is_lone_backtick(text: &str, at: usize) -> bool
     ensures { result ≡ backticks (drop at text.now) == 1 }
 {

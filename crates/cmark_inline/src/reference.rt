@@ -1,12 +1,12 @@
-//! Reference links and images: their label, and where it leads (CommonMark 6.3 and 6.4).
+//! Reference links and images: their labels and their targets (CommonMark 6.3 and 6.4).
 
 ghost use Rattle.std.specs.Prelude.{◌≡◌, if◌then◌else◌, ◌<◌, ◌+◌, ◌-◌, IfOk, IfSome, OnErr, Some, drop, option_map};
 ghost use Rattle.cmark_leaf_text.specs.Reads.{IsRead, IsPart, is_cell_of, place_of, text_of};
 ghost use Rattle.cmark_grammar.specs.Labels.{fold, normal_form};
 ghost use Rattle.cmark_references.specs.Definitions.{definition};
-ghost use Rattle.cmark_text_parts.specs.Labelled.{link_text, link_key};
-ghost use Rattle.cmark_inline.specs.Linked.{Answers, AsksOfReference, IsLed, Refers, left_behind, reference_behind, shown_link_reference, by_own_label, said_by, shown_destination, target_link};
-ghost use Rattle.cmark_text_parts.specs.Shown.{shown_link_type, shown_options, text_bytes};
+ghost use Rattle.cmark_values.specs.Labelled.{link_text, link_key};
+ghost use Rattle.cmark_inline.specs.Linked.{Answers, AsksOfReference, IsLed, Refers, left_after, reference_after, shown_link_reference, by_own_label, said_by, shown_destination, target_link};
+ghost use Rattle.cmark_values.specs.Shown.{shown_link_type, shown_options, text_bytes};
 ghost use Rattle.cmark_inline.specs.Asking.{AsksOnce};
 ghost use Rattle.cmark_inline.specs.Decided.{is_full};
 ghost use Rattle.cmark_inline.specs.Footnoted.{as_label};
@@ -20,9 +20,9 @@ use crate::link::Target;
 use crate::read::Reader;
 use crate::state::InlineState;
 use cmark_leaf_text::LeafText;
-use cmark_links::{collapsed_end, is_bracketed_label};
+use cmark_link_scan::{collapsed_end, is_bracketed_label};
 use cmark_references::{Link, RefDefs};
-use cmark_scan_parts::with_literal_pipes;
+use cmark_scan_bytes::with_literal_pipes;
 use cmark_slots::bracket::Bracket;
 use cmark_text::{CowStr, EntityLookup, LinkLabel, LinkType, Options};
 use std::alloc::{AllocError, Global};
@@ -32,14 +32,14 @@ use std::alloc::{AllocError, Global};
 pub struct LinkReference<'t> {
     pub label: &'t str,
     pub link_type: LinkType,
-    /// The place behind the reference, without a following `[]`.
+    /// The offset after the reference, not including a `[]` after it.
     pub end: usize,
-    /// The place behind all that it uses up, where the text is read on.
+    /// The offset after all bytes that it uses up, a `[]` included. Reading continues there.
     pub resume: usize,
 }
 
-/// The reference whose bracket closes at `close`: a full one, or, unless that bracket closes the label of one, by its own label. A label of
-/// a footnote is none of a link.
+/// The reference with its text between `bracket` and `close`: a full one, or else one by its own label. If `closes_label`, the bracket at
+/// `close` ends the label of an earlier full reference, and only a full one is possible. A footnote's label is not the label of a link.
 pub fn link_reference_at<'t>(
     options: Options,
     text: &'t str,
@@ -49,7 +49,7 @@ pub fn link_reference_at<'t>(
 ) -> Option<LinkReference<'t>>
     requires bracket { IsBracket text.now close bracket }
     requires close { IsPart text.now close (close + 1) }
-    ensures value { option_map (shown_link_reference text.entry.now) result ≡ reference_behind (shown_options options) closes_label (slice text.entry.now bracket.inside close) (drop (close + 1) text.entry.now) }
+    ensures value { option_map (shown_link_reference text.entry.now) result ≡ reference_after (shown_options options) closes_label (slice text.entry.now bracket.inside close) (drop (close + 1) text.entry.now) }
     ensures ends { IfSome result (IsLinkReference text.entry.now close) }
 {
     if let Some(label) = full_label(options, text, close + 1) {
@@ -66,7 +66,7 @@ pub fn link_reference_at<'t>(
     own_label_at(options, text, bracket, close)
 }
 
-// The reference by the bracket's own label.
+// The collapsed or shortcut reference whose label is the text between `bracket` and `close`; `None` if this is no label of a link.
 fn own_label_at<'t>(
     options: Options,
     text: &'t str,
@@ -99,8 +99,8 @@ fn own_label_at<'t>(
     })
 }
 
-/// A label as it counts: in the cell of a table `|` stands in it for each `\|` (GFM 4.10) and each `\\|` (this profile's own). It is the
-/// very text where there is none; fails only where memory is refused.
+/// The text by which a label is compared. In a table's cell, each `\|` (GFM 4.10) and each `\\|` (this profile's own) counts as `|`.
+/// Borrows `label` if it has none of them. Fails only if memory is refused.
 pub fn label_text<'t>(
     alloc: Global,
     is_cell: bool,
@@ -114,14 +114,14 @@ pub fn label_text<'t>(
     Ok(CowStr::Borrowed(label))
 }
 
-/// Where a reference leads, and its title.
+/// The destination and the title of a reference.
 #[derive(Drop)]
 pub struct Destination<'a> {
     pub dest_url: CowStr<'a>,
     pub title: CowStr<'a>,
 }
 
-/// What the definition of a label says, if it has one.
+/// The destination and the title in the definition of a label; `None` if the label has no definition. Fails only if memory is refused.
 pub fn defined<'a>(
     alloc: Global,
     references: &RefDefs<'a>,
@@ -141,7 +141,7 @@ pub fn defined<'a>(
 }
 
 impl<'a> InlineState<'a> {
-    // The bracket that closes the label of a full reference closes no other reference.
+    // Remembers the closing bracket of a full reference's label, since that bracket forms no reference by its own label.
     pub(crate) fn remember_label(&mut self, link_reference: LinkReference<'_>)
         requires { 0 < link_reference.end }
         ensures label { self.new.label_close ≡ (if is_full (shown_link_type link_reference.entry.link_type) then Some (link_reference.entry.end - 1) else self.old.label_close) }
@@ -152,7 +152,8 @@ impl<'a> InlineState<'a> {
         }
     }
 
-    // What a reference leads to, and what it takes off what is left of the reference expansion limit.
+    // The target of a reference that begins at the offset `start`; `None` if it leads nowhere. Subtracts its destination and its title from
+    // the rest of the reference expansion limit.
     pub(crate) fn reference<E: EntityLookup, F: BrokenLinkCallback<'a>>(
         &mut self,
         leaf: &LeafText<'a>,
@@ -172,7 +173,7 @@ impl<'a> InlineState<'a> {
             (place_of leaf.now start) (place_of leaf.now (link_reference.entry.end - 1) + 1) callback.old callback.new (option_map target_link found)) }
         ensures stops { OnErr result (AsksOfReference F.answers (definition reader.now.references.now (fold (as_label (is_cell_of leaf.now) link_reference.entry.label.now))) link_reference.entry.link_type (normal_form (as_label (is_cell_of leaf.now) link_reference.entry.label.now))
             (place_of leaf.now start) (place_of leaf.now (link_reference.entry.end - 1) + 1) callback.old callback.new) }
-        ensures expansion_left { IfOk result (λ found. self.new.expansion_left ≡ left_behind self.old.expansion_left found) }
+        ensures expansion_left { IfOk result (λ found. self.new.expansion_left ≡ left_after self.old.expansion_left found) }
         ensures others { self.new ≡ record self.old { expansion_left = self.new.expansion_left } }
         ensures target { IfOk result (λ found. IfSome found (λ target. (target.end ≡ link_reference.entry.end) × (target.resume ≡ link_reference.entry.resume))) }
     {
@@ -190,12 +191,12 @@ impl<'a> InlineState<'a> {
         Ok(Some(self.resolved(link, link_reference)))
     }
 
-    // The target that a reference leads to; its destination and its title are taken off what is left of the reference expansion limit.
+    // The target of a reference with this link. Subtracts the destination and the title from the rest of the reference expansion limit.
     fn resolved(&mut self, link: Link<'a>, link_reference: LinkReference<'_>) -> Target<'a>
         ensures link { result.link ≡ link.entry }
         ensures end { result.end ≡ link_reference.entry.end }
         ensures resume { result.resume ≡ link_reference.entry.resume }
-        ensures expansion_left { self.new.expansion_left ≡ left_behind self.old.expansion_left (Some result) }
+        ensures expansion_left { self.new.expansion_left ≡ left_after self.old.expansion_left (Some result) }
         ensures others { self.new ≡ record self.old { expansion_left = self.new.expansion_left } }
     {
         self.expansion_left = self
@@ -212,7 +213,7 @@ impl<'a> InlineState<'a> {
     }
 }
 
-// The link that a reference is, by the definition of its label, or else by what the callback answers.
+// The link of a reference, by the definition of its label, or else by the callback's answer. Returns `None` if there is neither.
 fn referred<'a, F: BrokenLinkCallback<'a>>(
     alloc: Global,
     leaf: &LeafText<'a>,
@@ -243,7 +244,7 @@ fn referred<'a, F: BrokenLinkCallback<'a>>(
     Ok(Some(link))
 }
 
-// The label of a reference as it counts.
+// The label by which a reference is compared. `label` is its text as written.
 fn label_of(alloc: Global, is_cell: bool, label: &str) -> Result<LinkLabel, AllocError>
     ensures key { IfOk result (λ made. link_key made ≡ fold (as_label is_cell label.now)) }
     ensures text { IfOk result (λ made. link_text made ≡ normal_form (as_label is_cell label.now)) }
@@ -252,7 +253,7 @@ fn label_of(alloc: Global, is_cell: bool, label: &str) -> Result<LinkLabel, Allo
     LinkLabel::new(alloc, written.as_str())
 }
 
-// The link that leads to a destination, whose id is the normal form of the label.
+// The link to this destination. Its id is the normal form of the label.
 fn linked<'a>(
     alloc: Global,
     link_type: LinkType,
@@ -271,7 +272,8 @@ fn linked<'a>(
     })
 }
 
-// Asks the callback where a reference leads whose label has no definition.
+// Asks the callback for the destination and the title of a reference whose label has no definition. If memory is refused, nothing was
+// asked.
 fn ask<'a, F: BrokenLinkCallback<'a>>(
     alloc: Global,
     leaf: &LeafText<'a>,

@@ -1,9 +1,9 @@
-//! Delimiter runs where they stand (CommonMark 6.2).
+//! Delimiter runs (CommonMark 6.2).
 
 ghost use Rattle.std.specs.Prelude.{◌≡◌, ◌⊎◌, true, ◌<◌, ◌≤◌, ◌+◌, ◌-◌, ◌++◌, ℕ, Bool, length, slice_index, IfOk, OnOk};
 ghost use Rattle.cmark_grammar.specs.Flanking.{is_run_delimiter};
 ghost use Rattle.cmark_grammar.specs.Answers.{Lookup};
-ghost use Rattle.cmark_text_parts.specs.Shown.{shown_options};
+ghost use Rattle.cmark_values.specs.Shown.{shown_options};
 ghost use Rattle.cmark_leaf_text.specs.Reads.{IsPart};
 ghost use Rattle.cmark_inline.specs.ReadsOn.{ReadsOn};
 ghost use Rattle.cmark_inline.specs.Stands.{IsAtByte, Stands};
@@ -19,6 +19,8 @@ use cmark_text::Options;
 use std::alloc::AllocError;
 
 impl<'a> InlineState<'a> {
+    // Reads a run of the byte `delimiter`. If it can open or close a span, each of its bytes gets a slot; otherwise it becomes pending
+    // text.
     pub(crate) fn run(
         &mut self,
         text: &str,
@@ -60,7 +62,7 @@ impl<'a> InlineState<'a> {
         })
     }
 
-    // Appends a text for each of these bytes of ASCII.
+    // Appends a text for each ASCII byte from `start` to `end`.
     fn push_bytes(&mut self, text: &str, start: usize, end: usize) -> Result<(), AllocError>
         requires stands { Stands text.now start self.old }
         requires part { IsPart text.now start end }

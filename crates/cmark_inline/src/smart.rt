@@ -8,7 +8,7 @@ ghost use Rattle.cmark_inline.specs.ReadsOn.{ReadsOn};
 ghost use Rattle.cmark_inline.specs.Stands.{IsAtByte, Moves};
 ghost use Rattle.cmark_inline.specs.Tokens.{Appends, AppendsQuote, Passes};
 
-use crate::place::{behind, character_at, character_before, pass, run_end};
+use crate::place::{character_at, character_before, following, pass, run_end};
 use crate::state::InlineState;
 use crate::step::Cursor;
 use cmark_emphasis::quote_of;
@@ -17,7 +17,7 @@ use cmark_text::CowStr;
 use std::alloc::{AllocError, Global};
 
 impl<'a> InlineState<'a> {
-    // A dot: three of them are an ellipsis.
+    // Reads a dot: three dots are an ellipsis, and any other dot is text.
     pub(crate) fn dots(&mut self, text: &str, here: Cursor) -> Result<Cursor, AllocError>
         requires byte { IsAtByte text.now here self.old }
         ensures reads_on { ReadsOn text.now here self.old self.new result }
@@ -34,7 +34,7 @@ impl<'a> InlineState<'a> {
         self.put(text, here, here.at, slot)
     }
 
-    // A run of hyphens: two and more are dashes.
+    // Reads a run of hyphens: two or more are dashes, and a single hyphen is text.
     pub(crate) fn hyphens(&mut self, text: &str, here: Cursor) -> Result<Cursor, AllocError>
         requires byte { IsAtByte text.now here self.old }
         ensures reads_on { ReadsOn text.now here self.old self.new result }
@@ -55,7 +55,7 @@ impl<'a> InlineState<'a> {
         self.put(text, here, here.at, slot)
     }
 
-    // A quote, whose character stands with those of its siblings.
+    // Reads a quote. Its character depends on the quotes among its siblings, so it is chosen once they are all read.
     #[tactic(auto, using(std::proofs::lemmas::Str::lead_after_ascii))]
     pub(crate) fn quote(&mut self, text: &str, here: Cursor) -> Result<Cursor, AllocError>
         requires byte { IsAtByte text.now here self.old }
@@ -64,7 +64,7 @@ impl<'a> InlineState<'a> {
         ensures moves { IfOk result (Moves text.now here.at self.new) }
         ensures token { (options : Options) (lookup : Lookup) (is_cell : Bool) → options.smart_punctuation ≡ true → (slice_index text.now here.at ≡ 34) ⊎ (slice_index text.now here.at ≡ 39) → IfOk result (AppendsQuote options lookup is_cell text.now here self.old self.new) }
     {
-        let end = behind(text, here.at);
+        let end = following(text, here.at);
         let before = character_before(text, here.at);
         let after = character_at(text, end);
         let quote = quote_of(text.as_bytes()[here.at] == b'"', before, after);
@@ -83,14 +83,14 @@ impl<'a> InlineState<'a> {
     }
 }
 
-/// So many em dashes, and then so many en dashes.
+/// The numbers of em dashes and of en dashes. The em dashes come first.
 #[derive(Clone, Copy)]
 struct Dashes {
     em: usize,
     en: usize,
 }
 
-/// The dashes that so many hyphens are.
+/// The dashes for a run of `size` hyphens.
 fn dashes_of(size: usize) -> Dashes
     requires { 2 ≤ size }
     ensures value { record { em = result.em; en = result.en } ≡ grammar.dashes_of size }
@@ -120,7 +120,7 @@ fn dashes_of(size: usize) -> Dashes
     }
 }
 
-/// The dashes that so many hyphens are.
+/// The text of the dashes for a run of `size` hyphens. Fails only if memory is refused.
 fn dash_text(alloc: Global, size: usize) -> Result<String, AllocError>
     requires { 2 ≤ size }
     ensures { IfOk result (λ text. string_bytes text ≡ grammar.dash_text (grammar.dashes_of size)) }
@@ -132,7 +132,7 @@ fn dash_text(alloc: Global, size: usize) -> Result<String, AllocError>
     Ok(out)
 }
 
-/// Appends a character so many times.
+/// Appends `character` to `out`, `times` times.
 fn push_times(out: &mut String, character: char, times: usize) -> Result<(), AllocError>
     ensures { OnOk result (string_bytes out.new ≡ string_bytes out.old ++ grammar.repeated character times) }
 {

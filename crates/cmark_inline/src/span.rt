@@ -5,8 +5,8 @@ ghost use Rattle.cmark_grammar.specs.Answers.{Lookup};
 ghost use Rattle.cmark_grammar.specs.CodeSpans.{code_in};
 ghost use Rattle.cmark_grammar.specs.Options.{Options as OptionsRead};
 ghost use Rattle.cmark_grammar.specs.Siblings.{address_type};
-ghost use Rattle.cmark_text_parts.specs.Shown.{shown_link_type, shown_options};
-ghost use Rattle.cmark_finds.specs.Backticks.{AreRunsOf};
+ghost use Rattle.cmark_values.specs.Shown.{shown_link_type, shown_options};
+ghost use Rattle.cmark_span_scan.specs.Backticks.{AreRunsOf};
 ghost use Rattle.cmark_leaf_text.specs.Reads.{IsRead, IsPart, text_of};
 ghost use Rattle.cmark_inline.specs.Linked.{IsAutolink};
 ghost use Rattle.cmark_references.specs.declared.link.Link.{Link as Links};
@@ -20,19 +20,19 @@ ghost use Rattle.cmark_slots.specs.Standing.{AreEnded};
 ghost use Rattle.cmark_inline.specs.Sound.{IsSound};
 
 use crate::markup::Unclosed;
-use crate::place::{autolink_end, behind, is_followed_by, pass, run_end, text_start};
+use crate::place::{autolink_end, following, is_followed_by, pass, run_end, text_start};
 use crate::state::InlineState;
 use crate::step::Cursor;
-use cmark_finds::BacktickRuns;
 use cmark_leaf_text::LeafText;
 use cmark_references::Link;
-use cmark_scan_parts::has_scheme;
+use cmark_scan_bytes::has_scheme;
 use cmark_slots::slot::{Element, Slot, SlotKind};
 use cmark_slots::text::text_between;
+use cmark_span_scan::BacktickRuns;
 use cmark_text::{CowStr, LinkType, Options};
 use std::alloc::AllocError;
 
-// The type of the link that an address makes: a URI if a scheme begins it, and else an email address.
+// The type of an autolink with this address: a URI if the address begins with a scheme, and otherwise an email address.
 fn address_type(address: &str) -> LinkType
     ensures { shown_link_type result ≡ address_type address.now }
 {
@@ -44,7 +44,7 @@ fn address_type(address: &str) -> LinkType
 }
 
 impl<'a> InlineState<'a> {
-    // A run of backticks: a code span (CommonMark 6.1), or text. `runs` are those of this text.
+    // Reads a run of backticks: it opens a code span (CommonMark 6.1), or is text. `runs` are the runs of this text.
     pub(crate) fn backticks(
         &mut self,
         runs: &mut BacktickRuns,
@@ -78,7 +78,8 @@ impl<'a> InlineState<'a> {
         self.put(text, here, start, slot)
     }
 
-    // `<`: an autolink (CommonMark 6.5), inline HTML (CommonMark 6.6), or text. `unclosed` is what was sought in vain in this leaf.
+    // Reads `<`: it begins an autolink (CommonMark 6.5) or inline HTML (CommonMark 6.6), or is text. `unclosed` remembers the searches in
+    // this leaf that found no end.
     #[tactic(auto, using(std::proofs::lemmas::Str::lead_after_ascii))]
     pub(crate) fn less_than(
         &mut self,
@@ -120,12 +121,12 @@ impl<'a> InlineState<'a> {
         let slot = Slot {
             kind: SlotKind::Text,
             start: here.at,
-            end: behind(text, here.at),
+            end: following(text, here.at),
         };
         self.put(text, here, here.at, slot)
     }
 
-    // An autolink, whose text and destination is its address.
+    // Appends an autolink from the cursor to the offset `end`. Its address is its text and its destination.
     fn autolink(
         &mut self,
         leaf: &LeafText<'a>,

@@ -15,29 +15,30 @@ use cmark_slots::slot::Slot;
 use cmark_text::CowStr;
 use std::alloc::Global;
 
-/// The least reference expansion limit, for short sources.
+/// The reference expansion limit of a source that is shorter than this, in bytes of destinations and titles.
 pub const LEAST_REFERENCE_EXPANSION_LIMIT: usize = 100_000;
 
-/// The spans of one leaf after the other. Its memory is used again.
+/// The state of the inline pass, with its result for one leaf at a time: slots, texts and links. Each leaf reuses the memory of the one
+/// before.
 #[derive(Drop)]
 pub struct InlineState<'a> {
     pub(crate) alloc: Global,
-    /// The slots of the leaf that was resolved last.
+    /// The slots of the last resolved leaf.
     pub slots: Vec<Slot>,
     pub(crate) brackets: Brackets,
-    /// Two brackets that touch, each pair as one; the nearest is the last.
+    /// Doubled brackets, in the order of the text. Each is a pair of opening brackets that touch, kept as one bracket.
     pub(crate) doubled: Brackets,
     pub(crate) delimiters: Delimiters,
     pub(crate) quotes: Quotes,
-    /// The texts that its slots name.
+    /// The texts that slots name by their index.
     pub texts: Vec<CowStr<'a>>,
-    /// The links that they name.
+    /// The links that slots name by their index.
     pub links: Vec<Link<'a>>,
     pub(crate) expansion_left: usize,
     pub(crate) label_close: Option<usize>,
-    /// What the searches have taken so far.
+    /// The steps of the searches so far.
     pub(crate) steps: Steps,
-    /// Whether memory was refused.
+    /// Whether memory was refused. Then `resolve` always fails.
     pub(crate) failed: bool,
 }
 
@@ -80,13 +81,14 @@ impl<'a> InlineState<'a> {
         }
     }
 
-    /// What the searches in the leaves so far have taken.
+    /// The steps that the searches in all leaves so far have taken. A leaf for which memory was refused adds nothing.
     pub fn steps(&self) -> Steps
         ensures { result ≡ self.now.steps }
     {
         self.steps
     }
 
+    // Clears the state for the next leaf. The counted steps and the rest of the reference expansion limit stay.
     pub(crate) fn clear(&mut self)
         ensures stands { (text : List ℕ) → Stands text 0 self.new }
         ensures sound { IsSound self.new }

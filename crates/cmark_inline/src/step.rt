@@ -2,8 +2,8 @@
 
 ghost use Rattle.std.specs.Prelude.{◌≡◌, ◌==◌, true, false, ◌<◌, ◌≤◌, ◌+◌, ◌*◌, ◌++◌, ◌∷◌, ℕ, [], drop, length, take, slice_index, Err, IfOk, IsOk, OnErr, OnOk, alloc_error};
 ghost use Rattle.std.specs.Str.{IsCharBoundary};
-ghost use Rattle.cmark_finds.specs.Backticks.{AreRunsOf};
-ghost use Rattle.cmark_finds.specs.Dollars.{AreDollarsOf};
+ghost use Rattle.cmark_span_scan.specs.Backticks.{AreRunsOf};
+ghost use Rattle.cmark_span_scan.specs.Dollars.{AreDollarsOf};
 ghost use Rattle.cmark_leaf_text.specs.Reads.{IsRead, source_of, text_of};
 ghost use Rattle.cmark_inline.specs.Asking.{AsksBetween, AsksUpTo, closing_brackets};
 ghost use Rattle.cmark_inline.specs.Counted.{Counts, total};
@@ -23,33 +23,33 @@ ghost use Rattle.cmark_slots.specs.SlotViews.{CanBeGiven};
 ghost use Rattle.cmark_inline.specs.SpecialReads.{ReadsSpecial};
 ghost use Rattle.cmark_inline.specs.Tokens.{Puts, read_on};
 ghost use Rattle.cmark_inline.specs.Uses.{RiseBetween, RiseUpTo};
-ghost use Rattle.cmark_grammar.specs.SpecialBytes.{is_special};
+ghost use Rattle.cmark_inline_model.specs.SpecialBytes.{is_special};
 ghost use Rattle.cmark_search.specs.Sets.{in_rows};
-ghost use Rattle.cmark_text_parts.specs.Shown.{shown_options};
+ghost use Rattle.cmark_values.specs.Shown.{shown_options};
 ghost use Rattle.std.specs.List.{position_or_len};
 
 use crate::callback::BrokenLinkCallback;
 use crate::markup::Unclosed;
-use crate::place::{behind, onto_words};
+use crate::place::{following, onto_words};
 use crate::read::Reader;
 use crate::state::InlineState;
-use cmark_finds::{BacktickRuns, Dollars};
 use cmark_leaf_text::LeafText;
 use cmark_references::FootnoteDefs;
 use cmark_slots::slot::{Slot, push_slot, push_text};
+use cmark_span_scan::{BacktickRuns, Dollars};
 use cmark_text::EntityLookup;
 use std::alloc::AllocError;
 
-/// How far a text was read.
+/// How far a text was read, in byte offsets of the text.
 #[derive(Clone, Copy)]
 pub struct Cursor {
-    /// Where the text begins that stands in no slot yet.
+    /// The start of the pending text, which has no slot yet.
     pub pending: usize,
-    /// The place that is reached.
+    /// The offset up to which the text was read.
     pub at: usize,
 }
 
-/// What the searches in one leaf remember: its runs of backticks, its dollar signs, and the markup that was sought in vain.
+/// The memory of the searches in one leaf: its runs of backticks, its dollar signs, and the kinds of markup whose end was not found.
 #[derive(Drop)]
 pub struct Sought {
     pub runs: BacktickRuns,
@@ -58,11 +58,12 @@ pub struct Sought {
 }
 
 impl<'a> InlineState<'a> {
-    /// Reads the text of a leaf: its slots are then those of the leaf, and the texts and links those that they name.
-    /// Each footnote reference that is formed adds one to the use count of its footnote in `footnotes`. No other count changes.
+    /// Reads the text of `leaf`. Afterwards `slots` holds its slots, and `texts` and `links` the texts and links that they name. Each
+    /// footnote reference that is formed adds one to the use count of its footnote in `footnotes`. No other count changes.
     ///
-    /// If memory is refused, the references before stay counted, and `callback` was asked the first questions of a reading of the leaf, no
-    /// others. Each later call is refused too. A leaf without a byte, as an empty cell, takes no memory.
+    /// Fails only if memory is refused. The references that were formed before stay counted then. `callback` was asked the first questions
+    /// of a reading of the leaf, and no others. Nothing is promised of the slots, and each later call fails too. A leaf without a byte,
+    /// such as an empty cell, takes no memory.
     #[inline(always)]
     pub fn resolve<E: EntityLookup, F: BrokenLinkCallback<'a>>(
         &mut self,
@@ -101,7 +102,7 @@ impl<'a> InlineState<'a> {
         done
     }
 
-    // The same, whatever was refused before.
+    // Reads the text of `leaf` as `resolve` does, even after memory was refused.
     #[inline(always)]
     fn read_leaf<E: EntityLookup, F: BrokenLinkCallback<'a>>(
         &mut self,
@@ -158,8 +159,8 @@ impl<'a> InlineState<'a> {
         Ok(())
     }
 
-    // Reads on to behind the next special byte, and what begins there; where none is left, to the end, and the bytes up to there stay
-    // pending. `ahead` begins with the text, and may go on behind it. It stands in the one loop that calls it.
+    // Reads on to the next special byte, and the token that begins there. If no special byte is left, reads to the end, and the bytes up to
+    // there stay pending. `ahead` begins with the text and may continue after it. The function is inlined into the one loop that calls it.
     #[inline(always)]
     fn step<E: EntityLookup, F: BrokenLinkCallback<'a>>(
         &mut self,
@@ -222,7 +223,7 @@ impl<'a> InlineState<'a> {
         self.span(leaf, reader, sought, text, here)
     }
 
-    // Reads what begins with a special byte that is no closing bracket.
+    // Reads the token at the cursor, which begins with a special byte other than a closing bracket.
     fn span<E: EntityLookup>(
         &mut self,
         leaf: &LeafText<'a>,
@@ -260,7 +261,7 @@ impl<'a> InlineState<'a> {
             b'!' => self.exclamation(reader.options, text, here),
             b'$' => self.dollar(&mut sought.dollars, text, here),
             b'[' => {
-                let inside = behind(text, here.at);
+                let inside = following(text, here.at);
                 self.open_bracket(reader.options, text, here, inside, false)
             }
             b'.' => self.dots(text, here),
@@ -270,7 +271,7 @@ impl<'a> InlineState<'a> {
         }
     }
 
-    // Appends a slot among those before a place.
+    // Appends a slot that ends at or before the offset `place`.
     pub(crate) fn add(&mut self, text: &str, place: usize, slot: Slot) -> Result<(), AllocError>
         requires stands { Stands text.now place self.old }
         requires slot { IsSlot text.now place slot }
@@ -286,7 +287,7 @@ impl<'a> InlineState<'a> {
         push_slot(&mut self.slots, slot.kind, slot.start, slot.end)
     }
 
-    // Appends the text that is pending up to a place.
+    // Appends the pending text up to the offset `text_end`, unless it is empty.
     pub(crate) fn flush(
         &mut self,
         text: &str,
@@ -307,7 +308,8 @@ impl<'a> InlineState<'a> {
         push_text(&mut self.slots, here.pending, text_end)
     }
 
-    // Appends the text that is pending up to a place, and then a slot; the text is read on behind that.
+    // Appends the pending text up to the offset `text_end`, unless it is empty, and then `slot`. Returns the cursor after the slot.
+    #[inline(always)]
     pub(crate) fn put(
         &mut self,
         text: &str,
@@ -318,7 +320,7 @@ impl<'a> InlineState<'a> {
         requires stands { Stands text.now here.pending self.old }
         requires starts { IsCharBoundary text.now here.pending }
         requires stops { IsCharBoundary text.now text_end }
-        requires behind { here.pending ≤ text_end }
+        requires following { here.pending ≤ text_end }
         requires ordered { text_end < slot.end }
         requires slot { IsSlot text.now slot.end slot }
         requires further { here.at < slot.end }
@@ -340,7 +342,7 @@ impl<'a> InlineState<'a> {
         })
     }
 
-    // The same; the text is read on behind the blanks in front of the line that begins there, if one does.
+    // Like `put`. If a line begins after the slot, the returned cursor is after the blanks of that line.
     #[inline(always)]
     pub(crate) fn put_onto_words(
         &mut self,
@@ -352,7 +354,7 @@ impl<'a> InlineState<'a> {
         requires stands { Stands text.now here.pending self.old }
         requires starts { IsCharBoundary text.now here.pending }
         requires stops { IsCharBoundary text.now text_end }
-        requires behind { here.pending ≤ text_end }
+        requires following { here.pending ≤ text_end }
         requires ordered { text_end < slot.end }
         requires slot { IsSlot text.now slot.end slot }
         requires further { here.at < slot.end }

@@ -1,23 +1,23 @@
-//! How much the searches of the inline pass look at.
+//! Counts of the steps that the searches of the inline pass take.
 
 ghost use Rattle.std.specs.Prelude.{◌≡◌, ◌<◌, ◌+◌, ◌^◌};
 ghost use Rattle.cmark_inline.specs.Paid.{HasRoom};
 
 use crate::step::Sought;
 
-/// What searches have looked at so far.
+/// The numbers of steps that searches have taken so far.
 #[derive(Clone, Copy, Debug, PartialEq, Eq)]
 pub struct Steps {
-    /// How many bytes were passed in search of the ends of comments, processing instructions, declarations and CDATA sections.
+    /// The number of bytes passed in searches for the ends of comments, processing instructions, declarations and CDATA sections.
     pub html: u128,
-    /// How many open delimiter runs were examined for runs that close.
+    /// The number of open delimiter runs examined for closing ones.
     pub openers: u128,
-    /// How many runs of backticks and dollar signs were visited in search of those that close.
+    /// The number of runs of backticks and of dollar signs visited in searches for closing ones.
     pub closers: u128,
 }
 
 impl Steps {
-    // Counts what the searches in a leaf have looked at, and how many open runs were examined in it.
+    // Adds the steps of the searches in one leaf, in which `examined` open delimiter runs were examined.
     pub(crate) fn count(&mut self, sought: &Sought, examined: u128)
         requires room { HasRoom self.old }
         requires few { (sought.now.unclosed.passed + sought.now.runs.visited) + (sought.now.dollars.visited + examined) < 2 ^ 127 }

@@ -10,19 +10,19 @@ ghost use Rattle.cmark_inline.specs.Tokens.{Appends, Escapes, EscapesPipe, Passe
 ghost use Rattle.cmark_slots.specs.declared.slot.SlotKind.TheVariants as slot_kind;
 
 use crate::place::{
-    before_blanks, behind, end_behind, is_escape, is_lone_backtick, is_pipe_escape, pass,
+    before_blanks, following, following_end, is_escape, is_lone_backtick, is_pipe_escape, pass,
 };
 use crate::state::InlineState;
 use crate::step::Cursor;
-use cmark_links::line_break;
-use cmark_scan_parts::scan_entity;
+use cmark_link_scan::line_break;
+use cmark_scan_bytes::scan_entity;
 use cmark_slots::slot::{Slot, SlotKind};
 use cmark_text::EntityLookup;
 use std::alloc::AllocError;
 
 impl<'a> InlineState<'a> {
-    // A line ends: a soft break, or a hard one where two spaces stand before it (CommonMark 6.7 and 6.8). The blanks in front of
-    // the next line go with it.
+    // Reads a line ending: a hard break if two spaces are directly before it, otherwise a soft break (CommonMark 6.7 and 6.8). The blanks
+    // before the next line are skipped.
     pub(crate) fn line_ending(&mut self, text: &str, here: Cursor) -> Result<Cursor, AllocError>
         requires byte { IsAtByte text.now here self.old }
         ensures reads_on { ReadsOn text.now here self.old self.new result }
@@ -37,8 +37,8 @@ impl<'a> InlineState<'a> {
         self.put_onto_words(text, here, text_end, slot)
     }
 
-    // A backslash: a hard break before a line end (CommonMark 6.7), or an escape (CommonMark 2.4). In the cell of a table it escapes a
-    // backslash before a pipe together with the pipe (this profile's own).
+    // Reads a backslash: it is a hard break before a line ending (CommonMark 6.7), begins an escape (CommonMark 2.4), or is text. In a
+    // table's cell, two backslashes before a pipe are dropped, and the pipe is text (this profile's own).
     #[tactic(auto, using(std::proofs::lemmas::Str::lead_after_ascii))]
     pub(crate) fn backslash(
         &mut self,
@@ -61,8 +61,8 @@ impl<'a> InlineState<'a> {
         if !is_escape(text, here.at) {
             return Ok(pass(text, here));
         }
-        let escaped = behind(text, here.at);
-        let end = behind(text, escaped);
+        let escaped = following(text, here.at);
+        let end = following(text, escaped);
         if is_lone_backtick(text, escaped) {
             let slot = Slot {
                 kind: SlotKind::Text,
@@ -75,7 +75,7 @@ impl<'a> InlineState<'a> {
         if is_cell && is_pipe_escape(text, escaped) {
             return Ok(Cursor {
                 pending: end,
-                at: behind(text, end),
+                at: following(text, end),
             });
         }
         Ok(Cursor {
@@ -84,7 +84,7 @@ impl<'a> InlineState<'a> {
         })
     }
 
-    // An entity or a numeric character reference (CommonMark 2.5).
+    // Reads `&`: it begins an entity or a numeric character reference (CommonMark 2.5), or is text.
     pub(crate) fn entity<E: EntityLookup>(
         &mut self,
         text: &str,
@@ -98,7 +98,7 @@ impl<'a> InlineState<'a> {
         let Some(entity) = scan_entity(text[here.at..].as_bytes(), entities) else {
             return Ok(pass(text, here));
         };
-        let Some(end) = end_behind(text, here.at, entity.len) else {
+        let Some(end) = following_end(text, here.at, entity.len) else {
             return Ok(pass(text, here));
         };
         let slot = Slot {
@@ -112,14 +112,15 @@ impl<'a> InlineState<'a> {
     }
 }
 
-/// Whether the last two bytes are two spaces.
+/// Whether the bytes end with two spaces.
 fn ends_with_two_spaces(bytes: &[u8]) -> bool
     ensures { result ≡ ends_with_two_spaces bytes.now }
 {
     bytes.ends_with(b"  ")
 }
 
-/// The break of a line whose last blanks begin at `text_end`, and whose ending begins at `at`: a hard one begins with the blanks.
+/// The slot of a line break. The line ending begins at `at`, and the blanks before it at `text_end`. Only a hard break includes these
+/// blanks.
 fn break_slot(is_hard: bool, text_end: usize, at: usize, end: usize) -> Slot
     ensures { result ≡ record { kind = if is_hard then slot_kind.HardBreak else slot_kind.SoftBreak; start = if is_hard then text_end else at; end = end } }
 {

@@ -4,7 +4,7 @@ ghost use Rattle.std.specs.Prelude.{◌≡◌, ◌⊎◌, ◌≤◌, ◌<◌, �
 ghost use Rattle.std.specs.Str.{IsCharBoundary};
 ghost use Rattle.cmark_grammar.specs.BracketDecisions.{name_in};
 ghost use Rattle.cmark_leaf_text.specs.Reads.{IsRead, IsPart, text_of};
-ghost use Rattle.cmark_text_parts.specs.Shown.{shown_options};
+ghost use Rattle.cmark_values.specs.Shown.{shown_options};
 ghost use Rattle.cmark_grammar.specs.Letters.{first_is};
 ghost use Rattle.cmark_inline.specs.Closers.{LeavesWikilink, TriesDoubled};
 ghost use Rattle.cmark_slots.specs.Doubled.{nearest};
@@ -27,25 +27,25 @@ use crate::step::Cursor;
 use bitflags::Flags;
 use cmark_leaf_text::LeafText;
 use cmark_references::Link;
-use cmark_scan_parts::scan_wikilink_pipe;
+use cmark_scan_bytes::scan_wikilink_pipe;
 use cmark_slots::bracket::Bracket;
-use cmark_slots::slot::{Element, SlotKind, begin, cut, first_behind, hide, push_slot};
+use cmark_slots::slot::{Element, SlotKind, begin, cut, first_after, hide, push_slot};
 use cmark_text::{CowStr, LinkType, Options};
 use std::alloc::AllocError;
 
-/// A wikilink as it is written between its brackets.
+/// The parts of a wikilink between its brackets.
 #[derive(Clone, Copy)]
 pub struct Wikilink<'a> {
-    /// What stands in the source before the first pipe.
+    /// The bytes of the source before the first pipe, or before the closing bracket if there is no pipe.
     pub name: &'a str,
-    /// The place behind the first pipe, if there is one.
+    /// The offset of the first byte of the leaf's text after the first pipe, if there is a pipe.
     pub display: Option<usize>,
-    /// Where the closing bracket stands in the source.
+    /// The offset of the closing bracket in the source.
     pub source_end: usize,
 }
 
-/// The wikilink of a doubled bracket and the closing one at `close`. Its name is a part of the source, with the prefixes of later
-/// lines. `None` where nothing stands between the two, or no name.
+/// The wikilink between a doubled bracket and the closing bracket at `close`. Its name is a slice of the source, with the prefixes of later
+/// lines. Returns `None` if nothing is between the brackets, or if the name is empty.
 fn wikilink_at<'a>(
     leaf: &LeafText<'a>,
     text: &str,
@@ -87,7 +87,7 @@ fn wikilink_at<'a>(
     })
 }
 
-// The link of an index, or the image.
+// The element of the link with this index, or of the image if `is_image`.
 pub(crate) fn linked_element(is_image: bool, index: usize) -> Element
     ensures value { result ≡ (if is_image then element.Image index else element.Link index) }
     ensures names { link_of result ≡ Some index }
@@ -99,7 +99,7 @@ pub(crate) fn linked_element(is_image: bool, index: usize) -> Element
     }
 }
 
-// A wikilink leads by its name, and has no title and no label.
+// The link of a wikilink. Its name is the destination, and its title and its id are empty.
 fn named_link(wikilink: Wikilink<'_>) -> Link<'_>
     ensures { IsNamed wikilink.entry result }
 {
@@ -114,8 +114,8 @@ fn named_link(wikilink: Wikilink<'_>) -> Link<'_>
 }
 
 impl<'a> InlineState<'a> {
-    // The wikilink that the closing bracket at `close` ends with another one behind it: the nearest doubled bracket is tried, and
-    // so used up. `None` where it forms none.
+    // If two closing brackets are at `close`, tries to form a wikilink with the nearest doubled bracket, which is then used up. Returns the
+    // cursor after the wikilink. Returns `None` if no wikilink is formed, or if wikilinks are not read.
     pub(crate) fn wikilink(
         &mut self,
         leaf: &LeafText<'a>,
@@ -163,7 +163,7 @@ impl<'a> InlineState<'a> {
         }))
     }
 
-    // Forms a wikilink: no doubled bracket before it is tried any more, and no bracket before it forms a link.
+    // Forms a wikilink. After it, no earlier doubled bracket is tried, and no earlier bracket forms a link.
     fn form_wikilink(
         &mut self,
         options: Options,
@@ -201,14 +201,14 @@ impl<'a> InlineState<'a> {
         self.finish(options, inside, close, end)?;
         self.quotes.truncate(doubled.quotes);
         self.delimiters.truncate(doubled.runs);
-        self.brackets.drop_behind(doubled.start);
+        self.brackets.drop_after(doubled.start);
         self.brackets.deactivate_all();
         self.doubled.clear();
         Ok(())
     }
 
-    // Leaves of the slots behind a doubled bracket those that its wikilink shows: its name as one text, or what stands behind the
-    // pipe, where the slot that holds the byte there begins there. The answer is the bracket with what is shown as its inside.
+    // Keeps only those slots after `doubled` that the wikilink shows: its name as one text, or the slots after the pipe. A slot that
+    // contains the byte after the pipe is cut to begin there. Returns `doubled` with the numbers of runs and quotes before the shown slots.
     fn show(
         &mut self,
         text: &str,
@@ -241,7 +241,7 @@ impl<'a> InlineState<'a> {
     {
         let place = wikilink.display.unwrap_or(close);
         let from = doubled.slot + 1;
-        let shown = first_behind(&self.slots, from, place);
+        let shown = first_after(&self.slots, from, place);
         hide(&mut self.slots, from, shown);
         cut(&mut self.slots, shown, text, place);
         let inside = Bracket {

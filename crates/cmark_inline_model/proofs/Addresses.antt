@@ -1,5 +1,5 @@
 -- Without the option for email addresses the address of each autolink is a URI.
-use Rattle.std.specs.Prelude.{Option, Some, None, ◌==◌, ◌&&◌, ◌||◌, not, nat_le, if◌then◌else◌, take, drop}
+use Rattle.std.specs.Prelude.{Some, None, ◌==◌, ◌&&◌, ◌||◌, not, nat_le, if◌then◌else◌, take, drop}
 use Rattle.std.specs.List.{prefix_len}
 use Rattle.std.proofs.Common.{◌≡◌, ◌⊎◌, inl, inr, ℕ, suc, ◌+◌, ◌≤◌, Bool, true, false, List, [], ◌∷◌, refl, sym, ap, ◌∙◌, subst, arith, cond, eqb-true, true≢false}
 use Rattle.std.proofs.lemmas.Bool.{and_parts, or_cases, leb-true, false_from_ne_true}
@@ -153,7 +153,7 @@ module _ (options : Options) where
       by (inl h) = by_uri (taken bs) (scheme_taken bs h)
       by (inr h) = by_email (taken bs) (and_parts options.email_autolinks (is_email (take n bs)) h).0
 
-      closed : IsLinkGiven options (address_type (taken bs)) → (z : Bool) → (if z then Some (record { bytes = take n bs; behind = drop (suc n) bs }) else None) ≡ Some found → IsLinkGiven options (address_type found.bytes)
+      closed : IsLinkGiven options (address_type (taken bs)) → (z : Bool) → (if z then Some (record { bytes = take n bs; following = drop (suc n) bs }) else None) ≡ Some found → IsLinkGiven options (address_type found.bytes)
       closed g true f = let same : take n bs ≡ found.bytes = cc in subst (λ l. IsLinkGiven options (address_type l)) same g
       closed g false f = absurd (none found f)
 

@@ -7,14 +7,14 @@ use Rattle.cmark_grammar.specs.BlockDocument.{BlockDocument, BlockNode, Nil, Nod
 use Rattle.cmark_grammar.specs.BlockReading.{Alone, Around, First, Inside, Reads, Silent, first_event, is_leaf, over, read_as, starts_before}
 use Rattle.cmark_grammar.specs.Derivation.{Derives}
 use Rattle.cmark_grammar.specs.Event.{End, Ranged}
-use Rattle.cmark_grammar.specs.LeafSpans.{IsRange}
+use Rattle.cmark_inline_model.specs.LeafSpans.{IsRange}
 use Rattle.cmark_grammar.specs.LeafText.{Leaf}
 use Rattle.cmark_grammar.specs.Options.{Options}
-use Rattle.cmark_grammar.specs.Ranges.{AllAt, InOrder}
+use Rattle.cmark_block_model.specs.Ranges.{AllAt, InOrder}
 use Rattle.cmark_grammar.specs.SpanDocuments.{Content, Given, Segment, first_of_segments, inside_of, leaf_of, node_segments, segments, with_first_segment}
 use Rattle.cmark_grammar.specs.TagEnd.{end_of}
-use Rattle.cmark_grammar.proofs.BoundaryLaws.{derived-boundaries}
-use Rattle.cmark_grammar.proofs.RangeLaws.{derived-order}
+use Rattle.cmark_block_model.proofs.BoundaryLaws.{derived-boundaries}
+use Rattle.cmark_block_model.proofs.RangeLaws.{derived-order}
 use Rattle.cmark_inline_model.specs.CharacterRanges.{HaveRanges}
 use Rattle.cmark_inline_model.proofs.DocumentLeaves.{order-up}
 
@@ -48,12 +48,12 @@ module _ (text : List ℕ) where
   with-first (First event) starts node others r h = first starts (over node event) others r h
   with-first Silent starts node others r h = h
 
-  ranges-of : (from : ℕ) (document : BlockDocument) (to : ℕ) → InOrder from document to → to ≤ length text → AllAt (IsCharBoundary text) document → HaveRanges text (segments document)
+  pub ranges-of : (from : ℕ) (document : BlockDocument) (to : ℕ) → InOrder from document to → to ≤ length text → AllAt (IsCharBoundary text) document → HaveRanges text (segments document)
   ranges-of from Nil to order within all = tt
   ranges-of from (Node node content after) to order within all =
       let up = order-up node.start content node.end order.1 in
-      let behind = order-up node.end after to order.2 in
-      let end : node.end ≤ length text = omega (arith, behind, within) in
+      let following = order-up node.end after to order.2 in
+      let end : node.end ≤ length text = omega (arith, following, within) in
       let r : IsRange text node.start node.end = record { ordered = up; within = end; starts = all.0; ends = all.1 } in
       let own = inside_of node.kind content (segments content) in
       with-first (read_as node.kind) (starts_before after) node (node_segments (read_as node.kind) node own ++ segments after) r

@@ -49,25 +49,25 @@ module _ (token : ℕ → Token) (decide : State → (closer : Bracket) → Deci
       let d = decide h.until closer in
       let o : Outcome = record { result = Forms (openings inside) formed; after = h.next } in
       let k = recorded.keeps h.until closer in
-      let behind : Adds h.next t = reads-add h.next after t h.after in
-      let there : all ≡ h.next.asked ++ (behind.0 ++ rest) = added-before all rest h.next t behind e in
+      let following : Adds h.next t = reads-add h.next after t h.after in
+      let there : all ≡ h.next.asked ++ (following.0 ++ rest) = added-before all rest h.next t following e in
       let own : Adds h.until h.next = comes-adds h.until d o k h.comes in
-      let before : all ≡ h.until.asked ++ (own.0 ++ (behind.0 ++ rest)) = added-before all (behind.0 ++ rest) h.until h.next own there in
+      let before : all ≡ h.until.asked ++ (own.0 ++ (following.0 ++ rest)) = added-before all (following.0 ++ rest) h.until h.next own there in
       record {
         until = h.until;
         next = h.next;
         opens = h.opens;
-        inside = reads-next all (own.0 ++ (behind.0 ++ rest)) (opened opener s) inside h.until before h.inside;
+        inside = reads-next all (own.0 ++ (following.0 ++ rest)) (opened opener s) inside h.until before h.inside;
         closes = h.closes;
-        comes = comes_next h.until d o all (behind.0 ++ rest) k h.comes there;
+        comes = comes_next h.until d o all (following.0 ++ rest) k h.comes there;
         after = reads-next all rest h.next after t e h.after;
       }
   reads-next all rest s (Closing closer after) t e h =
-      let behind : Adds h.next t = reads-add h.next after t h.after in
+      let following : Adds h.next t = reads-add h.next after t h.after in
       record {
         next = h.next;
         closes = h.closes;
-        comes = comes_next s (decide s closer) (record { result = StaysText; after = h.next }) all (behind.0 ++ rest) (recorded.keeps s closer) h.comes (added-before all rest h.next t behind e);
+        comes = comes_next s (decide s closer) (record { result = StaysText; after = h.next }) all (following.0 ++ rest) (recorded.keeps s closer) h.comes (added-before all rest h.next t following e);
         after = reads-next all rest h.next after t e h.after;
       }
   reads-next all rest s (Opening opener after) t e h = (h.0, reads-next all rest (opened opener s) after t e h.1)

@@ -4,7 +4,7 @@ use Rattle.std.proofs.lemmas.Bool.{eq-eqb}
 use Rattle.cmark_grammar.specs.Items.{Bracket, Token, Stands, Opens, Closes, Ends}
 use Rattle.cmark_grammar.specs.Questions.{Plan, Exchange}
 use Rattle.cmark_grammar.specs.Parts.{Parts, Nil, Single, Form, Closing, Opening, openings}
-use Rattle.cmark_inline_model.specs.PartLists.{Cut, behind, cut_at}
+use Rattle.cmark_inline_model.specs.PartLists.{Cut, following, cut_at}
 use Rattle.cmark_grammar.specs.BracketStates.{State, Result, StaysText, Forms, Outcome, Decision, Settled, Asks}
 use Rattle.cmark_inline_model.specs.BracketPass.{Pass, pass, outcome_by, formed_by, resulting, stepped, step, run, end_by}
 use Rattle.cmark_inline_model.specs.Progress.{Always, FitsBy, Fits, IsForward}
@@ -15,9 +15,9 @@ abbrev IsThere : ℕ → ℕ → Option Cut → Type 0
 IsThere nearer size None = size ≤ nearer
 IsThere nearer size (Some cut) = ℕ
 
-there_behind : (nearer size : ℕ) (piece : Parts) (cut : Option Cut) → IsThere nearer size cut → IsThere nearer size (behind piece cut)
-there_behind nearer size piece None h = h
-there_behind nearer size piece (Some cut) h = 0
+there_after : (nearer size : ℕ) (piece : Parts) (cut : Option Cut) → IsThere nearer size cut → IsThere nearer size (following piece cut)
+there_after nearer size piece None h = h
+there_after nearer size piece (Some cut) h = 0
 
 ne_true : (a b : ℕ) → (a == b) ≡ false → a ≢ b
 ne_true a b e s = let f : (a == b) ≡ true = eq-eqb a b s in let d : ⊥ = cc in d
@@ -27,13 +27,13 @@ below a b e h = let n = ne_true a b e in omega (arith, n)
 
 is_there : (nearer : ℕ) (whole : Parts) → IsThere nearer (openings whole) (cut_at nearer whole)
 is_there nearer Nil = omega arith
-is_there nearer (Single item after) = there_behind nearer (openings after) (Single item Nil) (cut_at nearer after) (is_there nearer after)
-is_there nearer (Form opener inside closer formed after) = there_behind nearer (openings after) (Form opener inside closer formed Nil) (cut_at nearer after) (is_there nearer after)
-is_there nearer (Closing closer after) = there_behind nearer (openings after) (Closing closer Nil) (cut_at nearer after) (is_there nearer after)
+is_there nearer (Single item after) = there_after nearer (openings after) (Single item Nil) (cut_at nearer after) (is_there nearer after)
+is_there nearer (Form opener inside closer formed after) = there_after nearer (openings after) (Form opener inside closer formed Nil) (cut_at nearer after) (is_there nearer after)
+is_there nearer (Closing closer after) = there_after nearer (openings after) (Closing closer Nil) (cut_at nearer after) (is_there nearer after)
 is_there nearer (Opening opener after) = go (openings after == nearer) refl (cut_at nearer after) (is_there nearer after)
   where
     go : (x : Bool) → (openings after == nearer) ≡ x → (cut : Option Cut) → IsThere nearer (openings after) cut
-        → IsThere nearer (suc (openings after)) (if x then Some (record { before = Nil; opener = opener; inside = after }) else behind (Opening opener Nil) cut)
+        → IsThere nearer (suc (openings after)) (if x then Some (record { before = Nil; opener = opener; inside = after }) else following (Opening opener Nil) cut)
     go true e cut k = 0
     go false e (Some cut) k = 0
     go false e None k = below (openings after) nearer e k

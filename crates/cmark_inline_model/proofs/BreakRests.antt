@@ -5,9 +5,9 @@ use Rattle.std.proofs.lemmas.List.{get_or-drop}
 use Rattle.cmark_grammar.specs.Columns.{is_blank_byte}
 use Rattle.cmark_grammar.specs.Letters.{and_then}
 use Rattle.cmark_grammar.specs.LineBreaks.{LineBreak, hard_break, blank_break, ends_with_two_spaces, backslash_break_in, blank_break_in}
-use Rattle.cmark_grammar.specs.LinkDefinitions.{behind_blanks}
-use Rattle.cmark_grammar.specs.Tags.{behind_line_feed, behind_ending}
-use Rattle.cmark_grammar.proofs.RowEdges.{Front}
+use Rattle.cmark_grammar.specs.LinkDefinitions.{after_leading_blanks}
+use Rattle.cmark_grammar.specs.Tags.{after_line_feed, after_ending}
+use Rattle.cmark_block_model.proofs.RowEdges.{Front}
 use Rattle.cmark_inline_model.proofs.WordBytes.{or-either, IsWord, Leads, while-leads, word-is}
 
 -- `more` further bytes belong to the line ending at `at`: 0, or 1 after a carriage return
@@ -19,7 +19,7 @@ pub record TakesBreak (l : List ℕ) (found : LineBreak) : Type 0 where
   pub more : ℕ
   pub leads : Leads IsWord blanks l
   pub begins : found.before ≤ blanks
-  pub behind : found.behind ≡ drop (blanks + suc more) l
+  pub following : found.following ≡ drop (blanks + suc more) l
   pub fits : blanks + suc more ≤ length l
   pub ending : IsEnding l blanks more
   pub ascii : get_or l (blanks + more) 0 < 128
@@ -30,7 +30,7 @@ BreakTaken l (Some found) = TakesBreak l found
 
 record TakesEnding (l r : List ℕ) : Type 0 where
   more : ℕ
-  behind : r ≡ drop (suc more) l
+  following : r ≡ drop (suc more) l
   fits : suc more ≤ length l
   ending : IsEnding l 0 more
   ascii : get_or l more 0 < 128
@@ -43,22 +43,22 @@ when : {A : Type 0} (P : A → Type 0) (b : Bool) (x y : A) → (b ≡ true → 
 when P true x y h k = h refl
 when P false x y h k = k refl
 
-return_taken : (b : ℕ) (bs : List ℕ) → b ≡ 13 → TakesEnding (b ∷ bs) (behind_line_feed bs)
-return_taken b [] e = record { more = 0; behind = refl; fits = omega arith; ending = inl refl; ascii = omega arith }
+return_taken : (b : ℕ) (bs : List ℕ) → b ≡ 13 → TakesEnding (b ∷ bs) (after_line_feed bs)
+return_taken b [] e = record { more = 0; following = refl; fits = omega arith; ending = inl refl; ascii = omega arith }
 return_taken b (c ∷ bs) e =
-    when (TakesEnding (b ∷ (c ∷ bs))) (c == 10) bs (c ∷ bs) (λ f. (let z = eqb-true c 10 f in record { more = 1; behind = refl; fits = omega arith; ending = inr (refl, e, z); ascii = (let q : c < 128 = omega arith in q) }))
-    (λ f. record { more = 0; behind = refl; fits = omega arith; ending = inl refl; ascii = (let q : b < 128 = omega arith in q) })
+    when (TakesEnding (b ∷ (c ∷ bs))) (c == 10) bs (c ∷ bs) (λ f. (let z = eqb-true c 10 f in record { more = 1; following = refl; fits = omega arith; ending = inr (refl, e, z); ascii = (let q : c < 128 = omega arith in q) }))
+    (λ f. record { more = 0; following = refl; fits = omega arith; ending = inl refl; ascii = (let q : b < 128 = omega arith in q) })
 
-ending_taken : (l : List ℕ) → EndingTaken l (behind_ending l)
+ending_taken : (l : List ℕ) → EndingTaken l (after_ending l)
 ending_taken [] = tt
 ending_taken (b ∷ bs) =
-    when (EndingTaken (b ∷ bs)) (b == 10) (Some bs) (if b == 13 then Some (behind_line_feed bs) else None)
-    (λ e. (let z = eqb-true b 10 e in record { more = 0; behind = refl; fits = omega arith; ending = inl refl; ascii = (let q : b < 128 = omega arith in q) }))
-    (λ e. when (EndingTaken (b ∷ bs)) (b == 13) (Some (behind_line_feed bs)) None (λ f. return_taken b bs (eqb-true b 13 f)) (λ f. tt))
+    when (EndingTaken (b ∷ bs)) (b == 10) (Some bs) (if b == 13 then Some (after_line_feed bs) else None)
+    (λ e. (let z = eqb-true b 10 e in record { more = 0; following = refl; fits = omega arith; ending = inl refl; ascii = (let q : b < 128 = omega arith in q) }))
+    (λ e. when (EndingTaken (b ∷ bs)) (b == 13) (Some (after_line_feed bs)) None (λ f. return_taken b bs (eqb-true b 13 f)) (λ f. tt))
 
 -- a line ending after some bytes
-behind_bytes : (found : LineBreak) (n : ℕ) (l r : List ℕ) → Leads IsWord n l → found.before ≤ n → found.behind ≡ r → TakesEnding (drop n l) r → TakesBreak l found
-behind_bytes found n l r h b e k =
+after_bytes : (found : LineBreak) (n : ℕ) (l r : List ℕ) → Leads IsWord n l → found.before ≤ n → found.following ≡ r → TakesEnding (drop n l) r → TakesBreak l found
+after_bytes found n l r h b e k =
     let d = length-drop n l in
     let f = k.fits in
     let w = h.fits in record {
@@ -66,7 +66,7 @@ behind_bytes found n l r h b e k =
       more = k.more;
       leads = h;
       begins = b;
-      behind = e ∙ k.behind ∙ drop-drop (suc k.more) n l;
+      following = e ∙ k.following ∙ drop-drop (suc k.more) n l;
       fits = omega arith;
       ending = ⊎_elim (λ z. inl z)
           (λ two. inr (
@@ -81,7 +81,7 @@ pub blank_word : (b : ℕ) → is_blank_byte b ≡ true → IsWord b
 blank_word b e = ⊎_elim (λ f. word-is b 32 refl (omega arith) f) (λ f. word-is b 9 refl (omega arith) f) (or-either (b == 32) (b == 9) e)
 
 pub blank-taken : (l : List ℕ) → BreakTaken l (blank_break_in l)
-blank-taken l = go (behind_ending (behind_blanks l)) (ending_taken (behind_blanks l))
+blank-taken l = go (after_ending (after_leading_blanks l)) (ending_taken (after_leading_blanks l))
   where
     blanks : List ℕ
     blanks = take_while is_blank_byte l
@@ -89,21 +89,21 @@ blank-taken l = go (behind_ending (behind_blanks l)) (ending_taken (behind_blank
     leads : Leads IsWord (length blanks) l
     leads = while-leads IsWord is_blank_byte blank_word l
 
-    go : (o : Option (List ℕ)) → EndingTaken (behind_blanks l) o → BreakTaken l (option_map (blank_break blanks) o)
+    go : (o : Option (List ℕ)) → EndingTaken (after_leading_blanks l) o → BreakTaken l (option_map (blank_break blanks) o)
     go None k = tt
     go (Some r) k =
-        when (TakesBreak l) (ends_with_two_spaces blanks) (hard_break r) (record { is_hard = false; before = length blanks; behind = r })
-        (λ e. behind_bytes (hard_break r) (length blanks) l r leads (omega arith) refl k)
-        (λ e. behind_bytes (record { is_hard = false; before = length blanks; behind = r }) (length blanks) l r leads (omega arith) refl k)
+        when (TakesBreak l) (ends_with_two_spaces blanks) (hard_break r) (record { is_hard = false; before = length blanks; following = r })
+        (λ e. after_bytes (hard_break r) (length blanks) l r leads (omega arith) refl k)
+        (λ e. after_bytes (record { is_hard = false; before = length blanks; following = r }) (length blanks) l r leads (omega arith) refl k)
 
 pub backslash-taken : (l : List ℕ) → BreakTaken l (backslash_break_in l)
 backslash-taken [] = tt
 backslash-taken (b ∷ bs) =
-    when (λ o. BreakTaken (b ∷ bs) (option_map hard_break (and_then o behind_ending))) (b == 92) (Some bs) None (λ e. go (word-is b 92 refl (omega arith) e) (behind_ending bs) (ending_taken bs)) (λ e. tt)
+    when (λ o. BreakTaken (b ∷ bs) (option_map hard_break (and_then o after_ending))) (b == 92) (Some bs) None (λ e. go (word-is b 92 refl (omega arith) e) (after_ending bs) (ending_taken bs)) (λ e. tt)
   where
     go : IsWord b → (o : Option (List ℕ)) → EndingTaken bs o → BreakTaken (b ∷ bs) (option_map hard_break o)
     go c None k = tt
-    go c (Some r) k = behind_bytes (hard_break r) 1 (b ∷ bs) r (record { front = (c, none bs); fits = omega arith }) (omega arith) refl k
+    go c (Some r) k = after_bytes (hard_break r) 1 (b ∷ bs) r (record { front = (c, none bs); fits = omega arith }) (omega arith) refl k
       where
         none : (l : List ℕ) → Front IsWord 0 l
         none [] = tt

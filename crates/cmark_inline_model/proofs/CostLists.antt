@@ -69,8 +69,8 @@ fewer-same cs = record { less = omega arith; within = λ limit spent h. h }
 pub fewer-then : (a b c : List ℕ) → Fewer a b → Fewer b c → Fewer a c
 fewer-then a b c h k = record { less = (let x = h.less in let y = k.less in omega arith); within = λ limit spent w. h.within limit spent (k.within limit spent w) }
 
-pub fewer-behind : (front a b : List ℕ) → Fewer a b → Fewer a (front ++ b)
-fewer-behind front a b h = record {
+pub fewer-following : (front a b : List ℕ) → Fewer a b → Fewer a (front ++ b)
+fewer-following front a b h = record {
   less = (let x = h.less in let e = total-append front b in omega arith);
   within = λ limit spent w. h.within limit spent (within-less limit b spent (spent + total front) (omega arith) (within-rest limit spent front b w));
 }

@@ -8,7 +8,7 @@ use Rattle.cmark_grammar.specs.BracketStates.{Opener, State, Outcome, Decision, 
 use Rattle.cmark_grammar.specs.Items.{Bracket}
 use Rattle.cmark_grammar.specs.LeafText.{Leaf}
 use Rattle.cmark_grammar.specs.LinkType.{LinkType}
-use Rattle.cmark_grammar.specs.OpenBrackets.{Taken, undoubled, inactive, behind_link, dropped}
+use Rattle.cmark_grammar.specs.OpenBrackets.{Taken, undoubled, inactive, after_link, dropped}
 use Rattle.cmark_grammar.specs.Parts.{Formed, Footnote}
 use Rattle.cmark_grammar.specs.Questions.{Exchange}
 use Rattle.cmark_grammar.specs.Readers.{Reader}
@@ -46,7 +46,7 @@ module _ (reader : Reader) (leaf : Leaf) where
 
   -- ## Opening brackets that are there
 
-  link_length : (is_image : Bool) (os : List Opener) → length (behind_link is_image os) ≡ length os
+  link_length : (is_image : Bool) (os : List Opener) → length (after_link is_image os) ≡ length os
   link_length true os = refl
   link_length false os = length-map os inactive
 
@@ -59,9 +59,9 @@ module _ (reader : Reader) (leaf : Leaf) where
   shape_fits : (s : State) (closer : Bracket) (asked : List Exchange) (o : Outcome) → Shape reader leaf s closer asked o → Fits (length s.openers) o
   shape_fits s closer asked o (Stays label os h e) = subst (Fits (length s.openers)) (sym e) (alike-length s.openers os h)
   shape_fits s closer asked o (ToInline label os taken tail h t found e) =
-      subst (Fits (length s.openers)) (sym e) (taken_fits s os taken (behind_link taken.opener.bracket.is_image) h t (link_length taken.opener.bracket.is_image))
+      subst (Fits (length s.openers)) (sym e) (taken_fits s os taken (after_link taken.opener.bracket.is_image) h t (link_length taken.opener.bracket.is_image))
   shape_fits s closer asked o (ToReference label os taken named link_type found h t n some l e) =
-      subst (Fits (length s.openers)) (sym e) (taken_fits s os taken (behind_link taken.opener.bracket.is_image) h t (link_length taken.opener.bracket.is_image))
+      subst (Fits (length s.openers)) (sym e) (taken_fits s os taken (after_link taken.opener.bracket.is_image) h t (link_length taken.opener.bracket.is_image))
   shape_fits s closer asked o (ToFootnote label os taken name h t on e) = subst (Fits (length s.openers)) (sym e) (taken_fits s os taken (map dropped) h t (λ l. length-map l dropped))
   shape_fits s closer asked o (ToWiki label os first far h t on next touched e) =
       subst (Fits (length s.openers)) (sym e) (taken_fits s os first (λ l. map undoubled (map inactive l)) h t (λ l. length-map (map inactive l) undoubled ∙ length-map l inactive))
@@ -96,18 +96,18 @@ module _ (reader : Reader) (leaf : Leaf) where
       dropped_more (suc n) [] x more e = cc
       dropped_more (suc n) (y ∷ l) x more e = dropped_more n l x more e
 
-  no_link_behind : (is_image : Bool) → not is_image ≡ true → (l : List Opener) → OpenNoLink (behind_link is_image l)
-  no_link_behind true e l = cc
-  no_link_behind false e l = inactive-opens-none l
+  no_link_after : (is_image : Bool) → not is_image ≡ true → (l : List Opener) → OpenNoLink (after_link is_image l)
+  no_link_after true e l = cc
+  no_link_after false e l = inactive-opens-none l
 
   shape_apart : (s : State) (closer : Bracket) (asked : List Exchange) (o : Outcome) → Shape reader leaf s closer asked o → KeepsApart s.openers o
   shape_apart s closer asked o (Stays label os h e) = subst (KeepsApart s.openers) (sym e) (alike-persist s.openers os h)
   shape_apart s closer asked o (ToInline label os taken tail h t found e) =
       subst (KeepsApart s.openers) (sym e)
-      (taken_apart s os taken _ (behind_link taken.opener.bracket.is_image) h t (link-persist taken.opener.bracket.is_image) (no_link_behind taken.opener.bracket.is_image))
+      (taken_apart s os taken _ (after_link taken.opener.bracket.is_image) h t (link-persist taken.opener.bracket.is_image) (no_link_after taken.opener.bracket.is_image))
   shape_apart s closer asked o (ToReference label os taken named link_type found h t n some l e) =
       subst (KeepsApart s.openers) (sym e)
-      (taken_apart s os taken _ (behind_link taken.opener.bracket.is_image) h t (link-persist taken.opener.bracket.is_image) (no_link_behind taken.opener.bracket.is_image))
+      (taken_apart s os taken _ (after_link taken.opener.bracket.is_image) h t (link-persist taken.opener.bracket.is_image) (no_link_after taken.opener.bracket.is_image))
   shape_apart s closer asked o (ToFootnote label os taken name h t on e) =
       subst (KeepsApart s.openers) (sym e) (taken_apart s os taken (Footnote name closer.end) (map dropped) h t dropped-persist (λ x. cc))
   shape_apart s closer asked o (ToWiki label os first far h t on next touched e) =

@@ -3,24 +3,24 @@ use Rattle.std.specs.Prelude.{suc, ◌-◌, ◌==◌, ◌&&◌, ◌||◌, not, i
 use Rattle.std.proofs.Common.{◌≡◌, ◌⊎◌, inl, inr, ◌≤◌, ℕ, Bool, true, false, List, [], ◌∷◌, ◌++◌, length, Option, Some, None, refl, arith}
 use Rattle.cmark_grammar.specs.Answers.{Destination}
 use Rattle.cmark_grammar.specs.BlockDocument as block
-use Rattle.cmark_grammar.specs.BracketDecisions.{Named, or_empty, is_there, name_in, behind, place, between, stays, forms, inline_link, leads, question, answered, with_answer, ask, defined_or_asked, refers, one_line_footnotes, is_one_line, is_footnote_label, footnote_reference, as_label, collapsed_or_shortcut, by_own_label, reference_or, unless_footnote, link_or, with_taken, wiki_text, wikilink, wikilink_or, decide}
+use Rattle.cmark_grammar.specs.BracketDecisions.{Named, or_empty, is_there, name_in, following, place, between, stays, forms, inline_link, leads, question, answered, with_answer, ask, defined_or_asked, refers, one_line_footnotes, is_one_line, is_footnote_label, footnote_reference, as_label, collapsed_or_shortcut, by_own_label, reference_or, unless_footnote, link_or, with_taken, wiki_text, wikilink, wikilink_or, decide}
 use Rattle.cmark_grammar.specs.BracketStates.{Opener, State, Outcome, Decision, Settled, Asks}
 use Rattle.cmark_grammar.specs.Items.{Bracket}
 use Rattle.cmark_grammar.specs.Labels.{fold, normal_form}
 use Rattle.cmark_grammar.specs.LeafText.{Leaf}
 use Rattle.cmark_grammar.specs.Letters.{first_is}
 use Rattle.cmark_grammar.specs.LinkDefinitions.{Parsed}
-use Rattle.cmark_grammar.specs.LinkTails.{LinkTail, link_tail_in, behind_collapsed, is_bracketed_label, reference_label_in}
+use Rattle.cmark_grammar.specs.LinkTails.{LinkTail, link_tail_in, after_collapsed, is_bracketed_label, reference_label_in}
 use Rattle.cmark_grammar.specs.LinkType.{LinkType, Reference, to_unknown}
 use Rattle.cmark_grammar.specs.OpenBrackets.{Taken, nearest, used_up, doubled, tried, dropped}
 use Rattle.cmark_grammar.specs.Parts.{Footnote}
 use Rattle.cmark_grammar.specs.Questions.{Question, Exchange}
 use Rattle.cmark_grammar.specs.Readers.{Reader}
-use Rattle.cmark_grammar.proofs.ShorterRests.{LeavesBelow, ParsedBelow, reference_label-shorter, collapsed-shorter}
+use Rattle.cmark_inline_model.proofs.ShorterRests.{LeavesBelow, ParsedBelow, reference_label-shorter, collapsed-shorter}
 use Rattle.cmark_inline_model.specs.ReferenceExpansion.{cost_as}
 use Rattle.cmark_inline_model.specs.LinkRules.{IsReferenceForm, IsQuestion}
-use Rattle.cmark_inline_model.proofs.FindRests.{IsBehind, ParsedBehind}
-use Rattle.cmark_inline_model.proofs.LinkRests.{LeavesBehind, collapsed-behind, reference_label-behind}
+use Rattle.cmark_inline_model.proofs.FindRests.{IsAfter, ParsedAfter}
+use Rattle.cmark_inline_model.proofs.LinkRests.{LeavesAfter, collapsed-following, reference_label-following}
 use Rattle.cmark_inline_model.proofs.Openers.{Alike, alike-then, used-alike, tried-alike, IsTaken, AreTaken, taken-alike, nearest-taken, doubled-taken, IsFar, doubled-far, IsTouched, AreTouched, doubled-touched, touched-alike}
 
 -- the same state except for its label, its questions and its opening brackets
@@ -34,7 +34,7 @@ exchange q answer = record { question = q; answer = answer }
 module _ (reader : Reader) (leaf : Leaf) where
   -- the end of the closing bracket, or of some text after it, which ends with an ASCII byte
   abbrev pub IsPlace : Bracket → ℕ → Type 0
-  IsPlace closer p = (p ≡ closer.end) ⊎ ((rest : List ℕ) × (length rest ≤ length (behind reader leaf closer.end)) × (p ≡ place reader leaf rest) × IsBehind (behind reader leaf closer.end) rest)
+  IsPlace closer p = (p ≡ closer.end) ⊎ ((rest : List ℕ) × (length rest ≤ length (following reader leaf closer.end)) × (p ≡ place reader leaf rest) × IsAfter (following reader leaf closer.end) rest)
 
   -- a reference that may follow this closing bracket
   pub record IsNamed (closer : Bracket) (named : Named) : Type 0 where
@@ -69,13 +69,13 @@ module _ (reader : Reader) (leaf : Leaf) where
   pub data Shape (s : State) (closer : Bracket) (asked : List Exchange) (o : Outcome) : Type 0 where
     Stays : (label : Option ℕ) (os : List Opener) → Alike s.openers os → o ≡ stays reader leaf closer (with_all s label asked os) → Shape s closer asked o
     ToInline : (label : Option ℕ) (os : List Opener) (taken : Taken) (tail : LinkTail) → Alike s.openers os → Takes s.openers taken
-        → link_tail_in (behind reader leaf closer.end) ≡ Some tail → o ≡ inline_link reader leaf tail taken (with_all s label asked os) → Shape s closer asked o
+        → link_tail_in (following reader leaf closer.end) ≡ Some tail → o ≡ inline_link reader leaf tail taken (with_all s label asked os) → Shape s closer asked o
     ToReference : (label : Option ℕ) (os : List Opener) (taken : Taken) (named : Named) (link_type : LinkType) (found : Destination) → Alike s.openers os → Takes s.openers taken
         → IsNamed closer named → (s.expansion_left == 0) ≡ false → Leads named link_type found asked → o ≡ leads reader leaf named link_type found taken (with_all s label asked os) → Shape s closer asked o
     ToFootnote : (label : Option ℕ) (os : List Opener) (taken : Taken) (name : List ℕ) → Alike s.openers os → Takes s.openers taken → reader.options.footnotes ≡ true
         → o ≡ forms reader leaf taken (Footnote name closer.end) closer.end (map dropped) (with_all s label asked os) → Shape s closer asked o
     ToWiki : (label : Option ℕ) (os : List Opener) (first : Taken) → 1 ≤ first.nearer → Alike s.openers os → Takes s.openers first → reader.options.wikilinks ≡ true
-        → first_is (λ b. b == 93) (behind reader leaf closer.end) ≡ true → IsTouched s.openers first → o ≡ wikilink reader leaf first closer (with_all s label asked os) → Shape s closer asked o
+        → first_is (λ b. b == 93) (following reader leaf closer.end) ≡ true → IsTouched s.openers first → o ≡ wikilink reader leaf first closer (with_all s label asked os) → Shape s closer asked o
 
   abbrev pub DecisionShape : State → Bracket → Decision → Type 0
   DecisionShape s closer (Settled o) = Shape s closer s.asked o
@@ -118,7 +118,7 @@ module _ (reader : Reader) (leaf : Leaf) where
           either s closer (s.expansion_left == 0) (Settled (stays reader leaf closer t)) (defined_or_asked reader leaf (reader.definition (fold named.label)) named taken closer t)
           (λ e. stay_shape label os h) (λ e. defined_shape (reader.definition (fold named.label)) label os named refl h named_is e)
 
-      own_named : (label : List ℕ) (o : Option (List ℕ)) → LeavesBelow (suc (length (behind reader leaf closer.end))) o → LeavesBehind (behind reader leaf closer.end) o → IsNamed closer (collapsed_or_shortcut reader leaf label closer.end o)
+      own_named : (label : List ℕ) (o : Option (List ℕ)) → LeavesBelow (suc (length (following reader leaf closer.end))) o → LeavesAfter (following reader leaf closer.end) o → IsNamed closer (collapsed_or_shortcut reader leaf label closer.end o)
       own_named label None h k = record { ends = inl refl; passes = inl refl; order = inl refl; form = tt; costs = λ size. (refl, refl) }
       own_named label (Some rest) h k = record { ends = inl refl; passes = inr (rest, omega arith, refl, k); order = inr refl; form = tt; costs = λ size. (refl, refl) }
 
@@ -140,20 +140,20 @@ module _ (reader : Reader) (leaf : Leaf) where
       own_shape : (bytes : List ℕ) (label : Option ℕ) (os : List Opener) → Alike s.openers os → DecisionShape s closer (by_own_label reader leaf bytes taken closer (with_all s label s.asked os))
       own_shape bytes label os h =
           let t = with_all s label s.asked os in
-          let named = collapsed_or_shortcut reader leaf (as_label reader leaf bytes) closer.end (behind_collapsed (behind reader leaf closer.end)) in
+          let named = collapsed_or_shortcut reader leaf (as_label reader leaf bytes) closer.end (after_collapsed (following reader leaf closer.end)) in
           either s closer (is_footnote_label reader leaf bytes) (footnote_reference reader leaf (as_label reader leaf (drop 1 bytes)) taken closer t)
           (if is_bracketed_label bytes then refers reader leaf named taken closer t else Settled (stays reader leaf closer t))
           (λ e. footnote_shape (as_label reader leaf (drop 1 bytes)) os label h (footnotes_on bytes e))
           (λ e. either s closer (is_bracketed_label bytes) (refers reader leaf named taken closer t) (Settled (stays reader leaf closer t))
-          (λ f. refers_shape label os named h (own_named (as_label reader leaf bytes) (behind_collapsed (behind reader leaf closer.end)) (collapsed-shorter (behind reader leaf closer.end)) (collapsed-behind (behind reader leaf closer.end))))
+          (λ f. refers_shape label os named h (own_named (as_label reader leaf bytes) (after_collapsed (following reader leaf closer.end)) (collapsed-shorter (following reader leaf closer.end)) (collapsed-following (following reader leaf closer.end))))
           (λ f. stay_shape label os h))
 
-      reference_shape : (found : Option Parsed) (label : Option ℕ) (os : List Opener) → ParsedBelow (length (behind reader leaf closer.end)) found → ParsedBehind (behind reader leaf closer.end) found → Alike s.openers os
+      reference_shape : (found : Option Parsed) (label : Option ℕ) (os : List Opener) → ParsedBelow (length (following reader leaf closer.end)) found → ParsedAfter (following reader leaf closer.end) found → Alike s.openers os
           → DecisionShape s closer (reference_or reader leaf found taken closer (with_all s label s.asked os))
       reference_shape (Some found) label os f k h =
-          let end = place reader leaf found.behind in
+          let end = place reader leaf found.following in
           refers_shape (Some (end - 1)) os (record { label = as_label reader leaf found.bytes; link_type = Reference; end = end; resume = end }) h
-          (record { ends = inr (found.behind, omega arith, refl, k); passes = inr (found.behind, omega arith, refl, k); order = inl refl; form = tt; costs = λ size. (refl, refl) })
+          (record { ends = inr (found.following, omega arith, refl, k); passes = inr (found.following, omega arith, refl, k); order = inl refl; form = tt; costs = λ size. (refl, refl) })
       reference_shape None label os f k h =
           let t = with_all s label s.asked os in
           let bytes = between reader leaf taken.opener.bracket.end closer.start in
@@ -167,34 +167,34 @@ module _ (reader : Reader) (leaf : Leaf) where
           by true = tt
           by false = h
 
-      unless_behind : (found : Option Parsed) → ParsedBehind (behind reader leaf closer.end) found → ParsedBehind (behind reader leaf closer.end) (unless_footnote reader leaf found)
-      unless_behind None h = tt
-      unless_behind (Some found) h = by (is_footnote_label reader leaf found.bytes)
+      unless_after : (found : Option Parsed) → ParsedAfter (following reader leaf closer.end) found → ParsedAfter (following reader leaf closer.end) (unless_footnote reader leaf found)
+      unless_after None h = tt
+      unless_after (Some found) h = by (is_footnote_label reader leaf found.bytes)
         where
-          by : (b : Bool) → ParsedBehind (behind reader leaf closer.end) (if b then None else Some found)
+          by : (b : Bool) → ParsedAfter (following reader leaf closer.end) (if b then None else Some found)
           by true = tt
           by false = h
 
-      link_shape : (tail : Option LinkTail) (label : Option ℕ) (os : List Opener) → link_tail_in (behind reader leaf closer.end) ≡ tail → Alike s.openers os
+      link_shape : (tail : Option LinkTail) (label : Option ℕ) (os : List Opener) → link_tail_in (following reader leaf closer.end) ≡ tail → Alike s.openers os
           → DecisionShape s closer (link_or reader leaf tail taken closer (with_all s label s.asked os))
       link_shape (Some tail) label os e h = ToInline label os taken tail h takes e refl
       link_shape None label os e h =
-          reference_shape (unless_footnote reader leaf (reference_label_in (behind reader leaf closer.end))) label os
-          (unless_below (length (behind reader leaf closer.end)) (reference_label_in (behind reader leaf closer.end)) (reference_label-shorter (behind reader leaf closer.end)))
-          (unless_behind (reference_label_in (behind reader leaf closer.end)) (reference_label-behind (behind reader leaf closer.end))) h
+          reference_shape (unless_footnote reader leaf (reference_label_in (following reader leaf closer.end))) label os
+          (unless_below (length (following reader leaf closer.end)) (reference_label_in (following reader leaf closer.end)) (reference_label-shorter (following reader leaf closer.end)))
+          (unless_after (reference_label_in (following reader leaf closer.end)) (reference_label-following (following reader leaf closer.end))) h
 
     with_taken_shape : (taken : Option Taken) (label : Option ℕ) (os : List Opener) → AreTaken s.openers taken → Alike s.openers os → DecisionShape s closer (with_taken reader leaf taken closer (with_all s label s.asked os))
     with_taken_shape None label os h k = stay_shape label os k
     with_taken_shape (Some taken) label os h k =
         let t = with_all s label s.asked os in
-        either s closer taken.opener.is_inactive (Settled (stays reader leaf closer t)) (link_or reader leaf (link_tail_in (behind reader leaf closer.end)) taken closer t) (λ e. stay_shape label os k)
-        (λ e. link_shape taken (record { is_taken = h; active = e }) (link_tail_in (behind reader leaf closer.end)) label os refl k)
+        either s closer taken.opener.is_inactive (Settled (stays reader leaf closer t)) (link_or reader leaf (link_tail_in (following reader leaf closer.end)) taken closer t) (λ e. stay_shape label os k)
+        (λ e. link_shape taken (record { is_taken = h; active = e }) (link_tail_in (following reader leaf closer.end)) label os refl k)
 
     or_false : (a b : Bool) → (a || b) ≡ false → a ≡ false
     or_false true b e = cc
     or_false false b e = refl
 
-    wiki_shape : (first taken : Option Taken) (label : Option ℕ) (os : List Opener) → reader.options.wikilinks ≡ true → first_is (λ b. b == 93) (behind reader leaf closer.end) ≡ true
+    wiki_shape : (first taken : Option Taken) (label : Option ℕ) (os : List Opener) → reader.options.wikilinks ≡ true → first_is (λ b. b == 93) (following reader leaf closer.end) ≡ true
         → IsFar first → AreTouched os first → AreTaken os first → AreTaken s.openers taken → Alike s.openers os → DecisionShape s closer (wikilink_or reader leaf first taken closer (with_all s label s.asked os))
     wiki_shape None taken label os on next far double f h k = with_taken_shape taken label os h k
     wiki_shape (Some first) taken label os on next far double f h k =
@@ -210,7 +210,7 @@ module _ (reader : Reader) (leaf : Leaf) where
       let os = used_up s.openers in
       let t = with_all s s.label_close s.asked os in
       let near = nearest s.openers in
-      let next = first_is (λ b. b == 93) (behind reader leaf closer.end) in
+      let next = first_is (λ b. b == 93) (following reader leaf closer.end) in
       either s closer (reader.options.wikilinks && next) (wikilink_or reader leaf (doubled os) near closer t) (with_taken reader leaf near closer t)
       (λ e. wiki_shape s closer (doubled os) near s.label_close os (left reader.options.wikilinks next e) (right reader.options.wikilinks next e) (doubled-far os) (doubled-touched os) (doubled-taken os) (nearest-taken s.openers) (used-alike s.openers))
       (λ e. with_taken_shape s closer near s.label_close os (nearest-taken s.openers) (used-alike s.openers))

@@ -3,7 +3,7 @@ use Rattle.std.specs.Prelude.{◌-◌, ◌==◌, ◌&&◌, ◌||◌, not, if◌t
 use Rattle.std.proofs.Common.{◌≡◌, ℕ, Bool, true, false, List, [], ◌∷◌, ◌++◌, length, Option, Some, None, refl, sym, ap, ◌∙◌, append_assoc}
 use Rattle.cmark_grammar.specs.Answers.{Destination}
 use Rattle.cmark_grammar.specs.BlockDocument as block
-use Rattle.cmark_grammar.specs.BracketDecisions.{Named, is_there, name_in, behind, place, between, stays, forms, question, answered, with_answer, ask, defined_or_asked, refers, one_line_footnotes, is_footnote_label, footnote_reference, as_label, collapsed_or_shortcut, by_own_label, reference_or, unless_footnote, link_or, with_taken, wiki_text, wikilink, wikilink_or, taking, decide}
+use Rattle.cmark_grammar.specs.BracketDecisions.{Named, is_there, name_in, following, place, between, stays, forms, question, answered, with_answer, ask, defined_or_asked, refers, one_line_footnotes, is_footnote_label, footnote_reference, as_label, collapsed_or_shortcut, by_own_label, reference_or, unless_footnote, link_or, with_taken, wiki_text, wikilink, wikilink_or, taking, decide}
 use Rattle.cmark_grammar.specs.BracketReading.{Comes}
 use Rattle.cmark_grammar.specs.BracketStates.{State, Outcome, Decision, Settled, Asks}
 use Rattle.cmark_grammar.specs.Items.{Bracket}
@@ -11,127 +11,127 @@ use Rattle.cmark_grammar.specs.Labels.{fold, normal_form}
 use Rattle.cmark_grammar.specs.LeafText.{Leaf}
 use Rattle.cmark_grammar.specs.Letters.{first_is}
 use Rattle.cmark_grammar.specs.LinkDefinitions.{Parsed}
-use Rattle.cmark_grammar.specs.LinkTails.{LinkTail, link_tail_in, behind_collapsed, is_bracketed_label, reference_label_in}
+use Rattle.cmark_grammar.specs.LinkTails.{LinkTail, link_tail_in, after_collapsed, is_bracketed_label, reference_label_in}
 use Rattle.cmark_grammar.specs.LinkType.{Reference}
 use Rattle.cmark_grammar.specs.OpenBrackets.{Taken, nearest, used_up, doubled, tried, dropped}
 use Rattle.cmark_grammar.specs.Parts.{Footnote}
 use Rattle.cmark_grammar.specs.Questions.{Question, Exchange, IsNext}
 use Rattle.cmark_grammar.specs.Readers.{Reader}
-use Rattle.cmark_inline_model.specs.Progress.{asked_behind, outcome_behind, IsShifted}
+use Rattle.cmark_inline_model.specs.Progress.{asked_after, outcome_after, IsShifted}
 
-next_behind : (h all asked : List Exchange) (q : Question) (answer : Option Destination) → IsNext all asked q answer → IsNext (h ++ all) (h ++ asked) q answer
-next_behind h all asked q answer k =
+next_after : (h all asked : List Exchange) (q : Question) (answer : Option Destination) → IsNext all asked q answer → IsNext (h ++ all) (h ++ asked) q answer
+next_after h all asked q answer k =
     record { rest = k.rest; cut = ap (λ l. h ++ l) k.cut ∙ sym (append_assoc h asked (record { question = q; answer = answer } ∷ k.rest)) }
 
 module _ (h : List Exchange) where
   -- the second decision has the outcome of the first, after other questions
   abbrev Follows : State → Decision → Decision → Type 0
-  Follows t d e = (all : List Exchange) (o : Outcome) → Comes (IsNext all) t.asked d o → Comes (IsNext (h ++ all)) (h ++ t.asked) e (outcome_behind h o)
+  Follows t d e = (all : List Exchange) (o : Outcome) → Comes (IsNext all) t.asked d o → Comes (IsNext (h ++ all)) (h ++ t.asked) e (outcome_after h o)
 
-  settled : (t : State) (a b : Outcome) → outcome_behind h a ≡ b → Follows t (Settled a) (Settled b)
-  settled t a b e all o k = ap (outcome_behind h) k ∙ e
+  settled : (t : State) (a b : Outcome) → outcome_after h a ≡ b → Follows t (Settled a) (Settled b)
+  settled t a b e all o k = ap (outcome_after h) k ∙ e
 
   by_bool : (t : State) (b : Bool) (x y u v : Decision) → Follows t x u → Follows t y v → Follows t (if b then x else y) (if b then u else v)
   by_bool t true x y u v f g = f
   by_bool t false x y u v f g = g
 
   module _ (reader : Reader) (leaf : Leaf) where
-    answered_behind : (named : Named) (taken : Taken) (closer : Bracket) (t : State) (q : Question) (answer : Option Destination)
-        → outcome_behind h (answered reader leaf named taken closer (with_answer reader leaf q answer t) answer) ≡ answered reader leaf named taken closer (with_answer reader leaf q answer (asked_behind h t)) answer
-    answered_behind named taken closer t q None =
+    answered_after : (named : Named) (taken : Taken) (closer : Bracket) (t : State) (q : Question) (answer : Option Destination)
+        → outcome_after h (answered reader leaf named taken closer (with_answer reader leaf q answer t) answer) ≡ answered reader leaf named taken closer (with_answer reader leaf q answer (asked_after h t)) answer
+    answered_after named taken closer t q None =
         ap (λ l. stays reader leaf closer (record { at = t.at; expansion_left = t.expansion_left; label_close = t.label_close; asked = l; openers = t.openers })) (sym (append_assoc h t.asked (record { question = q; answer = None } ∷ [])))
-    answered_behind named taken closer t q (Some found) =
+    answered_after named taken closer t q (Some found) =
         let u : Outcome = answered reader leaf named taken closer (with_answer reader leaf q (Some found) t) (Some found) in
         ap (λ l. record { result = u.result; after = record { at = u.after.at; expansion_left = u.after.expansion_left; label_close = u.after.label_close; asked = l; openers = u.after.openers } })
         (sym (append_assoc h t.asked (record { question = q; answer = Some found } ∷ [])))
 
-    ask_behind : (named : Named) (taken : Taken) (closer : Bracket) (t : State) → Follows t (ask reader leaf named taken closer t) (ask reader leaf named taken closer (asked_behind h t))
-    ask_behind named taken closer t =
+    ask_after : (named : Named) (taken : Taken) (closer : Bracket) (t : State) → Follows t (ask reader leaf named taken closer t) (ask reader leaf named taken closer (asked_after h t))
+    ask_after named taken closer t =
         let q = question reader leaf named taken.opener.bracket in
         by_bool t reader.has_callback
         (Asks q (λ answer. answered reader leaf named taken closer (with_answer reader leaf q answer t) answer)) (Settled (stays reader leaf closer t))
-        (Asks q (λ answer. answered reader leaf named taken closer (with_answer reader leaf q answer (asked_behind h t)) answer)) (Settled (stays reader leaf closer (asked_behind h t)))
-        (λ all o k. (k.0, next_behind h all t.asked q k.0 k.1, ap (outcome_behind h) k.2 ∙ answered_behind named taken closer t q k.0))
-        (settled t (stays reader leaf closer t) (stays reader leaf closer (asked_behind h t)) refl)
+        (Asks q (λ answer. answered reader leaf named taken closer (with_answer reader leaf q answer (asked_after h t)) answer)) (Settled (stays reader leaf closer (asked_after h t)))
+        (λ all o k. (k.0, next_after h all t.asked q k.0 k.1, ap (outcome_after h) k.2 ∙ answered_after named taken closer t q k.0))
+        (settled t (stays reader leaf closer t) (stays reader leaf closer (asked_after h t)) refl)
 
-    defined_behind : (found : Option block.Reference) (named : Named) (taken : Taken) (closer : Bracket) (t : State)
-        → Follows t (defined_or_asked reader leaf found named taken closer t) (defined_or_asked reader leaf found named taken closer (asked_behind h t))
-    defined_behind (Some found) named taken closer t = λ all o k. ap (outcome_behind h) k
-    defined_behind None named taken closer t = ask_behind named taken closer t
+    defined_after : (found : Option block.Reference) (named : Named) (taken : Taken) (closer : Bracket) (t : State)
+        → Follows t (defined_or_asked reader leaf found named taken closer t) (defined_or_asked reader leaf found named taken closer (asked_after h t))
+    defined_after (Some found) named taken closer t = λ all o k. ap (outcome_after h) k
+    defined_after None named taken closer t = ask_after named taken closer t
 
-    refers_behind : (named : Named) (taken : Taken) (closer : Bracket) (t : State) → Follows t (refers reader leaf named taken closer t) (refers reader leaf named taken closer (asked_behind h t))
-    refers_behind named taken closer t =
+    refers_after : (named : Named) (taken : Taken) (closer : Bracket) (t : State) → Follows t (refers reader leaf named taken closer t) (refers reader leaf named taken closer (asked_after h t))
+    refers_after named taken closer t =
         let found = reader.definition (fold named.label) in
         by_bool t (t.expansion_left == 0) (Settled (stays reader leaf closer t)) (defined_or_asked reader leaf found named taken closer t)
-        (Settled (stays reader leaf closer (asked_behind h t))) (defined_or_asked reader leaf found named taken closer (asked_behind h t))
-        (settled t (stays reader leaf closer t) (stays reader leaf closer (asked_behind h t)) refl) (defined_behind found named taken closer t)
+        (Settled (stays reader leaf closer (asked_after h t))) (defined_or_asked reader leaf found named taken closer (asked_after h t))
+        (settled t (stays reader leaf closer t) (stays reader leaf closer (asked_after h t)) refl) (defined_after found named taken closer t)
 
-    footnote_behind : (name : List ℕ) (taken : Taken) (closer : Bracket) (t : State) → Follows t (footnote_reference reader leaf name taken closer t) (footnote_reference reader leaf name taken closer (asked_behind h t))
-    footnote_behind name taken closer t =
+    footnote_after : (name : List ℕ) (taken : Taken) (closer : Bracket) (t : State) → Follows t (footnote_reference reader leaf name taken closer t) (footnote_reference reader leaf name taken closer (asked_after h t))
+    footnote_after name taken closer t =
         let formed : State → Outcome = λ u. forms reader leaf taken (Footnote (normal_form name) closer.end) closer.end (map dropped) u in
         by_bool t (one_line_footnotes reader leaf && not (reader.has_footnote (fold name))) (Settled (stays reader leaf closer t)) (Settled (formed t))
-        (Settled (stays reader leaf closer (asked_behind h t))) (Settled (formed (asked_behind h t)))
-        (settled t (stays reader leaf closer t) (stays reader leaf closer (asked_behind h t)) refl) (settled t (formed t) (formed (asked_behind h t)) refl)
+        (Settled (stays reader leaf closer (asked_after h t))) (Settled (formed (asked_after h t)))
+        (settled t (stays reader leaf closer t) (stays reader leaf closer (asked_after h t)) refl) (settled t (formed t) (formed (asked_after h t)) refl)
 
-    own_behind : (bytes : List ℕ) (taken : Taken) (closer : Bracket) (t : State) → Follows t (by_own_label reader leaf bytes taken closer t) (by_own_label reader leaf bytes taken closer (asked_behind h t))
-    own_behind bytes taken closer t =
-        let u = asked_behind h t in
+    own_after : (bytes : List ℕ) (taken : Taken) (closer : Bracket) (t : State) → Follows t (by_own_label reader leaf bytes taken closer t) (by_own_label reader leaf bytes taken closer (asked_after h t))
+    own_after bytes taken closer t =
+        let u = asked_after h t in
         let name = as_label reader leaf (drop 1 bytes) in
-        let named = collapsed_or_shortcut reader leaf (as_label reader leaf bytes) closer.end (behind_collapsed (behind reader leaf closer.end)) in
+        let named = collapsed_or_shortcut reader leaf (as_label reader leaf bytes) closer.end (after_collapsed (following reader leaf closer.end)) in
         let is_label = is_bracketed_label bytes in
         by_bool t (is_footnote_label reader leaf bytes)
         (footnote_reference reader leaf name taken closer t) (if is_label then refers reader leaf named taken closer t else Settled (stays reader leaf closer t))
         (footnote_reference reader leaf name taken closer u) (if is_label then refers reader leaf named taken closer u else Settled (stays reader leaf closer u))
-        (footnote_behind name taken closer t)
+        (footnote_after name taken closer t)
         (by_bool t is_label (refers reader leaf named taken closer t) (Settled (stays reader leaf closer t)) (refers reader leaf named taken closer u) (Settled (stays reader leaf closer u))
-        (refers_behind named taken closer t) (settled t (stays reader leaf closer t) (stays reader leaf closer u) refl))
+        (refers_after named taken closer t) (settled t (stays reader leaf closer t) (stays reader leaf closer u) refl))
 
-    reference_behind : (found : Option Parsed) (taken : Taken) (closer : Bracket) (t : State) → Follows t (reference_or reader leaf found taken closer t) (reference_or reader leaf found taken closer (asked_behind h t))
-    reference_behind (Some found) taken closer t =
-        let end = place reader leaf found.behind in
-        refers_behind (record { label = as_label reader leaf found.bytes; link_type = Reference; end = end; resume = end }) taken closer
+    reference_after : (found : Option Parsed) (taken : Taken) (closer : Bracket) (t : State) → Follows t (reference_or reader leaf found taken closer t) (reference_or reader leaf found taken closer (asked_after h t))
+    reference_after (Some found) taken closer t =
+        let end = place reader leaf found.following in
+        refers_after (record { label = as_label reader leaf found.bytes; link_type = Reference; end = end; resume = end }) taken closer
         (record { at = t.at; expansion_left = t.expansion_left; label_close = Some (end - 1); asked = t.asked; openers = t.openers })
-    reference_behind None taken closer t =
-        let u = asked_behind h t in
+    reference_after None taken closer t =
+        let u = asked_after h t in
         let bytes = between reader leaf taken.opener.bracket.end closer.start in
         by_bool t (is_there closer.start t.label_close) (Settled (stays reader leaf closer t)) (by_own_label reader leaf bytes taken closer t)
         (Settled (stays reader leaf closer u)) (by_own_label reader leaf bytes taken closer u)
-        (settled t (stays reader leaf closer t) (stays reader leaf closer u) refl) (own_behind bytes taken closer t)
+        (settled t (stays reader leaf closer t) (stays reader leaf closer u) refl) (own_after bytes taken closer t)
 
-    link_behind : (tail : Option LinkTail) (taken : Taken) (closer : Bracket) (t : State) → Follows t (link_or reader leaf tail taken closer t) (link_or reader leaf tail taken closer (asked_behind h t))
-    link_behind (Some tail) taken closer t = λ all o k. ap (outcome_behind h) k
-    link_behind None taken closer t = reference_behind (unless_footnote reader leaf (reference_label_in (behind reader leaf closer.end))) taken closer t
+    link_after : (tail : Option LinkTail) (taken : Taken) (closer : Bracket) (t : State) → Follows t (link_or reader leaf tail taken closer t) (link_or reader leaf tail taken closer (asked_after h t))
+    link_after (Some tail) taken closer t = λ all o k. ap (outcome_after h) k
+    link_after None taken closer t = reference_after (unless_footnote reader leaf (reference_label_in (following reader leaf closer.end))) taken closer t
 
-    taken_behind : (taken : Option Taken) (closer : Bracket) (t : State) → Follows t (with_taken reader leaf taken closer t) (with_taken reader leaf taken closer (asked_behind h t))
-    taken_behind None closer t = settled t (stays reader leaf closer t) (stays reader leaf closer (asked_behind h t)) refl
-    taken_behind (Some taken) closer t =
-        let u = asked_behind h t in
-        let tail = link_tail_in (behind reader leaf closer.end) in
+    taken_after : (taken : Option Taken) (closer : Bracket) (t : State) → Follows t (with_taken reader leaf taken closer t) (with_taken reader leaf taken closer (asked_after h t))
+    taken_after None closer t = settled t (stays reader leaf closer t) (stays reader leaf closer (asked_after h t)) refl
+    taken_after (Some taken) closer t =
+        let u = asked_after h t in
+        let tail = link_tail_in (following reader leaf closer.end) in
         by_bool t taken.opener.is_inactive (Settled (stays reader leaf closer t)) (link_or reader leaf tail taken closer t) (Settled (stays reader leaf closer u)) (link_or reader leaf tail taken closer u)
-        (settled t (stays reader leaf closer t) (stays reader leaf closer u) refl) (link_behind tail taken closer t)
+        (settled t (stays reader leaf closer t) (stays reader leaf closer u) refl) (link_after tail taken closer t)
 
-    wikilink_behind : (first taken : Option Taken) (closer : Bracket) (t : State) → Follows t (wikilink_or reader leaf first taken closer t) (wikilink_or reader leaf first taken closer (asked_behind h t))
-    wikilink_behind None taken closer t = taken_behind taken closer t
-    wikilink_behind (Some first) taken closer t =
-        let u = asked_behind h t in
+    wikilink_after : (first taken : Option Taken) (closer : Bracket) (t : State) → Follows t (wikilink_or reader leaf first taken closer t) (wikilink_or reader leaf first taken closer (asked_after h t))
+    wikilink_after None taken closer t = taken_after taken closer t
+    wikilink_after (Some first) taken closer t =
+        let u = asked_after h t in
         let refused = first.opener.is_inactive || (length (name_in (wiki_text reader leaf first closer)) == 0) in
         let v : State = record { at = t.at; expansion_left = t.expansion_left; label_close = t.label_close; asked = t.asked; openers = tried first.nearer t.openers } in
         by_bool t refused (with_taken reader leaf taken closer v) (Settled (wikilink reader leaf first closer t))
-        (with_taken reader leaf taken closer (asked_behind h v)) (Settled (wikilink reader leaf first closer u))
-        (taken_behind taken closer v) (settled t (wikilink reader leaf first closer t) (wikilink reader leaf first closer u) refl)
+        (with_taken reader leaf taken closer (asked_after h v)) (Settled (wikilink reader leaf first closer u))
+        (taken_after taken closer v) (settled t (wikilink reader leaf first closer t) (wikilink reader leaf first closer u) refl)
 
-    taking_behind : (taken : Option Taken) (closer : Bracket) (t : State) → Follows t (taking reader leaf taken closer t) (taking reader leaf taken closer (asked_behind h t))
-    taking_behind taken closer t =
-        let u = asked_behind h t in
-        by_bool t (reader.options.wikilinks && first_is (λ b. b == 93) (behind reader leaf closer.end))
+    taking_after : (taken : Option Taken) (closer : Bracket) (t : State) → Follows t (taking reader leaf taken closer t) (taking reader leaf taken closer (asked_after h t))
+    taking_after taken closer t =
+        let u = asked_after h t in
+        by_bool t (reader.options.wikilinks && first_is (λ b. b == 93) (following reader leaf closer.end))
         (wikilink_or reader leaf (doubled t.openers) taken closer t) (with_taken reader leaf taken closer t)
         (wikilink_or reader leaf (doubled t.openers) taken closer u) (with_taken reader leaf taken closer u)
-        (wikilink_behind (doubled t.openers) taken closer t) (taken_behind taken closer t)
+        (wikilink_after (doubled t.openers) taken closer t) (taken_after taken closer t)
 
-    decide_behind : (s : State) (closer : Bracket) → Follows s (decide reader leaf s closer) (decide reader leaf (asked_behind h s) closer)
+    decide_after : (s : State) (closer : Bracket) → Follows s (decide reader leaf s closer) (decide reader leaf (asked_after h s) closer)
     unfolding decide
-    decide_behind s closer =
-        taking_behind (nearest s.openers) closer (record { at = s.at; expansion_left = s.expansion_left; label_close = s.label_close; asked = s.asked; openers = used_up s.openers })
+    decide_after s closer =
+        taking_after (nearest s.openers) closer (record { at = s.at; expansion_left = s.expansion_left; label_close = s.label_close; asked = s.asked; openers = used_up s.openers })
 
 pub decide-shifted : (reader : Reader) (leaf : Leaf) → IsShifted (decide reader leaf)
-decide-shifted reader leaf = record { comes = λ h all s closer o k. decide_behind h reader leaf s closer all o k }
+decide-shifted reader leaf = record { comes = λ h all s closer o k. decide_after h reader leaf s closer all o k }

@@ -18,10 +18,10 @@ use Rattle.cmark_grammar.specs.Questions.{AnyAnswer}
 use Rattle.cmark_grammar.specs.Quotes.{Quote, quote_characters}
 use Rattle.cmark_grammar.specs.Readers.{Reader}
 use Rattle.cmark_grammar.specs.Siblings.{Inline, Nil, Single, Around, item, no_item, item_then, footnote_then, quotes_of, tag_by, from_place, display_from}
-use Rattle.cmark_grammar.specs.SiblingsModel.{dress, siblings_of}
+use Rattle.cmark_inline_model.specs.SiblingsModel.{dress, siblings_of}
 use Rattle.cmark_grammar.specs.Spans.{Spans}
 use Rattle.cmark_inline_model.specs.BracketPass.{Pass, closed_by}
-use Rattle.cmark_inline_model.specs.CutRanges.{IsBehindPipe}
+use Rattle.cmark_inline_model.specs.CutRanges.{IsAfterPipe}
 use Rattle.cmark_inline_model.specs.Displays.{hidden_by, shown_from, empty_text, display_slots, display_target, LeavesRuns, LeavesQuotes, CanBeCut, IsCutThere, ShowsLike, CutFacts, CutKind, IsText, OwnedFacts}
 use Rattle.cmark_inline_model.specs.LeafModel.{HaveLineEnds}
 use Rattle.cmark_inline_model.specs.LikeSlots.{AreLike}
@@ -146,35 +146,35 @@ runs_left : (fr lr : List Run) (fb lb : List ℕ) (at c : ℕ) → Sizes (fr ++ 
     → ((k : ℕ) → k < c → k < length (fr ++ lr) → get_or (fb ++ lb) (bytes_in (take k (fr ++ lr))) 0 < at)
     → (c < length (fr ++ lr) → at ≤ get_or (fb ++ lb) (bytes_in (take c (fr ++ lr))) 0)
     → (drop c (fr ++ lr) ≡ lr) × (drop (bytes_in (take c (fr ++ lr))) (fb ++ lb) ≡ lb)
-runs_left [] lr [] lb at zero s nf nl hf hl before behind = (refl, refl)
-runs_left [] lr (b ∷ fb) lb at c s nf nl hf hl before behind = absurd (omega arith)
-runs_left [] [] [] lb at (suc c) s nf nl hf hl before behind = (refl, refl)
-runs_left [] (r ∷ lr) [] [] at (suc c) s nf nl hf hl before behind = absurd (let z = s.0 in omega arith)
-runs_left [] (r ∷ lr) [] (b ∷ lb) at (suc c) s nf nl hf hl before behind = absurd (let z : b < at = before 0 (omega arith) (omega arith) in let y = hl.0 in omega arith)
-runs_left (r ∷ fr) lr [] lb at c s nf nl hf hl before behind = absurd (let z = s.0 in omega arith)
-runs_left (r ∷ fr) lr (b ∷ fb) lb at zero s nf nl hf hl before behind = absurd (let z : at ≤ b = behind (omega arith) in let y = hf.0 in omega arith)
-runs_left (r ∷ fr) lr (b ∷ fb) lb at (suc c) s nf nl hf hl before behind =
+runs_left [] lr [] lb at zero s nf nl hf hl before following = (refl, refl)
+runs_left [] lr (b ∷ fb) lb at c s nf nl hf hl before following = absurd (omega arith)
+runs_left [] [] [] lb at (suc c) s nf nl hf hl before following = (refl, refl)
+runs_left [] (r ∷ lr) [] [] at (suc c) s nf nl hf hl before following = absurd (let z = s.0 in omega arith)
+runs_left [] (r ∷ lr) [] (b ∷ lb) at (suc c) s nf nl hf hl before following = absurd (let z : b < at = before 0 (omega arith) (omega arith) in let y = hl.0 in omega arith)
+runs_left (r ∷ fr) lr [] lb at c s nf nl hf hl before following = absurd (let z = s.0 in omega arith)
+runs_left (r ∷ fr) lr (b ∷ fb) lb at zero s nf nl hf hl before following = absurd (let z : at ≤ b = following (omega arith) in let y = hf.0 in omega arith)
+runs_left (r ∷ fr) lr (b ∷ fb) lb at (suc c) s nf nl hf hl before following =
     let all = b ∷ fb in
     let fits : r.run_length ≤ length all = omega arith in
     let n = length-drop r.run_length all in
     let rest = drop r.run_length all in
     let i = runs_left fr lr rest lb at c s.1 (omega arith) nl (below_drop r.run_length at all hf) hl
     (λ k a e. subst (λ x. x < at) (get_skip r.run_length all lb (bytes_in (take k (fr ++ lr))) fits) (before (suc k) (omega arith) (omega arith)))
-    (λ e. subst (λ x. at ≤ x) (get_skip r.run_length all lb (bytes_in (take c (fr ++ lr))) fits) (behind (omega arith))) in
+    (λ e. subst (λ x. at ≤ x) (get_skip r.run_length all lb (bytes_in (take c (fr ++ lr))) fits) (following (omega arith))) in
     (i.0, drop_skip r.run_length all lb (bytes_in (take c (fr ++ lr))) fits ∙ i.1)
 
 quotes_left : (fq lq : List ℕ) (fx lx : List Quote) (at c : ℕ) → length fq ≡ length fx → length lq ≡ length lx → Below at fq → From at lq
     → ((k : ℕ) → k < c → k < length (fq ++ lq) → get_or (fq ++ lq) k 0 < at) → (c < length (fq ++ lq) → at ≤ get_or (fq ++ lq) c 0)
     → (drop c (fq ++ lq) ≡ lq) × (drop c (fx ++ lx) ≡ lx)
-quotes_left [] lq [] lx at zero nf nl hf hl before behind = (refl, refl)
-quotes_left [] lq (x ∷ fx) lx at c nf nl hf hl before behind = absurd (omega arith)
-quotes_left (q ∷ fq) lq [] lx at c nf nl hf hl before behind = absurd (omega arith)
-quotes_left [] [] [] [] at (suc c) nf nl hf hl before behind = (refl, refl)
-quotes_left [] [] [] (x ∷ lx) at (suc c) nf nl hf hl before behind = absurd (omega arith)
-quotes_left [] (q ∷ lq) [] lx at (suc c) nf nl hf hl before behind = absurd (let z : q < at = before 0 (omega arith) (omega arith) in let y = hl.0 in omega arith)
-quotes_left (q ∷ fq) lq (x ∷ fx) lx at zero nf nl hf hl before behind = absurd (let z : at ≤ q = behind (omega arith) in let y = hf.0 in omega arith)
-quotes_left (q ∷ fq) lq (x ∷ fx) lx at (suc c) nf nl hf hl before behind =
-    quotes_left fq lq fx lx at c (omega arith) nl hf.1 hl (λ k a e. before (suc k) (omega arith) (omega arith)) (λ e. behind (omega arith))
+quotes_left [] lq [] lx at zero nf nl hf hl before following = (refl, refl)
+quotes_left [] lq (x ∷ fx) lx at c nf nl hf hl before following = absurd (omega arith)
+quotes_left (q ∷ fq) lq [] lx at c nf nl hf hl before following = absurd (omega arith)
+quotes_left [] [] [] [] at (suc c) nf nl hf hl before following = (refl, refl)
+quotes_left [] [] [] (x ∷ lx) at (suc c) nf nl hf hl before following = absurd (omega arith)
+quotes_left [] (q ∷ lq) [] lx at (suc c) nf nl hf hl before following = absurd (let z : q < at = before 0 (omega arith) (omega arith) in let y = hl.0 in omega arith)
+quotes_left (q ∷ fq) lq (x ∷ fx) lx at zero nf nl hf hl before following = absurd (let z : at ≤ q = following (omega arith) in let y = hf.0 in omega arith)
+quotes_left (q ∷ fq) lq (x ∷ fx) lx at (suc c) nf nl hf hl before following =
+    quotes_left fq lq fx lx at c (omega arith) nl hf.1 hl (λ k a e. before (suc k) (omega arith) (omega arith)) (λ e. following (omega arith))
 
 bytes_both : (a b : List Run) → bytes_in (a ++ b) ≡ bytes_in a + bytes_in b
 bytes_both [] b = omega arith
@@ -237,7 +237,7 @@ module _ (reader : Reader) (leaf : Leaf) (before : Between) (turn : InTurn 0 lea
   within = omega arith
 
   abbrev Pipe : ℕ → Type 0
-  Pipe at = IsBehindPipe reader.options reader.source at
+  Pipe at = IsAfterPipe reader.options reader.source at
 
   abbrev UncutPart : Item → Type 0
   UncutPart x = Uncut reader leaf (length reader.source) turn within lines x.kind x.start x.end
@@ -357,11 +357,11 @@ module _ (reader : Reader) (leaf : Leaf) (before : Between) (turn : InTurn 0 lea
         form_between cut.cut.before cut.cut.opener closer cut.cut.inside name display end next
         (subst (λ (x : Pass). ReadsTo (entering leaf before) x.here x.state) to (results (token reader leaf) (decide reader leaf) AnyAnswer (entering leaf before) p closer (Forms nearer (Wiki name (Some display) end)) next t comes h.reads))
 
-    shows : ShowsRow display (suc (length cut.front)) inside cut.behind cut.behind_bytes cut.behind_quotes
-    shows = shows-row Pipe display inside cut.cut.opener.end closer.start held.order held.free held.exact (suc (length cut.front)) cut.behind cut.behind_bytes cut.behind_quotes cut.laid_behind
+    shows : ShowsRow display (suc (length cut.front)) inside cut.following cut.after_bytes cut.after_quotes
+    shows = shows-row Pipe display inside cut.cut.opener.end closer.start held.order held.free held.exact (suc (length cut.front)) cut.following cut.after_bytes cut.after_quotes cut.laid_after
 
     abbrev many : ℕ
-    many = hidden_by display cut.behind
+    many = hidden_by display cut.following
 
     abbrev text : List Slot
     text = text_slot cut.cut.opener ∷ []
@@ -370,28 +370,28 @@ module _ (reader : Reader) (leaf : Leaf) (before : Between) (turn : InTurn 0 lea
     front_is =
         let l = length-append cut.front text in
         let n : length (cut.front ++ text) ≡ suc place.slot = (let a = slot_is in omega arith) in
-        sym (ap (take (suc place.slot)) (cut.slots_are ∙ sym (append_assoc cut.front text cut.behind)) ∙ ap (λ i. take i ((cut.front ++ text) ++ cut.behind)) (sym n) ∙ take-append_seam (cut.front ++ text) cut.behind)
+        sym (ap (take (suc place.slot)) (cut.slots_are ∙ sym (append_assoc cut.front text cut.following)) ∙ ap (λ i. take i ((cut.front ++ text) ++ cut.following)) (sym n) ∙ take-append_seam (cut.front ++ text) cut.following)
 
-    behind_is : cut.behind ≡ drop (suc place.slot) h.row
-    behind_is =
+    following_is : cut.following ≡ drop (suc place.slot) h.row
+    following_is =
         let l = length-append cut.front text in
         let n : length (cut.front ++ text) ≡ suc place.slot = (let a = slot_is in omega arith) in
-        sym (ap (drop (suc place.slot)) (cut.slots_are ∙ sym (append_assoc cut.front text cut.behind)) ∙ ap (λ i. drop i ((cut.front ++ text) ++ cut.behind)) (sym n) ∙ drop-append_seam (cut.front ++ text) cut.behind)
+        sym (ap (drop (suc place.slot)) (cut.slots_are ∙ sym (append_assoc cut.front text cut.following)) ∙ ap (λ i. drop i ((cut.front ++ text) ++ cut.following)) (sym n) ∙ drop-append_seam (cut.front ++ text) cut.following)
 
     -- the slots before those that are shown, and those that are shown
     abbrev hidden_front : List Slot
     hidden_front = (cut.front ++ text) ++ nothings many []
 
-    abbrev shown_behind : List Slot
-    shown_behind = shows.rest ++ empty_text display closer.start
+    abbrev shown_after : List Slot
+    shown_after = shows.rest ++ empty_text display closer.start
 
-    row_is : display_slots (suc place.slot) display closer.start h.row ≡ hidden_front ++ shown_behind
+    row_is : display_slots (suc place.slot) display closer.start h.row ≡ hidden_front ++ shown_after
     row_is =
         ap (λ l. l ++ (shown_from display (drop (suc place.slot) h.row) ++ empty_text display closer.start)) (sym front_is)
-        ∙ ap (λ l. (cut.front ++ text) ++ (shown_from display l ++ empty_text display closer.start)) (sym behind_is)
+        ∙ ap (λ l. (cut.front ++ text) ++ (shown_from display l ++ empty_text display closer.start)) (sym following_is)
         ∙ ap (λ l. (cut.front ++ text) ++ (l ++ empty_text display closer.start)) shows.shown
-        ∙ ap (λ l. (cut.front ++ text) ++ l) (nothings-append many shows.rest (empty_text display closer.start) ∙ sym (nothings-append many [] shown_behind))
-        ∙ sym (append_assoc (cut.front ++ text) (nothings many []) shown_behind)
+        ∙ ap (λ l. (cut.front ++ text) ++ l) (nothings-append many shows.rest (empty_text display closer.start) ∙ sym (nothings-append many [] shown_after))
+        ∙ sym (append_assoc (cut.front ++ text) (nothings many []) shown_after)
 
     front_count : length hidden_front ≡ suc (length cut.front) + many
     front_count =
@@ -405,27 +405,27 @@ module _ (reader : Reader) (leaf : Leaf) (before : Between) (turn : InTurn 0 lea
 
     cut_there : IsCutThere reader.source (suc place.slot) display h.row
     cut_there =
-        subst (λ l. hidden_by display l < length l → CanBeCut reader.source display (get_or l (hidden_by display l) NothingSlot)) behind_is
-        (first-shown Pipe reader.source display inside cut.cut.opener.end closer.start held.order held.free held.exact held.known (suc (length cut.front)) cut.behind cut.behind_bytes cut.behind_quotes cut.laid_behind)
+        subst (λ l. hidden_by display l < length l → CanBeCut reader.source display (get_or l (hidden_by display l) NothingSlot)) following_is
+        (first-shown Pipe reader.source display inside cut.cut.opener.end closer.start held.order held.free held.exact held.known (suc (length cut.front)) cut.following cut.after_bytes cut.after_quotes cut.laid_after)
 
     module _ (left_runs left_quotes at : ℕ) (first : at ≡ suc place.slot + hidden_by display (drop (suc place.slot) h.row)) (lr : LeavesRuns place.runs left_runs at runs bytes) (lq : LeavesQuotes place.quotes left_quotes at quotes) where
       at_is : at ≡ suc (length cut.front) + many
-      at_is = first ∙ ap (λ l. suc place.slot + hidden_by display l) (sym behind_is) ∙ ap (λ n. suc n + many) slot_is
+      at_is = first ∙ ap (λ l. suc place.slot + hidden_by display l) (sym following_is) ∙ ap (λ n. suc n + many) slot_is
 
       abbrev count : ℕ
       count = bytes_in (take place.runs runs)
 
-      behind_runs : drop place.runs runs ≡ shows.front_runs ++ runs_in (from_place display inside)
-      behind_runs = ap (λ (b : BracketPlace). drop b.runs runs) (sym place_is) ∙ sym cut.runs_behind ∙ shows.runs_are
+      after_runs : drop place.runs runs ≡ shows.front_runs ++ runs_in (from_place display inside)
+      after_runs = ap (λ (b : BracketPlace). drop b.runs runs) (sym place_is) ∙ sym cut.runs_after ∙ shows.runs_are
 
-      behind_bytes : drop count bytes ≡ shows.front_bytes ++ shows.later_bytes
-      behind_bytes = sym (passes.behind_bytes reader leaf before p bs slots bytes quotes runs quoted_are h closer nearer (Wiki name (Some display) end) next place there t comes) ∙ shows.bytes_are
+      after_bytes : drop count bytes ≡ shows.front_bytes ++ shows.later_bytes
+      after_bytes = sym (passes.after_bytes reader leaf before p bs slots bytes quotes runs quoted_are h closer nearer (Wiki name (Some display) end) next place there t comes) ∙ shows.bytes_are
 
-      behind_quotes : drop place.quotes quotes ≡ shows.front_quotes ++ shows.later_quotes
-      behind_quotes = sym (passes.behind_quotes reader leaf before p bs slots bytes quotes runs quoted_are h closer nearer (Wiki name (Some display) end) next place there t comes) ∙ shows.quotes_are
+      after_quotes : drop place.quotes quotes ≡ shows.front_quotes ++ shows.later_quotes
+      after_quotes = sym (passes.after_quotes reader leaf before p bs slots bytes quotes runs quoted_are h closer nearer (Wiki name (Some display) end) next place there t comes) ∙ shows.quotes_are
 
-      behind_quoted : drop place.quotes quoted_are ≡ shows.front_quoted ++ quotes_of (from_place display inside)
-      behind_quoted = ap (λ (b : BracketPlace). drop b.quotes quoted_are) (sym place_is) ∙ sym cut.quoted_behind ∙ shows.quoted_are
+      after_quoted : drop place.quotes quoted_are ≡ shows.front_quoted ++ quotes_of (from_place display inside)
+      after_quoted = ap (λ (b : BracketPlace). drop b.quotes quoted_are) (sym place_is) ∙ sym cut.quoted_after ∙ shows.quoted_are
 
       abbrev more : ℕ
       more = left_runs - place.runs
@@ -438,54 +438,54 @@ module _ (reader : Reader) (leaf : Leaf) (before : Between) (turn : InTurn 0 lea
 
       byte_at : (k : ℕ) → get_or bytes (bytes_in (take (place.runs + k) runs)) 0 ≡ get_or (shows.front_bytes ++ shows.later_bytes) (bytes_in (take k (shows.front_runs ++ runs_in (from_place display inside)))) 0
       byte_at k =
-          ap (λ n. get_or bytes n 0) (bytes_at k) ∙ sym (get_or-drop count bytes (bytes_in (take k (drop place.runs runs))) 0) ∙ ap (λ l. get_or l (bytes_in (take k (drop place.runs runs))) 0) behind_bytes
-          ∙ ap (λ l. get_or (shows.front_bytes ++ shows.later_bytes) (bytes_in (take k l)) 0) behind_runs
+          ap (λ n. get_or bytes n 0) (bytes_at k) ∙ sym (get_or-drop count bytes (bytes_in (take k (drop place.runs runs))) 0) ∙ ap (λ l. get_or l (bytes_in (take k (drop place.runs runs))) 0) after_bytes
+          ∙ ap (λ l. get_or (shows.front_bytes ++ shows.later_bytes) (bytes_in (take k l)) 0) after_runs
 
       runs_are : (drop more (shows.front_runs ++ runs_in (from_place display inside)) ≡ runs_in (from_place display inside))
           × (drop (bytes_in (take more (shows.front_runs ++ runs_in (from_place display inside)))) (shows.front_bytes ++ shows.later_bytes) ≡ shows.later_bytes)
       runs_are =
-          let later = lays-count (display_from display closer.start inside) (suc (length cut.front) + many) shown_behind shows.later_bytes shows.later_quotes row.laid in
-          let n = ap length behind_runs in
+          let later = lays-count (display_from display closer.start inside) (suc (length cut.front) + many) shown_after shows.later_bytes shows.later_quotes row.laid in
+          let n = ap length after_runs in
           let d = length-drop place.runs runs in
           let o = lr.order in
           runs_left shows.front_runs (runs_in (from_place display inside)) shows.front_bytes shows.later_bytes at more (subst Sizes shows.runs_are (exact_sizes inside held.exact)) shows.bytes_count
-          (later.0 ∙ ap bytes_in row.runs) (subst (λ m. Below m shows.front_bytes) (sym at_is) shows.bytes_before) (subst (λ m. From m shows.later_bytes) (sym at_is) shows.bytes_behind)
+          (later.0 ∙ ap bytes_in row.runs) (subst (λ m. Below m shows.front_bytes) (sym at_is) shows.bytes_before) (subst (λ m. From m shows.later_bytes) (sym at_is) shows.bytes_after)
           (λ k a e. subst (λ x. x < at) (byte_at k) (lr.before (place.runs + k) (omega arith) (omega arith) (omega arith)))
-          (λ e. subst (λ x. at ≤ x) (byte_at more) (subst (λ m. at ≤ get_or bytes (bytes_in (take m runs)) 0) (let q : left_runs ≡ place.runs + more = omega arith in q) (lr.behind (omega arith))))
+          (λ e. subst (λ x. at ≤ x) (byte_at more) (subst (λ m. at ≤ get_or bytes (bytes_in (take m runs)) 0) (let q : left_runs ≡ place.runs + more = omega arith in q) (lr.following (omega arith))))
 
       quotes_are : (drop more_quotes (shows.front_quotes ++ shows.later_quotes) ≡ shows.later_quotes) × (drop more_quotes (shows.front_quoted ++ quotes_of (from_place display inside)) ≡ quotes_of (from_place display inside))
       quotes_are =
-          let later = lays-count (display_from display closer.start inside) (suc (length cut.front) + many) shown_behind shows.later_bytes shows.later_quotes row.laid in
-          let n = ap length behind_quotes in
+          let later = lays-count (display_from display closer.start inside) (suc (length cut.front) + many) shown_after shows.later_bytes shows.later_quotes row.laid in
+          let n = ap length after_quotes in
           let d = length-drop place.quotes quotes in
           let o = lq.order in
           quotes_left shows.front_quotes shows.later_quotes shows.front_quoted (quotes_of (from_place display inside)) at more_quotes shows.quotes_count (later.1 ∙ ap length row.quoted)
-          (subst (λ m. Below m shows.front_quotes) (sym at_is) shows.quotes_before) (subst (λ m. From m shows.later_quotes) (sym at_is) shows.quotes_behind)
-          (λ k a e. subst (λ x. x < at) (sym (get_or-drop place.quotes quotes k 0) ∙ ap (λ l. get_or l k 0) behind_quotes) (lq.before (place.quotes + k) (omega arith) (omega arith) (omega arith)))
-          (λ e. subst (λ x. at ≤ x) (sym (get_or-drop place.quotes quotes more_quotes 0) ∙ ap (λ l. get_or l more_quotes 0) behind_quotes)
-          (subst (λ m. at ≤ get_or quotes m 0) (let q : left_quotes ≡ place.quotes + more_quotes = omega arith in q) (lq.behind (omega arith))))
+          (subst (λ m. Below m shows.front_quotes) (sym at_is) shows.quotes_before) (subst (λ m. From m shows.later_quotes) (sym at_is) shows.quotes_after)
+          (λ k a e. subst (λ x. x < at) (sym (get_or-drop place.quotes quotes k 0) ∙ ap (λ l. get_or l k 0) after_quotes) (lq.before (place.quotes + k) (omega arith) (omega arith) (omega arith)))
+          (λ e. subst (λ x. at ≤ x) (sym (get_or-drop place.quotes quotes more_quotes 0) ∙ ap (λ l. get_or l more_quotes 0) after_quotes)
+          (subst (λ m. at ≤ get_or quotes m 0) (let q : left_quotes ≡ place.quotes + more_quotes = omega arith in q) (lq.following (omega arith))))
 
       -- the remaining runs and quotes are those of the text that is shown
       left_runs_are : drop left_runs runs ≡ runs_in (display_from display closer.start inside)
       left_runs_are =
           let o = lr.order in
-          ap (λ m. drop m runs) (let q : left_runs ≡ place.runs + more = omega arith in q) ∙ sym (drop-drop more place.runs runs) ∙ ap (drop more) behind_runs ∙ runs_are.0 ∙ sym row.runs
+          ap (λ m. drop m runs) (let q : left_runs ≡ place.runs + more = omega arith in q) ∙ sym (drop-drop more place.runs runs) ∙ ap (drop more) after_runs ∙ runs_are.0 ∙ sym row.runs
 
       left_bytes_are : drop (bytes_in (take left_runs runs)) bytes ≡ shows.later_bytes
       left_bytes_are =
           let o = lr.order in
           ap (λ m. drop (bytes_in (take m runs)) bytes) (let q : left_runs ≡ place.runs + more = omega arith in q) ∙ ap (λ m. drop m bytes) (bytes_at more) ∙ sym (drop-drop (bytes_in (take more (drop place.runs runs))) count bytes)
-          ∙ ap (λ l. drop (bytes_in (take more l)) (drop count bytes)) behind_runs ∙ ap (drop (bytes_in (take more (shows.front_runs ++ runs_in (from_place display inside))))) behind_bytes ∙ runs_are.1
+          ∙ ap (λ l. drop (bytes_in (take more l)) (drop count bytes)) after_runs ∙ ap (drop (bytes_in (take more (shows.front_runs ++ runs_in (from_place display inside))))) after_bytes ∙ runs_are.1
 
       left_quotes_are : drop left_quotes quotes ≡ shows.later_quotes
       left_quotes_are =
           let o = lq.order in
-          ap (λ m. drop m quotes) (let q : left_quotes ≡ place.quotes + more_quotes = omega arith in q) ∙ sym (drop-drop more_quotes place.quotes quotes) ∙ ap (drop more_quotes) behind_quotes ∙ quotes_are.0
+          ap (λ m. drop m quotes) (let q : left_quotes ≡ place.quotes + more_quotes = omega arith in q) ∙ sym (drop-drop more_quotes place.quotes quotes) ∙ ap (drop more_quotes) after_quotes ∙ quotes_are.0
 
       left_quoted_are : drop left_quotes quoted_are ≡ quotes_of (display_from display closer.start inside)
       left_quoted_are =
           let o = lq.order in
-          ap (λ m. drop m quoted_are) (let q : left_quotes ≡ place.quotes + more_quotes = omega arith in q) ∙ sym (drop-drop more_quotes place.quotes quoted_are) ∙ ap (drop more_quotes) behind_quoted ∙ quotes_are.1 ∙ sym row.quoted
+          ap (λ m. drop m quoted_are) (let q : left_quotes ≡ place.quotes + more_quotes = omega arith in q) ∙ sym (drop-drop more_quotes place.quotes quoted_are) ∙ ap (drop more_quotes) after_quoted ∙ quotes_are.1 ∙ sym row.quoted
 
       abbrev made : List Slot → List ℕ → List ℕ → List Quote → List Pair → List Slot
       made l bs qs cs pairs = marked reader.options bs (marks_by (length bs) pairs) (quoted qs (quote_characters [] cs) l) []
@@ -498,9 +498,9 @@ module _ (reader : Reader) (leaf : Leaf) (before : Between) (turn : InTurn 0 lea
             (take count bytes) (take place.quotes quotes) (take place.runs runs) (take place.quotes quoted_are)
         reached-display =
             let display_siblings = display_from display closer.start inside in
-            let laid : LaysOut (length hidden_front) display_siblings shown_behind shows.later_bytes shows.later_quotes =
-            subst (λ i. LaysOut i display_siblings shown_behind shows.later_bytes shows.later_quotes) (sym front_count) row.laid in
-            let s = row-dressed reader.options display_siblings hidden_front shown_behind (display_slots (suc place.slot) display closer.start h.row) shows.later_bytes shows.later_quotes (drop left_runs runs) (drop left_quotes quoted_are) row_is laid
+            let laid : LaysOut (length hidden_front) display_siblings shown_after shows.later_bytes shows.later_quotes =
+            subst (λ i. LaysOut i display_siblings shown_after shows.later_bytes shows.later_quotes) (sym front_count) row.laid in
+            let s = row-dressed reader.options display_siblings hidden_front shown_after (display_slots (suc place.slot) display closer.start h.row) shows.later_bytes shows.later_quotes (drop left_runs runs) (drop left_quotes quoted_are) row_is laid
             (sym left_runs_are) (sym left_quoted_are) pairs spans e in
             let same : made (display_slots (suc place.slot) display closer.start h.row) (drop (bytes_in (take left_runs runs)) bytes) (drop left_quotes quotes) (drop left_quotes quoted_are) pairs ≡ hidden_front ++ s.own =
             ap (λ l. made (display_slots (suc place.slot) display closer.start h.row) l (drop left_quotes quotes) (drop left_quotes quoted_are) pairs) left_bytes_are
@@ -528,7 +528,7 @@ module _ (reader : Reader) (leaf : Leaf) (before : Between) (turn : InTurn 0 lea
       → (closer : Bracket) (nearer : ℕ) (name : List ℕ) (display end : ℕ) (next : State) (place : BracketPlace) → drop nearer bs ≡ place ∷ drop (suc nearer) bs → token reader leaf p.state.at ≡ Closes closer
       → Comes AnyAnswer p.state.asked (decide reader leaf p.state closer) (record { result = Forms nearer (Wiki name (Some display) end); after = next })
       → (left_runs left_quotes at : ℕ) (now : List Slot) → LeavesRuns place.runs left_runs at runs bytes → LeavesQuotes place.quotes left_quotes at quotes
-      → ((row : List Slot) → AreLike reader.source slots row → IsCutThere reader.source (suc place.slot) display row → IsBehindPipe reader.options reader.source display → display ≤ closer.start → ShowsLike reader.source (suc place.slot) display closer.start at row now)
+      → ((row : List Slot) → AreLike reader.source slots row → IsCutThere reader.source (suc place.slot) display row → IsAfterPipe reader.options reader.source display → display ≤ closer.start → ShowsLike reader.source (suc place.slot) display closer.start at row now)
       → (pairs : List Pair) (spans : Spans) → IsEmphasis (counted 0 (drop left_runs runs)) pairs spans
       → IsReached reader leaf before (closed_by p closer (record { result = Forms nearer (Wiki name (Some display) end); after = next })) (drop (suc nearer) bs)
       (linked_slots place (display_target name end)

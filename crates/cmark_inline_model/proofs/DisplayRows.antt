@@ -135,12 +135,12 @@ pub record ShowsRow (place at : ℕ) (siblings : Inline) (row : List Slot) (byte
   pub later_bytes : List ℕ
   pub bytes_are : bytes ≡ front_bytes ++ later_bytes
   pub bytes_before : Below (at + hidden_by place row) front_bytes
-  pub bytes_behind : From (at + hidden_by place row) later_bytes
+  pub bytes_after : From (at + hidden_by place row) later_bytes
   pub front_quotes : List ℕ
   pub later_quotes : List ℕ
   pub quotes_are : quotes ≡ front_quotes ++ later_quotes
   pub quotes_before : Below (at + hidden_by place row) front_quotes
-  pub quotes_behind : From (at + hidden_by place row) later_quotes
+  pub quotes_after : From (at + hidden_by place row) later_quotes
   pub front_runs : List Run
   pub runs_are : runs_in siblings ≡ front_runs ++ runs_in (from_place place siblings)
   pub bytes_count : length front_bytes ≡ bytes_in front_runs
@@ -171,10 +171,10 @@ bytes-in-both : (a b : List Run) → bytes_in (a ++ b) ≡ bytes_in a + bytes_in
 bytes-in-both [] b = omega arith
 bytes-in-both (r ∷ a) b = let i = bytes-in-both a b in omega arith
 
-behind-hidden : (place at : ℕ) (siblings after : Inline) (row : List Slot) (bytes quotes : List ℕ) (runs : List Run) (quoted : List Quote)
+following-hidden : (place at : ℕ) (siblings after : Inline) (row : List Slot) (bytes quotes : List ℕ) (runs : List Run) (quoted : List Quote)
     → (h : Hidden place at row bytes quotes runs quoted (λ i j k l. LaysOut i after j k l)) → from_place place siblings ≡ from_place place after → runs_in siblings ≡ runs ++ runs_in after → quotes_of siblings ≡ quoted ++ quotes_of after
     → ShowsRow place (at + length h.front) after h.more h.more_bytes h.more_quotes → ShowsRow place at siblings row bytes quotes
-behind-hidden place at siblings after row bytes quotes runs quoted h same runs_are quoted_are i =
+following-hidden place at siblings after row bytes quotes runs quoted h same runs_are quoted_are i =
     let s = shown-hidden place h.front h.more h.ends in
     let count : hidden_by place row ≡ length h.front + hidden_by place h.more = ap (hidden_by place) h.row_is ∙ s.1 in
     let n : (at + length h.front) + hidden_by place h.more ≡ at + hidden_by place row = omega arith in
@@ -191,13 +191,13 @@ behind-hidden place at siblings after row bytes quotes runs quoted h same runs_a
       bytes_are = h.bytes_are ∙ ap (λ l. h.front_bytes ++ l) i.bytes_are ∙ sym (append_assoc h.front_bytes i.front_bytes i.later_bytes);
       bytes_before = subst (λ m. Below m (h.front_bytes ++ i.front_bytes)) n
           (below-both ((at + length h.front) + hidden_by place h.more) h.front_bytes i.front_bytes (below-more (at + length h.front) ((at + length h.front) + hidden_by place h.more) h.front_bytes (omega arith) h.bytes_before) i.bytes_before);
-      bytes_behind = subst (λ m. From m i.later_bytes) n i.bytes_behind;
+      bytes_after = subst (λ m. From m i.later_bytes) n i.bytes_after;
       front_quotes = h.front_quotes ++ i.front_quotes;
       later_quotes = i.later_quotes;
       quotes_are = h.quotes_are ∙ ap (λ l. h.front_quotes ++ l) i.quotes_are ∙ sym (append_assoc h.front_quotes i.front_quotes i.later_quotes);
       quotes_before = subst (λ m. Below m (h.front_quotes ++ i.front_quotes)) n
           (below-both ((at + length h.front) + hidden_by place h.more) h.front_quotes i.front_quotes (below-more (at + length h.front) ((at + length h.front) + hidden_by place h.more) h.front_quotes (omega arith) h.quotes_before) i.quotes_before);
-      quotes_behind = subst (λ m. From m i.later_quotes) n i.quotes_behind;
+      quotes_after = subst (λ m. From m i.later_quotes) n i.quotes_after;
       front_runs = runs ++ i.front_runs;
       runs_are = runs_are ∙ ap (λ l. runs ++ l) i.runs_are ∙ sym (append_assoc runs i.front_runs (runs_in (from_place place after))) ∙ ap (λ l. (runs ++ i.front_runs) ++ runs_in l) (sym same);
       bytes_count = omega arith;
@@ -221,12 +221,12 @@ all-kept place at siblings row bytes quotes none laid runs quoted kept =
       later_bytes = bytes;
       bytes_are = refl;
       bytes_before = tt;
-      bytes_behind = subst (λ m. From m bytes) n f.0;
+      bytes_after = subst (λ m. From m bytes) n f.0;
       front_quotes = [];
       later_quotes = quotes;
       quotes_are = refl;
       quotes_before = tt;
-      quotes_behind = subst (λ m. From m quotes) n f.1;
+      quotes_after = subst (λ m. From m quotes) n f.1;
       front_runs = [];
       runs_are = sym runs;
       bytes_count = refl;
@@ -457,7 +457,7 @@ module _ (Pipe : ℕ → Type 0) where
           → ((p : Hidden place at s b q (run_of x.kind) (quote_of x.kind) (λ i j k l. LaysOut i after j k l)) → ShowsRow place (at + length p.front) after p.more p.more_bytes p.more_quotes) → ShowsRow place at (Single x after) s b q
       go true e ih =
           let p = hidden-item x.kind x place (λ i j k l. LaysOut i after j k l) e ex.0 at s b q h in
-          behind-hidden place at (Single x after) after s b q (run_of x.kind) (quote_of x.kind) p (ap cut e) (run-front x.kind (runs_in after)) (quote-front x.kind (quotes_of after)) (ih p)
+          following-hidden place at (Single x after) after s b q (run_of x.kind) (quote_of x.kind) p (ap cut e) (run-front x.kind (runs_in after)) (quote-front x.kind (quotes_of after)) (ih p)
       go false e ih =
           let k = kept-item x.kind x place (λ i j k l. LaysOut i after j k l) e free.0 ex.0 at s b q h in
           let is : from_place place (Single x after) ≡ Single (from_there place x) after = ap cut e in
@@ -472,7 +472,7 @@ module _ (Pipe : ℕ → Type 0) where
           → ((p : Hidden place at s b q [] [] (λ i j k l. LaysOut i after j k l)) → ShowsRow place (at + length p.front) after p.more p.more_bytes p.more_quotes) → ShowsRow place at (Around tag start end inside after) s b q
       go true e ih =
           let p = hidden-element place at tag start end inside after order.0 order.4 e s b q h in
-          behind-hidden place at (Around tag start end inside after) after s b q [] [] p (ap cut e) refl refl (ih p)
+          following-hidden place at (Around tag start end inside after) after s b q [] [] p (ap cut e) refl refl (ih p)
       go false e ih =
           let k = shown-kept place (BeginSlot tag start end) (h.0 ++ (EndSlot ∷ h.1)) e in
           let is : from_place place (Around tag start end inside after) ≡ Around tag (max start place) end inside after = ap cut e in
@@ -494,8 +494,8 @@ module _ (Pipe : ℕ → Type 0) where
     abbrev IsFirst : (place : ℕ) → List Slot → Type 0
     IsFirst place row = hidden_by place row < length row → CanBeCut source place (get_or row (hidden_by place row) NothingSlot)
 
-    first-behind : (place : ℕ) (front more row : List Slot) → row ≡ front ++ more → EndBy place front → IsFirst place more → IsFirst place row
-    first-behind place front more row e ends h = λ lt.
+    first-following : (place : ℕ) (front more row : List Slot) → row ≡ front ++ more → EndBy place front → IsFirst place more → IsFirst place row
+    first-following place front more row e ends h = λ lt.
         let s = shown-hidden place front more ends in
         let n = ap (hidden_by place) e ∙ s.1 in
         let l = ap length e ∙ length-append front more in
@@ -537,7 +537,7 @@ module _ (Pipe : ℕ → Type 0) where
         go : (c : Bool) → nat_le x.end place ≡ c → ((p : Hidden place at s b q (run_of x.kind) (quote_of x.kind) (λ i j k l. LaysOut i after j k l)) → IsFirst place p.more) → IsFirst place s
         go true e ih =
             let p = hidden-item x.kind x place (λ i j k l. LaysOut i after j k l) e ex.0 at s b q h in
-            first-behind place p.front p.more s p.row_is p.ends (ih p)
+            first-following place p.front p.more s p.row_is p.ends (ih p)
         go false e ih = first-item x.kind x place (λ i j k l. LaysOut i after j k l) e free.0 ex.0 known.0 at s b q h
     first-shown place (Around tag start end inside after) from to order free ex known at s b q h =
         go (nat_le end place) refl (λ p. first-shown place after end to order.5 free ex known (at + length p.front) p.more p.more_bytes p.more_quotes p.after)
@@ -545,7 +545,7 @@ module _ (Pipe : ℕ → Type 0) where
         go : (c : Bool) → nat_le end place ≡ c → ((p : Hidden place at s b q [] [] (λ i j k l. LaysOut i after j k l)) → IsFirst place p.more) → IsFirst place s
         go true e ih =
             let p = hidden-element place at tag start end inside after order.0 order.4 e s b q h in
-            first-behind place p.front p.more s p.row_is p.ends (ih p)
+            first-following place p.front p.more s p.row_is p.ends (ih p)
         go false e ih = first-here place (BeginSlot tag start end) (h.0 ++ (EndSlot ∷ h.1)) s h.3 (ap (hidden_by place) h.3 ∙ (shown-kept place (BeginSlot tag start end) (h.0 ++ (EndSlot ∷ h.1)) e).1) tt
 
   -- ## The text of no bytes

@@ -9,7 +9,7 @@ use Rattle.cmark_grammar.specs.LeafText.{Leaf, end_of, InTurn}
 use Rattle.cmark_grammar.specs.Questions.{Exchange, Saying, Plan, ByPlan, IsNext}
 use Rattle.cmark_grammar.specs.Readers.{Reader}
 use Rattle.cmark_grammar.specs.SpanDocuments.{Profile, reader_of, Segment, Given, Content, segments, ReadsAll, at_start, IsReading}
-use Rattle.cmark_grammar.proofs.BlockDocumentOne.{document-only}
+use Rattle.cmark_block_model.proofs.BlockDocumentOne.{document-only}
 use Rattle.cmark_inline_model.specs.LeafModel.{leaf_events, leaf_after, all_events, all_after, AreLeavesInTurn}
 use Rattle.cmark_inline_model.specs.Progress.{IsForward, IsRecorded}
 use Rattle.cmark_inline_model.proofs.BracketQuestions.{reads-add}

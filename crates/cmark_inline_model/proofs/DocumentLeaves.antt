@@ -7,7 +7,7 @@ use Rattle.std.proofs.Common.{Bool, true, false, ℕ, ◌≤◌, List, [], ◌�
 use Rattle.cmark_grammar.specs.BlockDocument.{BlockKind, Paragraph, TightParagraph, Heading, ThematicBreak, IndentedCode, FencedCode, HtmlBlock, LinkDefinition, MetadataBlock, BlockQuote, BlockList, ListItem, TaskMarker, FootnoteDefinition, DefinitionList, DefinitionListTitle, DefinitionListDefinition, Text, OwnedText, Html, BlockNode, BlockDocument, Nil, Node, Table, TableHead, TableRow, TableCell}
 use Rattle.cmark_grammar.specs.BlockReading.{Reads, Around, Inside, Alone, First, Silent, starts_before, over, first_event, read_as, is_leaf, is_title, title_as, begins_title, starts_of, starts_as}
 use Rattle.cmark_grammar.specs.LeafText.{InTurn}
-use Rattle.cmark_grammar.specs.Ranges.{InOrder}
+use Rattle.cmark_block_model.specs.Ranges.{InOrder}
 use Rattle.cmark_grammar.specs.SpanDocuments.{Segment, Given, Content, stretches_of, inside_of, node_segments, first_of_segments, with_first_segment, segments, leaf_of}
 use Rattle.cmark_inline_model.specs.LeafModel.{AreLeavesInTurn}
 use Rattle.std.specs.Prelude.{if◌then◌else◌}
@@ -140,18 +140,18 @@ pub begins-start : (document : BlockDocument) → StartsWith (starts_before docu
 begins-start Nil = tt
 begins-start (Node node inside after) = go (read_as node.kind) (inside_of node.kind inside (segments inside)) refl (begins-start after)
   where
-    behind : Tag → List Segment → List Segment
-    behind t own = (own ++ (Given (over node (End (end_of t))) ∷ [])) ++ segments after
+    following : Tag → List Segment → List Segment
+    following t own = (own ++ (Given (over node (End (end_of t))) ∷ [])) ++ segments after
 
     around : (t : Tag) (own : List Segment) → own ≡ inside_of node.kind inside (segments inside)
         → (starts_of node.kind (begins_title inside) ≡ 0) ⊎ ((starts_of node.kind (begins_title inside) ≡ 1) ⊎ ((begins_title inside ≡ true) × (starts_of node.kind (begins_title inside) ≡ 2) × (is_leaf node.kind ≡ false)))
-        → StartsWith (starts_of node.kind (begins_title inside)) (Given (over node (Start t)) ∷ behind t own)
-    around t own e (inl z) = subst (λ n. StartsWith n (Given (over node (Start t)) ∷ behind t own)) (sym z) tt
-    around t own e (inr (inl z)) = subst (λ n. StartsWith n (Given (over node (Start t)) ∷ behind t own)) (sym z) (over node (Start t), behind t own, refl, t, refl)
+        → StartsWith (starts_of node.kind (begins_title inside)) (Given (over node (Start t)) ∷ following t own)
+    around t own e (inl z) = subst (λ n. StartsWith n (Given (over node (Start t)) ∷ following t own)) (sym z) tt
+    around t own e (inr (inl z)) = subst (λ n. StartsWith n (Given (over node (Start t)) ∷ following t own)) (sym z) (over node (Start t), following t own, refl, t, refl)
     around t own e (inr (inr w)) =
         let b = titled-start inside w.0 in
-        subst (λ n. StartsWith n (Given (over node (Start t)) ∷ behind t own)) (sym w.1)
-        (over node (Start t), b.0, (b.1 ++ (Given (over node (End (end_of t))) ∷ [])) ++ segments after, ap (λ o. Given (over node (Start t)) ∷ behind t o) (e ∙ ap (λ z. if z then Content (leaf_of node.kind inside) ∷ [] else segments inside) w.2 ∙ b.2), t, refl, b.3)
+        subst (λ n. StartsWith n (Given (over node (Start t)) ∷ following t own)) (sym w.1)
+        (over node (Start t), b.0, (b.1 ++ (Given (over node (End (end_of t))) ∷ [])) ++ segments after, ap (λ o. Given (over node (Start t)) ∷ following t o) (e ∙ ap (λ z. if z then Content (leaf_of node.kind inside) ∷ [] else segments inside) w.2 ∙ b.2), t, refl, b.3)
 
     go : (reads : Reads) (own : List Segment) → own ≡ inside_of node.kind inside (segments inside) → StartsWith (starts_before after) (segments after)
         → StartsWith (starts_as (starts_of node.kind (begins_title inside)) reads (starts_before after)) (with_first_segment (first_event reads) (starts_before after) node (node_segments reads node own ++ segments after))

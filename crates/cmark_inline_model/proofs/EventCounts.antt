@@ -8,7 +8,7 @@ use Rattle.cmark_grammar.specs.BracketDecisions.{decide}
 use Rattle.cmark_grammar.specs.BracketReading.{Reads}
 use Rattle.cmark_grammar.specs.BracketStates.{State, StaysText, Forms, moved, opened}
 use Rattle.cmark_grammar.specs.Derivation.{Derives}
-use Rattle.cmark_grammar.specs.EmphasisModel.{pairs_of, spans_of}
+use Rattle.cmark_inline_model.specs.EmphasisModel.{pairs_of, spans_of}
 use Rattle.cmark_grammar.specs.Event.{End, Ranged}
 use Rattle.cmark_grammar.specs.InlineReading.{inline_events}
 use Rattle.cmark_grammar.specs.InlineTokens.{token}
@@ -19,15 +19,15 @@ use Rattle.cmark_grammar.specs.Options.{Options}
 use Rattle.cmark_grammar.specs.Parts.{Formed, Parts, Nil as NoParts, Single as SinglePart, Form, Closing, Opening, Linking, Footnote, Wiki, openings}
 use Rattle.cmark_grammar.specs.Questions.{Exchange, IsNext, Saying}
 use Rattle.cmark_grammar.specs.Quotes.{quote_characters}
-use Rattle.cmark_grammar.specs.Ranges.{count_nodes, count_tables}
+use Rattle.cmark_block_model.specs.Ranges.{count_nodes, count_tables}
 use Rattle.cmark_grammar.specs.Readers.{Reader}
 use Rattle.cmark_grammar.specs.Siblings.{Inline, Nil, Single, Around, item, quote_as, with_characters, with_quotes, item_then, footnote_then, from_place, display_from, quotes_of, runs_from}
-use Rattle.cmark_grammar.specs.SiblingsModel.{dress, siblings_of, spans_in}
+use Rattle.cmark_inline_model.specs.SiblingsModel.{dress, siblings_of, spans_in}
 use Rattle.cmark_grammar.specs.SpanDocuments.{Segment, Given, Content, IsReading, Profile, ReadsAll, at_start, first_of_segments, inside_of, leaf_of, node_segments, reader_of, segments, with_first_segment}
 use Rattle.cmark_grammar.specs.TagEnd.{end_of as end_of_tag}
-use Rattle.cmark_grammar.proofs.CountLaws.{derived-count}
-use Rattle.cmark_grammar.proofs.EmphasisSound.{sound}
-use Rattle.cmark_grammar.proofs.RangeLaws.{derived-order}
+use Rattle.cmark_block_model.proofs.CountLaws.{derived-count}
+use Rattle.cmark_inline_model.proofs.EmphasisSound.{sound}
+use Rattle.cmark_block_model.proofs.RangeLaws.{derived-order}
 use Rattle.cmark_inline_model.specs.LeafExtents.{extent, extents}
 use Rattle.cmark_inline_model.specs.LeafModel.{AreLeavesInTurn}
 use Rattle.cmark_inline_model.specs.PartRanges.{Reaches}
@@ -209,7 +209,7 @@ module _ (reader : Reader) (leaf : Leaf) (most : ℕ) (turn : InTurn 0 leaf.stre
       let c = (leaf-ranges reader leaf most turn).closes h.until.at closer h.closes in
       let r = always-comes (Reaches closer.end (end_of leaf.stretches)) Says h.until.asked (decide reader leaf h.until closer) (record { result = Forms (openings inside) formed; after = h.next })
       ((leaf-ranges reader leaf most turn).comes h.until closer h.closes) h.comes in
-      let x = c.0.begins in let y = c.1 in let z = r.behind.0 in let w = r.behind.1 in
+      let x = c.0.begins in let y = c.1 in let z = r.following.0 in let w = r.following.1 in
       ((leaf-forward reader leaf most turn).opens s.at opener h.opens, omega arith)
 
   pub parts-few : (s : State) (parts : Parts) (t : State) → Reads (token reader leaf) (decide reader leaf) Says s parts t → OfItems FillsItem parts
@@ -250,7 +250,7 @@ module _ (reader : Reader) (leaf : Leaf) (most : ℕ) (turn : InTurn 0 leaf.stre
       let r = always-comes (Reaches closer.end (end_of leaf.stretches)) Says s.asked (decide reader leaf s closer) (record { result = StaysText; after = h.next })
       ((leaf-ranges reader leaf most turn).comes s closer h.closes) h.comes in
       let k = parts-few h.next after t h.after f in
-      let x = c.0.begins in let y = c.1 in let z : closer.end ≤ h.next.at = r.behind in
+      let x = c.0.begins in let y = c.1 in let z : closer.end ≤ h.next.at = r.following in
       omega arith
   parts-few s (Opening opener after) t h f =
       let o = (leaf-forward reader leaf most turn).opens s.at opener h.0 in

@@ -5,7 +5,7 @@ use Rattle.cmark_grammar.specs.BracketDecisions.{decide}
 use Rattle.cmark_grammar.specs.BracketReading.{Reads}
 use Rattle.cmark_grammar.specs.BracketStates.{State}
 use Rattle.cmark_grammar.specs.Emphasis.{places_taken}
-use Rattle.cmark_grammar.specs.EmphasisModel.{spans_of}
+use Rattle.cmark_inline_model.specs.EmphasisModel.{spans_of}
 use Rattle.cmark_grammar.specs.Event.{Ranged}
 use Rattle.cmark_grammar.specs.Flanking.{is_delimiter_run}
 use Rattle.cmark_grammar.specs.InlineReading.{event_of, inline_events}
@@ -23,8 +23,8 @@ use Rattle.cmark_grammar.specs.Spans as spans
 use Rattle.cmark_grammar.specs.Spans.{span_tag, span_width, Spans, TakePlaces}
 use Rattle.cmark_grammar.specs.Tag.{Tag}
 use Rattle.cmark_grammar.specs.Tokens.{slice}
-use Rattle.cmark_grammar.proofs.EmphasisOne.{one}
-use Rattle.cmark_grammar.proofs.SpanPlaces.{places}
+use Rattle.cmark_inline_model.proofs.EmphasisOne.{one}
+use Rattle.cmark_inline_model.proofs.SpanPlaces.{places}
 use Rattle.cmark_inline_model.specs.FirstEvents.{IsEnd, BeginWithEnd}
 use Rattle.cmark_inline_model.specs.OptionRules.{IsRead, AllItems}
 use Rattle.cmark_inline_model.specs.TextPlaces.{text_of}
@@ -32,7 +32,7 @@ use Rattle.cmark_inline_model.proofs.KindViews.{KindView, AQuote, ARun, AnAutoli
 use Rattle.cmark_inline_model.proofs.SpanCosts.{runs-stand}
 use Rattle.cmark_inline_model.proofs.SpanElements.{quoted_then, other_then}
 use Rattle.cmark_inline_model.proofs.TokenOptions.{leaf-items}
-use Rattle.cmark_inline_model.proofs.TokenSome.{ends-behind-bytes, no-end-at-a-byte}
+use Rattle.cmark_inline_model.proofs.TokenSome.{ends-following-bytes, no-end-at-a-byte}
 
 -- ## A delimiter run has a byte
 
@@ -230,13 +230,13 @@ module _ (reader : Reader) (Says : Saying) (leaf : Leaf) (before : Between) (eve
   pub leaf-none : InTurn 0 leaf.stretches (length reader.source) → text_of reader leaf ≡ [] → ReadsLeaf reader Says leaf before events after → events ≡ []
   leaf-none turn empty h =
       let begin : from reader leaf first.at ≡ [] = begin_bytes reader.source leaf.stretches (length reader.source) turn ∙ empty in
-      h.events_are ∙ ap (inline_events reader.source) (no_span h.parts h.spans (no_part (ends-behind-bytes reader leaf first.at begin) h.parts h.last h.reads.reads) h.are)
+      h.events_are ∙ ap (inline_events reader.source) (no_span h.parts h.spans (no_part (ends-following-bytes reader leaf first.at begin) h.parts h.last h.reads.reads) h.are)
 
   -- nothing is asked there
   pub leaf-same : InTurn 0 leaf.stretches (length reader.source) → text_of reader leaf ≡ [] → ReadsLeaf reader Says leaf before events after → after ≡ before
   leaf-same turn empty h =
       let begin : from reader leaf first.at ≡ [] = begin_bytes reader.source leaf.stretches (length reader.source) turn ∙ empty in
-      let none = no_part (ends-behind-bytes reader leaf first.at begin) h.parts h.last h.reads.reads in
+      let none = no_part (ends-following-bytes reader leaf first.at begin) h.parts h.last h.reads.reads in
       h.after_is ∙ ap leaving (subst (λ p. Reads (token reader leaf) (decide reader leaf) Says first p h.last) none h.reads.reads)
 
   -- a text with a byte has a part

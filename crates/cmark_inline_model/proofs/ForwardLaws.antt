@@ -1,7 +1,7 @@
 -- Tokens and decisions of a leaf lead forward in it and are inside it.
 use Rattle.std.specs.Prelude.{◌==◌}
 use Rattle.std.proofs.Common.{◌≡◌, ◌⊎◌, inl, inr, ◌<◌, ◌≤◌, ℕ, List, length, Option, Some, None, sym, subst, arith}
-use Rattle.cmark_grammar.specs.BracketDecisions.{behind, place, decide}
+use Rattle.cmark_grammar.specs.BracketDecisions.{following, place, decide}
 use Rattle.cmark_grammar.specs.BracketStates.{State, StaysText, Forms, Result, Outcome}
 use Rattle.cmark_grammar.specs.InlineTokens.{token}
 use Rattle.cmark_grammar.specs.Items.{Bracket, Closes}
@@ -9,7 +9,7 @@ use Rattle.cmark_grammar.specs.LeafText.{Leaf, end_of, InTurn}
 use Rattle.cmark_grammar.specs.LinkTails.{LinkTail, link_tail_in}
 use Rattle.cmark_grammar.specs.Questions.{Exchange}
 use Rattle.cmark_grammar.specs.Readers.{Reader}
-use Rattle.cmark_grammar.proofs.ShorterRests.{TailBelow, link_tail-shorter}
+use Rattle.cmark_inline_model.proofs.ShorterRests.{TailBelow, link_tail-shorter}
 use Rattle.cmark_inline_model.specs.PartRanges.{ReachesBy, Reaches, KeepsRanges}
 use Rattle.cmark_inline_model.specs.Progress.{Always, IsForward}
 use Rattle.cmark_inline_model.proofs.DecisionLaws.{always-by, decide-fits}
@@ -23,7 +23,7 @@ module _ (reader : Reader) (leaf : Leaf) (size : ℕ) (turn : InTurn 0 leaf.stre
   end = end_of leaf.stretches
 
   -- offsets after a closing bracket
-  rest_place : (closer : Bracket) (rest : List ℕ) → closer.end ≤ end → length rest ≤ length (behind reader leaf closer.end) → (closer.end ≤ place reader leaf rest) × (place reader leaf rest ≤ end)
+  rest_place : (closer : Bracket) (rest : List ℕ) → closer.end ≤ end → length rest ≤ length (following reader leaf closer.end) → (closer.end ≤ place reader leaf rest) × (place reader leaf rest ≤ end)
   rest_place closer rest w h =
       (place-from reader.source leaf.stretches size turn (length rest) closer.end h w, place-within reader.source leaf.stretches size turn (length rest))
 
@@ -31,31 +31,31 @@ module _ (reader : Reader) (leaf : Leaf) (size : ℕ) (turn : InTurn 0 leaf.stre
   is-place closer p w (inl e) = (omega arith, omega arith)
   is-place closer p w (inr h) = let r = rest_place closer h.0 w h.1 in let e = h.2 in let x = r.0 in let y = r.1 in (omega arith, omega arith)
 
-  tail_rest : (n : ℕ) (o : Option LinkTail) (tail : LinkTail) → TailBelow n o → o ≡ Some tail → length tail.behind < n
+  tail_rest : (n : ℕ) (o : Option LinkTail) (tail : LinkTail) → TailBelow n o → o ≡ Some tail → length tail.following < n
   tail_rest n None tail h e = cc
   tail_rest n (Some other) tail h e = subst (λ (o : Option LinkTail). TailBelow n o) e h
 
   shape_reaches : (s : State) (closer : Bracket) → closer.end ≤ end → (asked : List Exchange) (o : Outcome) → Shape reader leaf s closer asked o → Reaches closer.end end o
-  shape_reaches s closer w asked o (Stays label os h e) = subst (Reaches closer.end end) (sym e) (record { behind = omega arith; within = w })
+  shape_reaches s closer w asked o (Stays label os h e) = subst (Reaches closer.end end) (sym e) (record { following = omega arith; within = w })
   shape_reaches s closer w asked o (ToInline label os taken tail h t found e) =
-      let below = tail_rest (length (behind reader leaf closer.end)) (link_tail_in (behind reader leaf closer.end)) tail (link_tail-shorter (behind reader leaf closer.end)) found in
-      let r = rest_place closer tail.behind w (omega arith) in
+      let below = tail_rest (length (following reader leaf closer.end)) (link_tail_in (following reader leaf closer.end)) tail (link_tail-shorter (following reader leaf closer.end)) found in
+      let r = rest_place closer tail.following w (omega arith) in
       let x = r.0 in let y = r.1 in
-      subst (Reaches closer.end end) (sym e) (record { behind = (x, omega arith); within = y })
+      subst (Reaches closer.end end) (sym e) (record { following = (x, omega arith); within = y })
   shape_reaches s closer w asked o (ToReference label os taken named link_type found h t n some l e) =
       let a = is-place closer named.end w n.ends in
       let b = is-place closer named.resume w n.passes in
       let x = a.0 in let y = b.0 in let z = b.1 in
-      subst (Reaches closer.end end) (sym e) (record { behind = (x, order n.order y); within = z })
+      subst (Reaches closer.end end) (sym e) (record { following = (x, order n.order y); within = z })
     where
       order : (named.end ≡ named.resume) ⊎ (named.end ≡ closer.end) → closer.end ≤ named.resume → named.end ≤ named.resume
       order (inl q) y = omega arith
       order (inr q) y = omega arith
-  shape_reaches s closer w asked o (ToFootnote label os taken name h t on e) = subst (Reaches closer.end end) (sym e) (record { behind = (omega arith, omega arith); within = w })
+  shape_reaches s closer w asked o (ToFootnote label os taken name h t on e) = subst (Reaches closer.end end) (sym e) (record { following = (omega arith, omega arith); within = w })
   shape_reaches s closer w asked o (ToWiki label os first far h t on next touched e) =
-      let some = first-size (λ b. b == 93) (behind reader leaf closer.end) next in
+      let some = first-size (λ b. b == 93) (following reader leaf closer.end) next in
       let f = some-fit reader.source leaf.stretches size turn closer.end some in
-      subst (Reaches closer.end end) (sym e) (record { behind = (omega arith, omega arith); within = omega arith })
+      subst (Reaches closer.end end) (sym e) (record { following = (omega arith, omega arith); within = omega arith })
 
   pub closer-is : (at : ℕ) (closer : Bracket) → token reader leaf at ≡ Closes closer → Onward reader leaf size turn at (Closes closer)
   closer-is at closer e = subst (Onward reader leaf size turn at) e (token-onward reader leaf size turn at)
@@ -66,23 +66,23 @@ module _ (reader : Reader) (leaf : Leaf) (size : ℕ) (turn : InTurn 0 leaf.stre
       let x = c.1 in let y = c.2 in
       always-by reader leaf s closer (Reaches closer.end end) (shape_reaches s closer (omega arith))
 
-  behind_at : (from to : ℕ) (result : Result) → ReachesBy from result to → from ≤ to
-  behind_at from to StaysText h = h
-  behind_at from to (Forms nearer formed) h = let x = h.0 in let y = h.1 in omega arith
+  following_at : (from to : ℕ) (result : Result) → ReachesBy from result to → from ≤ to
+  following_at from to StaysText h = h
+  following_at from to (Forms nearer formed) h = let x = h.0 in let y = h.1 in omega arith
 
-  comes_behind : (s : State) (closer : Bracket) → token reader leaf s.at ≡ Closes closer → Always (λ o. s.at < o.after.at) (decide reader leaf s closer)
-  comes_behind s closer e =
+  comes_after : (s : State) (closer : Bracket) → token reader leaf s.at ≡ Closes closer → Always (λ o. s.at < o.after.at) (decide reader leaf s closer)
+  comes_after s closer e =
       let c = closer-is s.at closer e in
       let x = c.1 in let y = c.2 in
       always-by reader leaf s closer (λ o. s.at < o.after.at)
-      (λ asked o h. (let r = shape_reaches s closer (omega arith) asked o h in let m = behind_at closer.end o.after.at o.result r.behind in omega arith))
+      (λ asked o h. (let r = shape_reaches s closer (omega arith) asked o h in let m = following_at closer.end o.after.at o.result r.following in omega arith))
 
   pub leaf-forward : IsForward (token reader leaf) (decide reader leaf) end
   leaf-forward = record {
     ends = token-ends reader leaf size turn;
     stands = λ at resume item e. (let h = subst (Onward reader leaf size turn at) e (token-onward reader leaf size turn at) in h.1);
     opens = λ at opener e. (let h = subst (Onward reader leaf size turn at) e (token-onward reader leaf size turn at) in h.1);
-    comes = comes_behind;
+    comes = comes_after;
     fits = decide-fits reader leaf;
   }
 

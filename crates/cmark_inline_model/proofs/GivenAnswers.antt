@@ -14,9 +14,9 @@ use Rattle.cmark_grammar.specs.LeafText.{Leaf}
 use Rattle.cmark_grammar.specs.Parts.{Parts, Nil, Single, Form, Closing, Opening}
 use Rattle.cmark_grammar.specs.Questions.{Exchange, IsNext, Plan, Question, Saying, ByPlan}
 use Rattle.cmark_grammar.specs.Readers.{Reader}
-use Rattle.cmark_grammar.specs.SiblingsModel.{spans_in}
+use Rattle.cmark_inline_model.specs.SiblingsModel.{spans_in}
 use Rattle.cmark_grammar.specs.SpanDocuments.{Content, Given, IsReading, Profile, ReadsAll, Segment, at_start, reader_of, segments}
-use Rattle.cmark_grammar.proofs.BlockDocumentOne.{document-only}
+use Rattle.cmark_block_model.proofs.BlockDocumentOne.{document-only}
 use Rattle.cmark_inline_model.specs.GivenAnswers.{answers_of}
 use Rattle.cmark_inline_model.proofs.BracketsOne.{parts-same}
 use Rattle.cmark_inline_model.proofs.SiblingsOne.{spans-one}

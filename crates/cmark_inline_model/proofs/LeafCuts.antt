@@ -11,7 +11,7 @@ use Rattle.cmark_grammar.specs.Tokens.{slice}
 use Rattle.cmark_inline_model.specs.LeafModel.{HaveLineEnds}
 use Rattle.cmark_inline_model.specs.PlacedTokens.{IsParted, AreLeafPlaces, HaveWholeEndings}
 use Rattle.cmark_inline_model.specs.TextPlaces.{ArePlaces, text_of, place_in}
-use Rattle.cmark_inline_model.proofs.LeafPlaces.{place-from, none-behind}
+use Rattle.cmark_inline_model.proofs.LeafPlaces.{place-from, none-following}
 use Rattle.cmark_inline_model.proofs.LeafSteps.{all_bytes, all-size, at-next, bytes-low}
 use Rattle.cmark_inline_model.proofs.TextPlaces.{text-places}
 
@@ -36,9 +36,9 @@ slice_joined source start mid end h k =
     let whole : List ℕ = slice source start end in
     let size : end - start ≡ n + (end - mid) = omega arith in
     let front : take n whole ≡ slice source start mid = taken n (end - mid) (end - start) size in
-    let behind : drop n whole ≡ slice source mid end =
+    let following : drop n whole ≡ slice source mid end =
     ap (λ m. drop n (take m (drop start source))) size ∙ drop-take n (end - mid) (drop start source) ∙ ap (take (end - mid)) (dropped n) ∙ ap (λ m. take (end - mid) (drop m source)) (let q : start + n ≡ mid = omega arith in q) in
-    ap (λ l. l ++ slice source mid end) (sym front) ∙ ap (λ l. take n whole ++ l) (sym behind) ∙ take-append-drop n whole
+    ap (λ l. l ++ slice source mid end) (sym front) ∙ ap (λ l. take n whole ++ l) (sym following) ∙ take-append-drop n whole
   where
     taken : (n m size : ℕ) → size ≡ n + m → take n (take size (drop start source)) ≡ take n (drop start source)
     taken n m size e = take-take n size (drop start source) (omega arith)
@@ -132,7 +132,7 @@ module _ (reader : Reader) (leaf : Leaf) (size : ℕ) (turn : InTurn 0 leaf.stre
           by (inl e) =
               let f = fits in
               subst (λ p. x ≤ p) (sym (left_is i (omega arith))) (place-from reader.source leaf.stretches size turn (length text - i) x (omega arith) e)
-          by (inr e) = absurd (let z = none-behind reader.source leaf.stretches size turn x (omega arith) in omega arith)
+          by (inr e) = absurd (let z = none-following reader.source leaf.stretches size turn x (omega arith) in omega arith)
 
       earlier : (i : ℕ) → i < j → place i < x
       earlier i a = by (le_or x (place i))

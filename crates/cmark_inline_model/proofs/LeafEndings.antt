@@ -9,7 +9,7 @@ use Rattle.cmark_grammar.specs.Lines.{is_content}
 use Rattle.cmark_grammar.specs.Options.{Options}
 use Rattle.cmark_grammar.specs.Readers.{Reader}
 use Rattle.cmark_grammar.specs.SpanDocuments.{Segment, Given, Content, segments}
-use Rattle.cmark_grammar.proofs.RangeLaws.{derived-order}
+use Rattle.cmark_block_model.proofs.RangeLaws.{derived-order}
 use Rattle.cmark_inline_model.specs.LeafModel.{HaveLineEnds, AreLeavesInTurn, AreLeavesOfLines}
 use Rattle.cmark_inline_model.specs.PlacedLeaves.{IsPlaced, AreLeavesPlaced}
 use Rattle.cmark_inline_model.specs.PlacedTokens.{HaveWholeEndings}
@@ -29,10 +29,10 @@ ending_at source from [] size n h l g k c p = absurd (omega arith)
 ending_at source from (s ∷ []) size n h l g k c p = let x = h.1 in omega arith
 ending_at source from (s ∷ (t ∷ more)) size n h l g k c p =
     by_size (λ q. is_content (get_or source (place_with n (s ∷ (t ∷ more))) 0) ≡ false → suc q ≡ place_with n (s ∷ (t ∷ more))) (size_of (t ∷ more)) (suc n) (s.end - (suc n - size_of (t ∷ more))) (place_with (suc n) (t ∷ more))
-    here (λ le. later le (ending_at source s.end (t ∷ more) size n h.2 l.2 (behind more g) le)) c
+    here (λ le. later le (ending_at source s.end (t ∷ more) size n h.2 l.2 (following more g) le)) c
   where
-    behind : (rest : List Stretch) → GoOnWithText source (s ∷ (t ∷ rest)) → GoOnWithText source (t ∷ rest)
-    behind rest i = i.1
+    following : (rest : List Stretch) → GoOnWithText source (s ∷ (t ∷ rest)) → GoOnWithText source (t ∷ rest)
+    following rest i = i.1
 
     here : size_of (t ∷ more) < suc n → is_content (get_or source (place_with n (s ∷ (t ∷ more))) 0) ≡ false → suc (s.end - (suc n - size_of (t ∷ more))) ≡ place_with n (s ∷ (t ∷ more))
     here lt =
@@ -77,7 +77,7 @@ module _ (reader : Reader) (leaf : Leaf) (turn : InTurn 0 leaf.stretches (length
   pub leaf-placed : IsPlaced reader leaf
   leaf-placed = record { turn = turn; lines = lines; places = leaf-places reader leaf (length reader.source) turn fits lines whole }
 
-all_placed : (reader : Reader) (others : List Segment) → AreLeavesInTurn (length reader.source) others → AreLeavesOfLines reader.source others → AllLeaves (GoOnWithText reader.source) others → AreLeavesPlaced reader others
+pub all_placed : (reader : Reader) (others : List Segment) → AreLeavesInTurn (length reader.source) others → AreLeavesOfLines reader.source others → AllLeaves (GoOnWithText reader.source) others → AreLeavesPlaced reader others
 all_placed reader [] a b c = tt
 all_placed reader (Given r ∷ others) a b c = all_placed reader others a b c
 all_placed reader (Content leaf ∷ others) a b c = (leaf-placed reader leaf a.0 b.0 c.0, all_placed reader others a.1 b.1 c.1)

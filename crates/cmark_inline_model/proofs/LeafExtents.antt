@@ -8,7 +8,7 @@ use Rattle.cmark_grammar.specs.LeafText.{Leaf, Stretch, InTurn, begin_of, end_of
 use Rattle.cmark_grammar.specs.Options.{Options}
 use Rattle.cmark_grammar.specs.Readers.{Reader}
 use Rattle.cmark_grammar.specs.SpanDocuments.{Segment, Given, Content, segments}
-use Rattle.cmark_grammar.proofs.RangeLaws.{derived-order}
+use Rattle.cmark_block_model.proofs.RangeLaws.{derived-order}
 use Rattle.cmark_inline_model.specs.LeafExtents.{extent, extents}
 use Rattle.cmark_inline_model.specs.TextPlaces.{text_of}
 use Rattle.cmark_inline_model.proofs.LeafPlaces.{lower, end-within, fits_from}

@@ -15,9 +15,9 @@ use Rattle.cmark_grammar.specs.Rows.{Row, rows, rows_from, row_at, begin_of, sta
 use Rattle.cmark_grammar.specs.SetextAttributes.{texts_before}
 use Rattle.cmark_grammar.specs.SpanDocuments.{stretches_of, segments}
 use Rattle.cmark_grammar.specs.Tokens.{slice, texts_then, stretch_then, stretches, words_end}
-use Rattle.cmark_grammar.proofs.BlockLaws.{texts-words}
-use Rattle.cmark_grammar.proofs.BoundaryLaws.{joined, lines-ended, content-cut}
-use Rattle.cmark_grammar.proofs.RowPlaces.{Runs, drop-Runs, expand-Runs, first_place-Runs, kept-behind, behind_prefix}
+use Rattle.cmark_block_model.proofs.BlockLaws.{texts-words}
+use Rattle.cmark_block_model.proofs.BoundaryLaws.{joined, lines-ended, content-cut}
+use Rattle.cmark_block_model.proofs.RowPlaces.{Runs, drop-Runs, expand-Runs, first_place-Runs, kept-following, after_prefix}
 use Rattle.cmark_inline_model.proofs.LeafStretches.{AllLeaves, KeepsStretches, derived-leaves}
 
 -- ## Columns
@@ -27,10 +27,10 @@ abbrev AreColumns : (text : List ℕ) → List Column → Type 0
 AreColumns text [] = Unit {0}
 AreColumns text (c ∷ cs) = ((c.part == 0) ≡ true → is_content (get_or text c.at 0) ≡ true) × ((c.part == 0) ≡ false → is_blank c ≡ true) × AreColumns text cs
 
-columns_behind : (text : List ℕ) (n : ℕ) (cs : List Column) → AreColumns text cs → AreColumns text (drop n cs)
-columns_behind text zero cs h = h
-columns_behind text (suc n) [] h = tt
-columns_behind text (suc n) (c ∷ cs) h = columns_behind text n cs h.2
+columns_after : (text : List ℕ) (n : ℕ) (cs : List Column) → AreColumns text cs → AreColumns text (drop n cs)
+columns_after text zero cs h = h
+columns_after text (suc n) [] h = tt
+columns_after text (suc n) (c ∷ cs) h = columns_after text n cs h.2
 
 tab_are : (text : List ℕ) (at part n : ℕ) (rest : List Column) → is_content (get_or text at 0) ≡ true → AreColumns text rest → AreColumns text (tab_columns at part n ++ rest)
 tab_are text at part zero rest c h = h
@@ -85,22 +85,22 @@ begins_so text from (c ∷ cs) to h k e = go (c.part == 0) refl h.0 (begins_so t
 abbrev IsRow : (text : List ℕ) → Row → Type 0
 IsRow text r = Runs (begin_of r) r.columns r.content_end × AreColumns text r.columns
 
-abbrev AreRows : (text : List ℕ) → List Row → Type 0
+abbrev pub AreRows : (text : List ℕ) → List Row → Type 0
 AreRows text [] = Unit {0}
 AreRows text (r ∷ rs) = IsRow text r × AreRows text rs
 
 row_begins : (text : List ℕ) (r : Row) → IsRow text r → is_blank_line r ≡ false → is_content (get_or text (begin_of r) 0) ≡ true
 row_begins text r h e = begins_so text (begin_of r) r.columns r.content_end h.0 h.1 e
 
-behind_prefix_is : (text : List ℕ) (n : ℕ) (held : Bool) (r : Row) → IsRow text r → IsRow text (behind_prefix n held r)
-behind_prefix_is text n held r h = ((drop-Runs n (begin_of r) r.columns r.content_end h.0).0, columns_behind text n r.columns h.1)
+after_prefix_is : (text : List ℕ) (n : ℕ) (held : Bool) (r : Row) → IsRow text r → IsRow text (after_prefix n held r)
+after_prefix_is text n held r h = ((drop-Runs n (begin_of r) r.columns r.content_end h.0).0, columns_after text n r.columns h.1)
 
 strip_is : (text : List ℕ) (k : Container) (bare : Bool) (r : Row) → IsRow text r → IsRow text (strip k bare r)
 strip_is text k bare r h = go (keeps k bare r) refl
   where
     go : (o : Option Row) → keeps k bare r ≡ o → IsRow text (strip_as o r)
     go None e = h
-    go (Some s) e = let w = kept-behind k bare r s e in subst (IsRow text) w.1.1 (behind_prefix_is text w.0 w.1.0 r h)
+    go (Some s) e = let w = kept-following k bare r s e in subst (IsRow text) w.1.1 (after_prefix_is text w.0 w.1.0 r h)
 
 strips_are : (text : List ℕ) (k : Container) (bare : Bool) (rs : List Row) → AreRows text rs → AreRows text (strips k bare rs)
 strips_are text k bare [] h = tt
@@ -119,9 +119,9 @@ rows_inside text k first more h = go (is_alert k)
 
     go : (is_tag : Bool) → AreRows text (unless_tag is_tag (enter k first) (strips k (is_bare_start k first) more))
     go true = others
-    go false = (behind_prefix_is text (width_of k first) first.held first h.0, others)
+    go false = (after_prefix_is text (width_of k first) first.held first h.0, others)
 
-rows_of_lines : (text before : List ℕ) (ls : List (List ℕ)) (at : ℕ) → text ≡ before ++ joined ls → length before ≡ at → AreRows text (rows_from at ls)
+pub rows_of_lines : (text before : List ℕ) (ls : List (List ℕ)) (at : ℕ) → text ≡ before ++ joined ls → length before ≡ at → AreRows text (rows_from at ls)
 rows_of_lines text before [] at e l = tt
 rows_of_lines text before (line ∷ ls) at e l =
     let runs : Runs at (expand 0 at (content line)) (at + length (content line)) = expand-Runs 0 at (content line) in
@@ -212,13 +212,13 @@ words_are : (text : List ℕ) (options : Options) (more rest : List Row) → Are
 words_are text options [] rest h t = tt
 words_are text options (r ∷ more) rest h t = (row_begins text r h.0 (texts-words options r (shown (more ++ rest)) t.0.0), words_are text options more rest h.1 t.1)
 
-keeps_fronts : (text : List ℕ) (options : Options) → KeepsStretches text options (GoOnWithText text) (AreRows text)
+pub keeps_fronts : (text : List ℕ) (options : Options) → KeepsStretches text options (GoOnWithText text) (AreRows text)
 keeps_fronts text options = record {
   none = tt;
   one = λ start end lt. tt;
   paragraph = λ first more rest h others. stretches_go_on text (start_of first) first more (words_are text options more rest (rows_front text (first ∷ more) rest h).1 others);
   cut = before_go_on text;
-  behind = λ r rs h. h.1;
+  following = λ r rs h. h.1;
   inside = λ k first more rest h. rows_inside text k first more (rows_front text (first ∷ more) rest h);
 }
 

@@ -26,10 +26,10 @@ between source from [] size n x h l g k p low high = absurd (omega arith)
 between source from (s ∷ []) size n x h l g k p low high = absurd (let y = h.1 in omega arith)
 between source from (s ∷ (t ∷ more)) size n x h l g k p low high =
     by_size (λ q. q < x → x < place_with n (s ∷ (t ∷ more)) → is_prefix_byte (get_or source x 0) ≡ true) (size_of (t ∷ more)) (suc n) (s.end - (suc n - size_of (t ∷ more))) (place_with (suc n) (t ∷ more))
-    here (λ le. later le (between source s.end (t ∷ more) size n x h.2 l.2 (behind more g) le p)) low high
+    here (λ le. later le (between source s.end (t ∷ more) size n x h.2 l.2 (following more g) le p)) low high
   where
-    behind : (rest : List Stretch) → HaveGaps source (s ∷ (t ∷ rest)) → HaveGaps source (t ∷ rest)
-    behind rest i = i.1
+    following : (rest : List Stretch) → HaveGaps source (s ∷ (t ∷ rest)) → HaveGaps source (t ∷ rest)
+    following rest i = i.1
 
     here : size_of (t ∷ more) < suc n → s.end - (suc n - size_of (t ∷ more)) < x → x < place_with n (s ∷ (t ∷ more)) → is_prefix_byte (get_or source x 0) ≡ true
     here lt =
@@ -69,12 +69,12 @@ no_pipe b e = go (b == 124) refl
     go true q = absurd (true≢false (sym e ∙ ap is_prefix_byte (eqb-true b 124 q)))
     go false q = refl
 
-all_between : (reader : Reader) (others : List Segment) → AreLeavesPlaced reader others → AllLeaves (HaveGaps reader.source) others → HavePrefixesBetween reader others
+pub all_between : (reader : Reader) (others : List Segment) → AreLeavesPlaced reader others → AllLeaves (HaveGaps reader.source) others → HavePrefixesBetween reader others
 all_between reader [] p g = tt
 all_between reader (Given r ∷ others) p g = all_between reader others p g
 all_between reader (Content leaf ∷ others) p g = (leaf_between reader leaf p.0.turn p.0.lines g.0, all_between reader others p.1 g.1)
 
-no_pipes : (reader : Reader) (others : List Segment) → HavePrefixesBetween reader others → HaveNoPipesBetween reader others
+pub no_pipes : (reader : Reader) (others : List Segment) → HavePrefixesBetween reader others → HaveNoPipesBetween reader others
 no_pipes reader [] h = tt
 no_pipes reader (Given r ∷ others) h = no_pipes reader others h
 no_pipes reader (Content leaf ∷ others) h = ((λ k x lt low high. no_pipe (get_or reader.source x 0) (h.0 k x lt low high)), no_pipes reader others h.1)

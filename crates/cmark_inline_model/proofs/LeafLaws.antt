@@ -8,7 +8,7 @@ use Rattle.cmark_grammar.specs.LeafReading.{Between, entering, leaving, ReadsLea
 use Rattle.cmark_grammar.specs.LeafText.{Leaf, end_of}
 use Rattle.cmark_grammar.specs.Questions.{Exchange, Saying, Plan, ByPlan, IsNext}
 use Rattle.cmark_grammar.specs.Readers.{Reader}
-use Rattle.cmark_grammar.specs.SiblingsModel.{spans_in}
+use Rattle.cmark_inline_model.specs.SiblingsModel.{spans_in}
 use Rattle.cmark_inline_model.specs.LeafModel.{leaf_parts, leaf_end, leaf_events, leaf_after}
 use Rattle.cmark_inline_model.specs.Progress.{IsForward, IsRecorded}
 use Rattle.cmark_inline_model.proofs.BracketQuestions.{reads-next, plan_of, next-plan}

@@ -11,8 +11,8 @@ use Rattle.cmark_grammar.specs.Rows.{Row, rows, rows_from, begin_of, start_of}
 use Rattle.cmark_grammar.specs.SetextAttributes.{texts_before}
 use Rattle.cmark_grammar.specs.SpanDocuments.{Segment, Given, Content, stretches_of, segments}
 use Rattle.cmark_grammar.specs.Tokens.{slice, texts_then, stretch_then, stretches, words_end}
-use Rattle.cmark_grammar.proofs.BoundaryLaws.{joined}
-use Rattle.cmark_grammar.proofs.RowPlaces.{strip-line_end}
+use Rattle.cmark_block_model.proofs.BoundaryLaws.{joined}
+use Rattle.cmark_block_model.proofs.RowPlaces.{strip-line_end}
 use Rattle.cmark_inline_model.specs.LeafModel.{EndsLine, HaveLineEnds, AreLeavesOfLines}
 use Rattle.cmark_inline_model.proofs.LeafStretches.{AllLeaves, KeepsStretches, derived-leaves}
 
@@ -24,7 +24,7 @@ LastEnds [] = ⊥
 LastEnds (b ∷ []) = is_content b ≡ false
 LastEnds (b ∷ (c ∷ bs)) = LastEnds (c ∷ bs)
 
-abbrev AreLines : List (List ℕ) → Type 0
+abbrev pub AreLines : List (List ℕ) → Type 0
 AreLines [] = Unit {0}
 AreLines (l ∷ ls) = ((ls ≡ []) ⊎ LastEnds l) × AreLines ls
 
@@ -48,7 +48,7 @@ no_content b bs e = go (b == line_feed) (b == carriage_return) (begins_with_line
     go false true z e = refl
     go false false z e = absurd (true≢false (sym e))
 
-lines_are : (bs : List ℕ) → AreLines (lines bs) × (joined (lines bs) ≡ bs)
+pub lines_are : (bs : List ℕ) → AreLines (lines bs) × (joined (lines bs) ≡ bs)
 lines_are [] = (tt, refl)
 lines_are (b ∷ bs) = go (ends_line b bs) refl (lines_are bs)
   where
@@ -59,7 +59,7 @@ lines_are (b ∷ bs) = go (ends_line b bs) refl (lines_are bs)
 -- ## Rows
 
 -- each row but the last ends with a line ending
-abbrev RowsEnd : List ℕ → List Row → Type 0
+abbrev pub RowsEnd : List ℕ → List Row → Type 0
 RowsEnd text [] = Unit {0}
 RowsEnd text (r ∷ rs) = ((rs ≡ []) ⊎ EndsLine text r.line_end) × RowsEnd text rs
 
@@ -101,7 +101,7 @@ last_ends text before (b ∷ (c ∷ line)) after e a =
     let s : length (before ++ b ∷ []) + length (c ∷ line) ≡ length before + length (b ∷ (c ∷ line)) = omega arith in
     subst (EndsLine text) s i
 
-rows_of_lines : (text before : List ℕ) (ls : List (List ℕ)) (at : ℕ) → text ≡ before ++ joined ls → length before ≡ at → AreLines ls → RowsEnd text (rows_from at ls)
+pub rows_of_lines : (text before : List ℕ) (ls : List (List ℕ)) (at : ℕ) → text ≡ before ++ joined ls → length before ≡ at → AreLines ls → RowsEnd text (rows_from at ls)
 rows_of_lines text before [] at e l h = tt
 rows_of_lines text before (line ∷ []) at e l h = (inl refl, tt)
 rows_of_lines text before (line ∷ (next ∷ ls)) at e l h = (
@@ -146,17 +146,17 @@ before_ends text at (Node n inside (Node m i a)) h = go (nat_lt n.end at) (befor
 
 -- ## Leaves
 
-keeps_ends : (text : List ℕ) (options : Options) → KeepsStretches text options (HaveLineEnds text) (RowsEnd text)
+pub keeps_ends : (text : List ℕ) (options : Options) → KeepsStretches text options (HaveLineEnds text) (RowsEnd text)
 keeps_ends text options = record {
   none = tt;
   one = λ start end lt. (lt, inl refl, tt);
   paragraph = λ first more rest h others. stretches_end text (start_of first) first more (rows_split text (first ∷ more) rest h).0;
   cut = before_ends text;
-  behind = λ r rs h. h.1;
+  following = λ r rs h. h.1;
   inside = λ k first more rest h. rows_inside text k first more (rows_split text (first ∷ more) rest h).0;
 }
 
-of_lines : (text : List ℕ) (others : List Segment) → AllLeaves (HaveLineEnds text) others → AreLeavesOfLines text others
+pub of_lines : (text : List ℕ) (others : List Segment) → AllLeaves (HaveLineEnds text) others → AreLeavesOfLines text others
 of_lines text [] h = tt
 of_lines text (Given r ∷ others) h = of_lines text others h
 of_lines text (Content leaf ∷ others) h = (h.0, of_lines text others h.1)

@@ -55,17 +55,17 @@ start_up_to from s (t ∷ more) size left h k =
 end_more : (s t : Stretch) (more : List Stretch) → end_of (s ∷ (t ∷ more)) ≡ end_of (t ∷ more)
 end_more s t more = by_size (λ p. p ≡ end_of (t ∷ more)) (size_of (t ∷ more)) 0 (s.end - (0 - size_of (t ∷ more))) (end_of (t ∷ more)) (λ lt. absurd (omega arith)) (λ le. refl)
 
-ends_behind : (from : ℕ) (s : Stretch) (more : List Stretch) (size : ℕ) → InTurn from (s ∷ more) size → (s.end ≤ end_of (s ∷ more)) × (end_of (s ∷ more) ≤ size)
-ends_behind from s [] size h = (omega arith, let x : s.end ≤ size = h.2 in omega arith)
-ends_behind from s (t ∷ more) size h =
+ends_after : (from : ℕ) (s : Stretch) (more : List Stretch) (size : ℕ) → InTurn from (s ∷ more) size → (s.end ≤ end_of (s ∷ more)) × (end_of (s ∷ more) ≤ size)
+ends_after from s [] size h = (omega arith, let x : s.end ≤ size = h.2 in omega arith)
+ends_after from s (t ∷ more) size h =
     let e = end_more s t more in
-    let i = ends_behind s.end t more size h.2 in
+    let i = ends_after s.end t more size h.2 in
     let x = h.2.0 in let y = h.2.1 in let a = i.0 in let b = i.1 in
     (omega arith, omega arith)
 
 pub end-within : (st : List Stretch) (size : ℕ) → InTurn 0 st size → end_of st ≤ size
 end-within [] size h = h
-end-within (s ∷ more) size h = (ends_behind 0 s more size h).1
+end-within (s ∷ more) size h = (ends_after 0 s more size h).1
 
 -- the offset at which `left` bytes are left is at most the end
 place_up_to : (from : ℕ) (st : List Stretch) (size left : ℕ) → InTurn from st size → place_with left st ≤ end_of st
@@ -74,23 +74,23 @@ place_up_to from (s ∷ []) size left h = omega arith
 place_up_to from (s ∷ (t ∷ more)) size left h =
     let e = end_more s t more in
     by_size (λ p. p ≤ end_of (s ∷ (t ∷ more))) (size_of (t ∷ more)) left (s.end - (left - size_of (t ∷ more))) (place_with left (t ∷ more))
-    (λ lt. (let i = ends_behind from s (t ∷ more) size h in let a = i.0 in omega arith)) (λ le. (let i = place_up_to s.end (t ∷ more) size left h.2 in omega arith))
+    (λ lt. (let i = ends_after from s (t ∷ more) size h in let a = i.0 in omega arith)) (λ le. (let i = place_up_to s.end (t ∷ more) size left h.2 in omega arith))
 
 -- the bytes that are left from an offset on begin there or later
-place_behind_from : (source : List ℕ) (from : ℕ) (st : List Stretch) (size left x : ℕ) → InTurn from st size → left ≤ length (bytes_from source st x) → x ≤ end_of st → x ≤ place_with left st
-place_behind_from source from [] size left x h k w = omega arith
-place_behind_from source from (s ∷ []) size left x h k w =
+place_after_from : (source : List ℕ) (from : ℕ) (st : List Stretch) (size left x : ℕ) → InTurn from st size → left ≤ length (bytes_from source st x) → x ≤ end_of st → x ≤ place_with left st
+place_after_from source from [] size left x h k w = omega arith
+place_after_from source from (s ∷ []) size left x h k w =
     let e = length-append (slice source (max x s.start) s.end) [] in
     let a = slice_size source (max x s.start) s.end in
     omega arith
-place_behind_from source from (s ∷ (t ∷ more)) size left x h k w =
+place_after_from source from (s ∷ (t ∷ more)) size left x h k w =
     let e = length-append (slice source (max x s.start) s.end) (bytes_from source (t ∷ more) x) in
     let a = slice_size source (max x s.start) s.end in
     let b = bytes-size source (t ∷ more) x in
     let c = end_more s t more in
     let y = h.2.0 in
     by_size (λ p. x ≤ p) (size_of (t ∷ more)) left (s.end - (left - size_of (t ∷ more))) (place_with left (t ∷ more)) (λ lt. omega arith)
-    (λ le. pick le (le_or left (length (bytes_from source (t ∷ more) x))) (λ lt. place_behind_from source s.end (t ∷ more) size left x h.2 lt (omega arith)) (start_up_to s.end t more size left h.2 le))
+    (λ le. pick le (le_or left (length (bytes_from source (t ∷ more) x))) (λ lt. place_after_from source s.end (t ∷ more) size left x h.2 lt (omega arith)) (start_up_to s.end t more size left h.2 le))
   where
     pick : left ≤ size_of (t ∷ more) → (left ≤ length (bytes_from source (t ∷ more) x)) ⊎ (length (bytes_from source (t ∷ more) x) < left)
         → (left ≤ length (bytes_from source (t ∷ more) x) → x ≤ place_with left (t ∷ more)) → t.start ≤ place_with left (t ∷ more) → x ≤ place_with left (t ∷ more)
@@ -108,7 +108,7 @@ none_from source from (s ∷ []) size at h e = let l = length-append (slice sour
 none_from source from (s ∷ (t ∷ more)) size at h e =
     let l = length-append (slice source (max at s.start) s.end) (bytes_from source (t ∷ more) at) in
     let a = slice_size source (max at s.start) s.end in
-    let b = (ends_behind from s (t ∷ more) size h).0 in
+    let b = (ends_after from s (t ∷ more) size h).0 in
     let c = end_more s t more in
     let i = none_from source s.end (t ∷ more) size at h.2 (omega arith) in
     omega arith
@@ -154,14 +154,14 @@ next_from source from (s ∷ more) size at h = go (le_or s.end at) (next_from so
         omega arith
 
 module _ (source : List ℕ) (st : List Stretch) (size : ℕ) (turn : InTurn 0 st size) where
-  pub none-behind : (at : ℕ) → end_of st ≤ at → length (bytes_from source st at) ≡ 0
-  none-behind at h = none_from source 0 st size at turn h
+  pub none-following : (at : ℕ) → end_of st ≤ at → length (bytes_from source st at) ≡ 0
+  none-following at h = none_from source 0 st size at turn h
 
   pub place-within : (left : ℕ) → place_with left st ≤ end_of st
   place-within left = place_up_to 0 st size left turn
 
   pub place-from : (left x : ℕ) → left ≤ length (bytes_from source st x) → x ≤ end_of st → x ≤ place_with left st
-  place-from left x = place_behind_from source 0 st size left x turn
+  place-from left x = place_after_from source 0 st size left x turn
 
   -- some bytes are left
   pub some-fit : (at : ℕ) → 0 < length (bytes_from source st at) → length (bytes_from source st at) + at ≤ end_of st
@@ -172,14 +172,14 @@ module _ (source : List ℕ) (st : List Stretch) (size : ℕ) (turn : InTurn 0 s
       fits (s ∷ more) k e = let i = fits_from source 0 s more size at k e in omega arith
 
       pick : (end_of st ≤ at) ⊎ (at < end_of st) → length (bytes_from source st at) + at ≤ end_of st
-      pick (inl e) = let n = none-behind at e in omega arith
+      pick (inl e) = let n = none-following at e in omega arith
       pick (inr e) = fits st turn (omega arith)
 
   pub next-size : (at : ℕ) → length (bytes_from source st at) ≤ suc (length (bytes_from source st (suc at)))
   next-size at = next_from source 0 st size at turn
 
-  pub place-behind : (left at : ℕ) → left < length (bytes_from source st at) → at < place_with left st
-  place-behind left at h =
+  pub place-following : (left at : ℕ) → left < length (bytes_from source st at) → at < place_with left st
+  place-following left at h =
       let f = some-fit at (omega arith) in
       let n = next_from source 0 st size at turn in
       let p = place-from left (suc at) (omega arith) (omega arith) in
@@ -188,4 +188,4 @@ module _ (source : List ℕ) (st : List Stretch) (size : ℕ) (turn : InTurn 0 s
 -- a leaf does not end before it begins
 pub leaf-up : (st : List Stretch) (size : ℕ) → InTurn 0 st size → begin_of st ≤ end_of st
 leaf-up [] size h = omega arith
-leaf-up (s ∷ more) size h = let e = (ends_behind 0 s more size h).0 in let x = h.1 in omega arith
+leaf-up (s ∷ more) size h = let e = (ends_after 0 s more size h).0 in let x = h.1 in omega arith

@@ -14,9 +14,9 @@ use Rattle.cmark_grammar.specs.Rows.{Row, rows, rows_from, row_at, first_place, 
 use Rattle.cmark_grammar.specs.SetextAttributes.{texts_before}
 use Rattle.cmark_grammar.specs.SpanDocuments.{stretches_of, segments}
 use Rattle.cmark_grammar.specs.Tokens.{slice, texts_then, stretch_then, stretches, words_end}
-use Rattle.cmark_grammar.proofs.BoundaryLaws.{joined, lines-ended, content-cut}
-use Rattle.cmark_grammar.proofs.RowEdges.{Front, front-add, front-less, prefix-front}
-use Rattle.cmark_grammar.proofs.RowPlaces.{Runs, drop-Runs, expand-Runs, first_place-Runs, behind_prefix, strip-line_end}
+use Rattle.cmark_block_model.proofs.BoundaryLaws.{joined, lines-ended, content-cut}
+use Rattle.cmark_block_model.proofs.RowEdges.{Front, front-add, front-less, prefix-front}
+use Rattle.cmark_block_model.proofs.RowPlaces.{Runs, drop-Runs, expand-Runs, first_place-Runs, after_prefix, strip-line_end}
 use Rattle.cmark_inline_model.specs.LeafGaps.{is_prefix_byte}
 use Rattle.cmark_inline_model.proofs.LeafStretches.{AllLeaves, KeepsStretches, derived-leaves}
 
@@ -60,10 +60,10 @@ abbrev AreBytes : (text : List ℕ) → List Column → Type 0
 AreBytes text [] = Unit {0}
 AreBytes text (c ∷ cs) = ((c.part == 0) ≡ true → get_or text c.at 0 ≡ c.byte) × ((c.part == 0) ≡ false → is_blank c ≡ true) × AreBytes text cs
 
-bytes_behind : (text : List ℕ) (n : ℕ) (cs : List Column) → AreBytes text cs → AreBytes text (drop n cs)
-bytes_behind text zero cs h = h
-bytes_behind text (suc n) [] h = tt
-bytes_behind text (suc n) (c ∷ cs) h = bytes_behind text n cs h.2
+bytes_after : (text : List ℕ) (n : ℕ) (cs : List Column) → AreBytes text cs → AreBytes text (drop n cs)
+bytes_after text zero cs h = h
+bytes_after text (suc n) [] h = tt
+bytes_after text (suc n) (c ∷ cs) h = bytes_after text n cs h.2
 
 tab_are : (text : List ℕ) (at part n : ℕ) (rest : List Column) → get_or text at 0 ≡ tab → AreBytes text rest → AreBytes text (tab_columns at part n ++ rest)
 tab_are text at part zero rest c h = h
@@ -133,7 +133,7 @@ one_blank_front (c ∷ cs) = go (is_blank c) refl
 
 quote_front : (text : List ℕ) (r : Row) → AreBytes text r.columns → is_block_quote r ≡ true → Front IsPrefixColumn (block_quote_width r) r.columns
 quote_front text r a e =
-    let marked : Front IsPrefixColumn 1 (without_indent r.columns) = mark_front text (without_indent r.columns) (bytes_behind text (indent r.columns) r.columns a) (both (nat_le (indent_of r) 3) _ e) in
+    let marked : Front IsPrefixColumn 1 (without_indent r.columns) = mark_front text (without_indent r.columns) (bytes_after text (indent r.columns) r.columns a) (both (nat_le (indent_of r) 3) _ e) in
     let front : Front IsPrefixColumn (indent r.columns + 1) r.columns = front-add IsPrefixColumn (indent r.columns) 1 r.columns (indent_front r.columns) marked in
     let s : indent r.columns + 1 ≡ suc (indent r.columns) = omega arith in
     let t : suc (indent r.columns) + one_blank (drop (suc (indent r.columns)) r.columns) ≡ block_quote_width r = omega arith in
@@ -142,7 +142,7 @@ quote_front text r a e =
 
 -- a line is another one without such columns in front, and held or not
 abbrev IsKept : Row → Row → Type 0
-IsKept r s = (n : ℕ) × ((held : Bool) × ((behind_prefix n held r ≡ s) × Front IsPrefixColumn n r.columns))
+IsKept r s = (n : ℕ) × ((held : Bool) × ((after_prefix n held r ≡ s) × Front IsPrefixColumn n r.columns))
 
 wide_kept : (width : ℕ) (r s : Row) → (if is_blank_line r || nat_le width (indent_of r) then Some (without width r) else None) ≡ Some s → IsKept r s
 wide_kept width r s e = go (is_blank_line r) (nat_le width (indent_of r)) refl refl e
@@ -191,12 +191,12 @@ abbrev HasFront : (text : List ℕ) → (line_end : ℕ) → List Row → Type 0
 HasFront text line_end [] = Unit {0}
 HasFront text line_end (r ∷ rs) = ArePrefixes text line_end (begin_of r)
 
-abbrev AreRows : (text : List ℕ) → List Row → Type 0
+abbrev pub AreRows : (text : List ℕ) → List Row → Type 0
 AreRows text [] = Unit {0}
 AreRows text (r ∷ rs) = IsRow text r × HasFront text r.line_end rs × AreRows text rs
 
-behind_prefix_is : (text : List ℕ) (n : ℕ) (held : Bool) (r : Row) → IsRow text r → IsRow text (behind_prefix n held r)
-behind_prefix_is text n held r h = ((drop-Runs n (begin_of r) r.columns r.content_end h.0).0, bytes_behind text n r.columns h.1)
+after_prefix_is : (text : List ℕ) (n : ℕ) (held : Bool) (r : Row) → IsRow text r → IsRow text (after_prefix n held r)
+after_prefix_is text n held r h = ((drop-Runs n (begin_of r) r.columns r.content_end h.0).0, bytes_after text n r.columns h.1)
 
 strip_is : (text : List ℕ) (k : Container) (bare : Bool) (r : Row) → IsRow text r → IsRow text (strip k bare r) × ArePrefixes text (begin_of r) (begin_of (strip k bare r))
 strip_is text k bare r h = go (keeps k bare r) refl
@@ -207,7 +207,7 @@ strip_is text k bare r h = go (keeps k bare r) refl
         let w = kept text k bare r s h.1 e in
         let n : ℕ = w.0 in
         let held : Bool = w.1.0 in
-        subst (λ t. IsRow text t × ArePrefixes text (begin_of r) (begin_of t)) w.1.1.0 (behind_prefix_is text n held r h, taken text n (begin_of r) r.columns r.content_end h.0 h.1 w.1.1.1)
+        subst (λ t. IsRow text t × ArePrefixes text (begin_of r) (begin_of t)) w.1.1.0 (after_prefix_is text n held r h, taken text n (begin_of r) r.columns r.content_end h.0 h.1 w.1.1.1)
 
 strips_front : (text : List ℕ) (k : Container) (bare : Bool) (line_end : ℕ) (rs : List Row) → AreRows text rs → HasFront text line_end rs → HasFront text line_end (strips k bare rs)
 strips_front text k bare line_end [] h f = tt
@@ -235,7 +235,7 @@ rows_inside text k first more h = go (is_alert k)
 
     go : (is_tag : Bool) → AreRows text (unless_tag is_tag (enter k first) (strips k (is_bare_start k first) more))
     go true = others
-    go false = (behind_prefix_is text (width_of k first) first.held first h.0, strips_front text k (is_bare_start k first) first.line_end more h.2 h.1, others)
+    go false = (after_prefix_is text (width_of k first) first.held first h.0, strips_front text k (is_bare_start k first) first.line_end more h.2 h.1, others)
 
 row_runs : (at : ℕ) (line : List ℕ) → Runs at (expand 0 at (content line)) (at + length (content line))
 row_runs at line = expand-Runs 0 at (content line)
@@ -247,7 +247,7 @@ lines_touch : (text : List ℕ) (at : ℕ) (ls : List (List ℕ)) → HasFront t
 lines_touch text at [] = tt
 lines_touch text at (line ∷ ls) = let e = row_begin at line in none_between text at (begin_of (row_at at line)) (omega arith)
 
-rows_of_lines : (text before : List ℕ) (ls : List (List ℕ)) (at : ℕ) → text ≡ before ++ joined ls → length before ≡ at → AreRows text (rows_from at ls)
+pub rows_of_lines : (text before : List ℕ) (ls : List (List ℕ)) (at : ℕ) → text ≡ before ++ joined ls → length before ≡ at → AreRows text (rows_from at ls)
 rows_of_lines text before [] at e l = tt
 rows_of_lines text before (line ∷ ls) at e l =
     let tail = drop (length (content line)) line in
@@ -316,7 +316,7 @@ before_gaps text at (Node n inside after) h = go (nat_lt n.end at) (before_from 
 
 -- ## Leaves
 
-keeps_gaps : (text : List ℕ) (options : Options) → KeepsStretches text options (HaveGaps text) (AreRows text)
+pub keeps_gaps : (text : List ℕ) (options : Options) → KeepsStretches text options (HaveGaps text) (AreRows text)
 keeps_gaps text options = record {
   none = tt;
   one = λ start end lt. tt;
@@ -324,7 +324,7 @@ keeps_gaps text options = record {
       let none = none_between text (start_of first) (start_of first) (omega arith) in
       gaps_between text (start_of first) (stretches_of (stretches text (start_of first) first more)) (stretches_gaps text (start_of first) (start_of first) first more none (rows_front text (first ∷ more) rest h));
   cut = before_gaps text;
-  behind = λ r rs h. h.2;
+  following = λ r rs h. h.2;
   inside = λ k first more rest h. rows_inside text k first more (rows_front text (first ∷ more) rest h);
 }
 

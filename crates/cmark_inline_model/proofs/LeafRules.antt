@@ -5,13 +5,13 @@ use Rattle.std.proofs.Common.{refl}
 use lib.Utf8.{encode}
 use Rattle.caseless.proofs.Computing.{caseless}
 use Rattle.ucd_category.proofs.Computing.{ucd_category}
-use Rattle.cmark_grammar.specs.BlocksModel.{begin, blocks}
+use Rattle.cmark_block_model.specs.BlocksModel.{begin, blocks}
 use Rattle.cmark_grammar.specs.Containers.{enter, keeps}
 use Rattle.cmark_grammar.specs.Leaves.{underlines}
 use Rattle.cmark_grammar.specs.Openings.{opens, texts, lazily}
 use Rattle.cmark_grammar.specs.BracketDecisions.{decide}
 use Rattle.cmark_grammar.specs.Emphasis.{agrees, pair_of, rest_of_opener, rest_of_closer, kinds_of, deactivates}
-use Rattle.cmark_grammar.specs.EmphasisModel.{closed}
+use Rattle.cmark_inline_model.specs.EmphasisModel.{closed}
 use Rattle.cmark_grammar.specs.Flanking.{is_unicode_white_space, is_unicode_punctuation}
 use Rattle.cmark_grammar.specs.InlineTokens.{token}
 use Rattle.cmark_inline_model.proofs.SampleReading.{html, document_html}

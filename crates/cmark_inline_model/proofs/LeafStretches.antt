@@ -5,24 +5,24 @@ use Rattle.std.proofs.Common.{◌≡◌, ℕ, zero, suc, ◌+◌, ◌<◌, Bool,
 use Rattle.cmark_grammar.specs.Answers.{Lookup}
 use Rattle.cmark_grammar.specs.BlockDocument.{BlockKind, ListItem, Text, OwnedText, Html, BlockNode, BlockDocument, Nil, Node, node, BlockList, DefinitionList, DefinitionListTitle, DefinitionListDefinition}
 use Rattle.cmark_grammar.specs.BlockReading.{Reads, Around, Inside, Alone, First, Silent, starts_before, over, first_event, read_as}
-use Rattle.cmark_grammar.specs.Blocks.{Blocks, Nil as NoBlocks, BlankLine, Paragraph as ParagraphBlock, SetextHeading, LeafBlock, ContainerBlock, AreText, Body, behind_leaf, place_in}
+use Rattle.cmark_grammar.specs.Blocks.{Blocks, Nil as NoBlocks, BlankLine, Paragraph as ParagraphBlock, SetextHeading, LeafBlock, ContainerBlock, AreText, Body, after_leaf, place_in}
 use Rattle.cmark_grammar.specs.Columns.{Column, is_blank_byte, drop_end}
 use Rattle.cmark_grammar.specs.Containers.{Container, BlockQuote, Item, Footnote, ListDefinition, insides}
 use Rattle.cmark_grammar.specs.Derivation.{leaf_then, item_then, task_then, document_of, Derives, list_kind, paragraph_kind}
 use Rattle.cmark_grammar.specs.Event.{Ranged}
 use Rattle.cmark_grammar.specs.LeafText.{Stretch}
-use Rattle.cmark_grammar.specs.Lists.{ListBefore, tight_behind, goes_on, definition_delimiter, is_title, title_tight_behind}
+use Rattle.cmark_grammar.specs.Lists.{ListBefore, tight_after, goes_on, definition_delimiter, is_title, title_tight_after}
 use Rattle.cmark_grammar.specs.Metadata.{ends_metadata}
 use Rattle.cmark_grammar.specs.Openings.{Leaf, ThematicBreak as ThematicBreakLeaf, AtxHeading as AtxHeadingLeaf, IndentedCode as IndentedCodeLeaf, FencedCode as FencedCodeLeaf, HtmlBlock as HtmlBlockLeaf, LinkDefinition as LinkDefinitionLeaf, MetadataBlock as MetadataBlockLeaf, Table as TableLeaf}
 use Rattle.cmark_grammar.specs.Options.{Options}
-use Rattle.cmark_grammar.specs.Places.{Place, Apart, BehindTitle, over_blank}
+use Rattle.cmark_grammar.specs.Places.{Place, Apart, AfterTitle, over_blank}
 use Rattle.cmark_grammar.specs.Rows.{Row, rows, without, first_place, begin_of, start_of, last_line_end, words_of}
 use Rattle.cmark_grammar.specs.SetextAttributes.{content_of, ends_in_braces, attributes_place, texts_before, texts_if, without_braces, setext_tokens}
 use Rattle.cmark_grammar.specs.SpanDocuments.{Segment, Given, Content, stretches_of, leaf_of, is_leaf, inside_of, node_segments, first_of_segments, with_first_segment, segments}
 use Rattle.cmark_grammar.specs.TableRows.{cells_start, cells_of}
 use Rattle.cmark_grammar.specs.TableTokens.{cell_tokens, cells_then, row_cells, row_tokens, table_tokens}
-use Rattle.cmark_grammar.specs.TaskItems.{behind_box}
-use Rattle.cmark_grammar.specs.Tokens.{Piece, slice, texts_then, text_kind_of, html_kind_of, html_then, code_tokens, html_tokens, fenced_lines, lines_before, piece_if, stretch_then, stretches, end_place, words_end, paragraph_tokens, heading_tokens, behind_hashes, heading_columns}
+use Rattle.cmark_grammar.specs.TaskItems.{after_box}
+use Rattle.cmark_grammar.specs.Tokens.{Piece, slice, texts_then, text_kind_of, html_kind_of, html_then, code_tokens, html_tokens, fenced_lines, lines_before, piece_if, stretch_then, stretches, end_place, words_end, paragraph_tokens, heading_tokens, after_hashes, heading_columns}
 
 -- ## Texts are no leaves
 
@@ -87,7 +87,7 @@ module _ (text : List ℕ) where
 
   heading_are_texts : (attributes : Bool) (level : ℕ) (r : Row) → AreTexts (heading_tokens text attributes level r)
   heading_are_texts attributes level r =
-      let start = first_place r.content_end (behind_hashes level r) in pieces_are_texts (piece_if text start (end_place start (heading_columns attributes level r)) []) Nil tt
+      let start = first_place r.content_end (after_hashes level r) in pieces_are_texts (piece_if text start (end_place start (heading_columns attributes level r)) []) Nil tt
 
   html_tokens_are_texts : (rows : List Row) → AreTexts (html_tokens text rows)
   html_tokens_are_texts [] = tt
@@ -107,7 +107,7 @@ pub record KeepsStretches (text : List ℕ) (options : Options) (Holds : List St
   pub one : (start end : ℕ) → start < end → Holds (record { start = start; end = end } ∷ [])
   pub paragraph : (first : Row) (more rest : List Row) → AreRows (first ∷ (more ++ rest)) → AreText options more rest → Holds (stretches_of (paragraph_tokens text first more))
   pub cut : (at : ℕ) (d : BlockDocument) → Holds (stretches_of d) → Holds (stretches_of (texts_before text at d))
-  pub behind : (r : Row) (rs : List Row) → AreRows (r ∷ rs) → AreRows rs
+  pub following : (r : Row) (rs : List Row) → AreRows (r ∷ rs) → AreRows rs
   pub inside : (k : Container) (first : Row) (more rest : List Row) → AreRows (first ∷ (more ++ rest)) → AreRows (insides k first more)
 
 module _ (text : List ℕ) (options : Options) (Holds : List Stretch → Type 0) (AreRows : List Row → Type 0) (keeps : KeepsStretches text options Holds AreRows) where
@@ -119,9 +119,9 @@ module _ (text : List ℕ) (options : Options) (Holds : List Stretch → Type 0)
   no_leaf : (inside : BlockDocument) → false ≡ true → Holds (stretches_of inside)
   no_leaf inside e = absurd (true≢false (sym e))
 
-  rows_behind : (a b : List Row) → AreRows (a ++ b) → AreRows b
-  rows_behind [] b h = h
-  rows_behind (r ∷ a) b h = rows_behind a b (keeps.behind r (a ++ b) h)
+  rows_following : (a b : List Row) → AreRows (a ++ b) → AreRows b
+  rows_following [] b h = h
+  rows_following (r ∷ a) b h = rows_following a b (keeps.following r (a ++ b) h)
 
   texts_held : (document : BlockDocument) → AreTexts document → AreHeld document
   texts_held Nil h = tt
@@ -164,7 +164,7 @@ module _ (text : List ℕ) (options : Options) (Holds : List Stretch → Type 0)
   leaf_held lookup ThematicBreakLeaf first more after a = (no_leaf Nil, tt, a)
   leaf_held lookup (AtxHeadingLeaf level) first more after a =
       let attributes = options.heading_attributes in
-      let start = first_place first.content_end (behind_hashes level first) in
+      let start = first_place first.content_end (after_hashes level first) in
       ((λ e. stretch_held start (end_place start (heading_columns attributes level first))), texts_held (heading_tokens text attributes level first) (heading_are_texts text attributes level first), a)
   leaf_held lookup IndentedCodeLeaf first more after a =
       let inside = code_tokens text 4 (first ∷ more) in (no_leaf inside, texts_held inside (pieces_are_texts _ Nil tt), a)
@@ -185,72 +185,72 @@ module _ (text : List ℕ) (options : Options) (Holds : List Stretch → Type 0)
   item_held true list item inside (Node others items after) l e i a = ((λ f. absurd (true≢false (sym f ∙ l))), (e, i, a.1), a.2)
 
   -- a paragraph, as a title or as itself
-  title_held : (is_title tight : Bool) (other : BlockKind) (start end : ℕ) (inside after behind : BlockDocument) → Holds (stretches_of inside) → AreHeld inside → AreHeld after → AreHeld behind
-      → AreHeld (if is_title then item_then true (DefinitionList tight) (node DefinitionListTitle start end) inside after else Node (node other start end) inside behind)
-  title_held true tight other start end inside after behind e i a b = item_held true (DefinitionList tight) (node DefinitionListTitle start end) inside after refl (λ f. e) i a
-  title_held false tight other start end inside after behind e i a b = ((λ f. e), i, b)
+  title_held : (is_title tight : Bool) (other : BlockKind) (start end : ℕ) (inside after following : BlockDocument) → Holds (stretches_of inside) → AreHeld inside → AreHeld after → AreHeld following
+      → AreHeld (if is_title then item_then true (DefinitionList tight) (node DefinitionListTitle start end) inside after else Node (node other start end) inside following)
+  title_held true tight other start end inside after following e i a b = item_held true (DefinitionList tight) (node DefinitionListTitle start end) inside after refl (λ f. e) i a
+  title_held false tight other start end inside after following e i a b = ((λ f. e), i, b)
 
   task_held : (task : Option Bool) (start end : ℕ) (inside : BlockDocument) → AreHeld inside → AreHeld (task_then task start end inside)
   task_held None start end inside h = h
   task_held (Some is_checked) start end inside h = (λ e. absurd (true≢false (sym e)), tt, h)
 
-  document_held : (lookup : Lookup) (direct : Bool) (before : Option ListBefore) (behind : Place) (all : List Row) (b : Blocks) → Body options behind all b → AreRows all → AreHeld (document_of text options lookup direct before b)
-  document_held lookup direct before behind all NoBlocks body g = tt
-  document_held lookup direct before behind all (BlankLine line after) body g =
+  document_held : (lookup : Lookup) (direct : Bool) (before : Option ListBefore) (following : Place) (all : List Row) (b : Blocks) → Body options following all b → AreRows all → AreHeld (document_of text options lookup direct before b)
+  document_held lookup direct before following all NoBlocks body g = tt
+  document_held lookup direct before following all (BlankLine line after) body g =
       let c : AreRows (line ∷ body.rest) = subst AreRows body.cut g in
-      document_held lookup direct before (over_blank behind) body.rest after body.after (keeps.behind line body.rest c)
-  document_held lookup direct before behind all (ParagraphBlock first more after) body g =
+      document_held lookup direct before (over_blank following) body.rest after body.after (keeps.following line body.rest c)
+  document_held lookup direct before following all (ParagraphBlock first more after) body g =
       let c : AreRows (first ∷ (more ++ body.rest)) = subst AreRows body.cut g in
-      let s = rows_behind (first ∷ more) body.rest c in
-      let tight = title_tight_behind before after in
+      let s = rows_following (first ∷ more) body.rest c in
+      let tight = title_tight_after before after in
       title_held (is_title after) tight (paragraph_kind direct) (start_of first) (last_line_end first more) (paragraph_tokens text first more)
       (document_of text options lookup direct (Some (record { delimiter = definition_delimiter; tight = tight })) after) (document_of text options lookup direct None after)
       (keeps.paragraph first more body.rest c body.others) (texts_held (paragraph_tokens text first more) (stretches_are_texts text (start_of first) first more))
-      (document_held lookup direct (Some (record { delimiter = definition_delimiter; tight = tight })) BehindTitle body.rest after body.after s)
-      (document_held lookup direct None BehindTitle body.rest after body.after s)
-  document_held lookup direct before behind all (SetextHeading level first more underline after) body g =
+      (document_held lookup direct (Some (record { delimiter = definition_delimiter; tight = tight })) AfterTitle body.rest after body.after s)
+      (document_held lookup direct None AfterTitle body.rest after body.after s)
+  document_held lookup direct before following all (SetextHeading level first more underline after) body g =
       let c : AreRows (first ∷ (more ++ (underline ∷ body.rest))) = subst AreRows body.cut g in
-      let s = rows_behind (first ∷ more) (underline ∷ body.rest) c in (
+      let s = rows_following (first ∷ more) (underline ∷ body.rest) c in (
         (λ e. braces_held options.heading_attributes (content_of (first ∷ more)) (paragraph_tokens text first more) (keeps.paragraph first more (underline ∷ body.rest) c body.others)),
         texts_held (setext_tokens text options.heading_attributes first more) (braces_are_texts text options.heading_attributes (content_of (first ∷ more)) (paragraph_tokens text first more) (stretches_are_texts text (start_of first) first more)),
-        document_held lookup direct None Apart body.rest after body.after (keeps.behind underline body.rest s),
+        document_held lookup direct None Apart body.rest after body.after (keeps.following underline body.rest s),
       )
-  document_held lookup direct before behind all (LeafBlock leaf first more after) body g =
+  document_held lookup direct before following all (LeafBlock leaf first more after) body g =
       let c : AreRows (first ∷ (more ++ body.rest)) = subst AreRows body.cut g in
-      let s = rows_behind (first ∷ more) body.rest c in
-      leaf_held lookup leaf first more (document_of text options lookup direct None after) (document_held lookup direct None (behind_leaf leaf) body.rest after body.after s)
-  document_held lookup direct before behind all (ContainerBlock (BlockQuote alert) first more inside after) body g =
+      let s = rows_following (first ∷ more) body.rest c in
+      leaf_held lookup leaf first more (document_of text options lookup direct None after) (document_held lookup direct None (after_leaf leaf) body.rest after body.after s)
+  document_held lookup direct before following all (ContainerBlock (BlockQuote alert) first more inside after) body g =
       let c : AreRows (first ∷ (more ++ body.rest)) = subst AreRows body.cut g in
-      let s = rows_behind (first ∷ more) body.rest c in (
+      let s = rows_following (first ∷ more) body.rest c in (
         no_leaf (document_of text options lookup false None inside),
         document_held lookup false None (place_in (BlockQuote alert)) (insides (BlockQuote alert) first more) inside body.contents (keeps.inside (BlockQuote alert) first more body.rest c),
         document_held lookup direct None Apart body.rest after body.after s,
       )
-  document_held lookup direct before behind all (ContainerBlock (Footnote label old size) first more inside after) body g =
+  document_held lookup direct before following all (ContainerBlock (Footnote label old size) first more inside after) body g =
       let c : AreRows (first ∷ (more ++ body.rest)) = subst AreRows body.cut g in
-      let s = rows_behind (first ∷ more) body.rest c in (
+      let s = rows_following (first ∷ more) body.rest c in (
         no_leaf (document_of text options lookup false None inside),
         document_held lookup false None (place_in (Footnote label old size)) (insides (Footnote label old size) first more) inside body.contents (keeps.inside (Footnote label old size) first more body.rest c),
         document_held lookup direct None Apart body.rest after body.after s,
       )
-  document_held lookup direct before behind all (ContainerBlock (Item delimiter number width task) first more inside after) body g =
+  document_held lookup direct before following all (ContainerBlock (Item delimiter number width task) first more inside after) body g =
       let c : AreRows (first ∷ (more ++ body.rest)) = subst AreRows body.cut g in
-      let s = rows_behind (first ∷ more) body.rest c in
-      let tight = tight_behind before delimiter inside after in
+      let s = rows_following (first ∷ more) body.rest c in
+      let tight = tight_after before delimiter inside after in
       item_held (goes_on delimiter after) (list_kind delimiter number tight) (node ListItem (begin_of first) (last_line_end first more))
-      (task_then task (begin_of (without width first)) (begin_of (without (behind_box task width) first)) (document_of text options lookup tight None inside))
+      (task_then task (begin_of (without width first)) (begin_of (without (after_box task width) first)) (document_of text options lookup tight None inside))
       (document_of text options lookup direct (Some (record { delimiter = delimiter; tight = tight })) after) (list_no_leaf delimiter number tight) (λ f. absurd (true≢false (sym f)))
-      (task_held task (begin_of (without width first)) (begin_of (without (behind_box task width) first)) (document_of text options lookup tight None inside)
+      (task_held task (begin_of (without width first)) (begin_of (without (after_box task width) first)) (document_of text options lookup tight None inside)
       (document_held lookup tight None (place_in (Item delimiter number width task)) (insides (Item delimiter number width task) first more) inside body.contents (keeps.inside (Item delimiter number width task) first more body.rest c)))
       (document_held lookup direct (Some (record { delimiter = delimiter; tight = tight })) Apart body.rest after body.after s)
-  document_held lookup direct before behind all (ContainerBlock (ListDefinition width) first more inside after) body g =
+  document_held lookup direct before following all (ContainerBlock (ListDefinition width) first more inside after) body g =
       let c : AreRows (first ∷ (more ++ body.rest)) = subst AreRows body.cut g in
-      let s = rows_behind (first ∷ more) body.rest c in
-      let tight = tight_behind before definition_delimiter inside after in
+      let s = rows_following (first ∷ more) body.rest c in
+      let tight = tight_after before definition_delimiter inside after in
       item_held (goes_on definition_delimiter after) (DefinitionList tight) (node DefinitionListDefinition (begin_of first) (last_line_end first more)) (document_of text options lookup tight None inside)
       (document_of text options lookup direct (Some (record { delimiter = definition_delimiter; tight = tight })) after) refl (λ f. absurd (true≢false (sym f)))
       (document_held lookup tight None (place_in (ListDefinition width)) (insides (ListDefinition width) first more) inside body.contents (keeps.inside (ListDefinition width) first more body.rest c))
-      (document_held lookup direct (Some (record { delimiter = definition_delimiter; tight = tight })) BehindTitle body.rest after body.after s)
+      (document_held lookup direct (Some (record { delimiter = definition_delimiter; tight = tight })) AfterTitle body.rest after body.after s)
 
   -- ## Leaves
 
@@ -294,6 +294,10 @@ module _ (text : List ℕ) (options : Options) (Holds : List Stretch → Type 0)
       (leaves_append (node_segments (read_as node.kind) node own) (segments after)
       (node_leaves (read_as node.kind) node own (inside_leaves node.kind inside (segments inside) h.0 (segments_leaves inside h.1)))
       (segments_leaves after h.2))
+
+  -- the leaves of any lines
+  pub lines-leaves : (lookup : Lookup) (all : List Row) (b : Blocks) → Body options Apart all b → AreRows all → AllLeaves Holds (segments (document_of text options lookup false None b))
+  lines-leaves lookup all b body g = segments_leaves (document_of text options lookup false None b) (document_held lookup false None Apart all b body g)
 
   pub derived-leaves : (lookup : Lookup) (document : BlockDocument) → Derives text options lookup document → AreRows (rows text) → AllLeaves Holds (segments document)
   derived-leaves lookup document h g =

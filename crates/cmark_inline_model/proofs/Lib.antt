@@ -1,14 +1,12 @@
 mod Addresses
-pub mod QuestionsBelow
-pub mod QuestionsInTurn
 pub mod Backwards
+pub mod BlockRanges
 pub mod BracketQuestions
 pub mod BracketsEnd
 pub mod BracketsOne
 pub mod BracketsShifted
 pub mod BracketsSound
 pub mod BracketsStep
-pub mod BlockRanges
 pub mod BreakRests
 pub mod CostLists
 pub mod DecisionLaws
@@ -21,6 +19,9 @@ pub mod DocumentExamples1
 pub mod DocumentExamples2
 pub mod DocumentLaws
 pub mod DocumentLeaves
+pub mod EmphasisOne
+pub mod EmphasisSamples
+pub mod EmphasisSound
 pub mod EventCounts
 pub mod FindRests
 pub mod FirstEvents
@@ -34,8 +35,8 @@ pub mod LeafExamples2
 pub mod LeafExamples3
 pub mod LeafExamples4
 pub mod LeafExamples5
-pub mod LeafFronts
 pub mod LeafExtents
+pub mod LeafFronts
 pub mod LeafGaps
 pub mod LeafLaws
 pub mod LeafLines
@@ -43,8 +44,10 @@ pub mod LeafParts
 pub mod LeafPlaces
 pub mod LeafPrefixes
 pub mod LeafRules
+pub mod LeafSpanLaws
 pub mod LeafSteps
 pub mod LeafStretches
+pub mod LikeSlots
 pub mod LinkNesting
 pub mod LinkRests
 pub mod LinkSpans
@@ -53,12 +56,14 @@ pub mod Openers
 pub mod OptionExamples
 pub mod PartCuts
 pub mod PartOrders
-pub mod PlacedTokens
 pub mod PlaceExamples
+pub mod PlacedTokens
 pub mod PlainLeaves
-pub mod PlannedReadings
 pub mod PlainTokens
+pub mod PlannedReadings
 pub mod QuestionExamples
+pub mod QuestionsBelow
+pub mod QuestionsInTurn
 pub mod RangeExamples
 pub mod ReadingBalanced
 pub mod ReadingBelow
@@ -73,6 +78,7 @@ pub mod RowParts
 pub mod RowPasses
 pub mod SampleReading
 pub mod SegmentLaws
+pub mod ShorterRests
 pub mod SiblingsOne
 pub mod SilentDecisions
 pub mod SilentReadings
@@ -80,7 +86,6 @@ pub mod SilentTokens
 pub mod SlotCells
 pub mod SlotExamples
 pub mod SlotLaws
-pub mod LikeSlots
 pub mod SlotMarks
 pub mod SlotQuotes
 pub mod SlotSpans
@@ -88,13 +93,18 @@ pub mod SourceEdges
 pub mod SpanCosts
 pub mod SpanEdges
 pub mod SpanElements
+pub mod SpanEntries
 pub mod SpanItems
 pub mod SpanKinds
+pub mod SpanPlaces
 pub mod SpanRanges
 pub mod SpentEvents
 pub mod SpentLaws
+pub mod TailLeaves
+mod TaskDocumentSamples
 pub mod TextEdges
 pub mod TextLaws
+pub mod TextPlaces
 pub mod TightSpans
 pub mod TogetherTokens
 pub mod TokenItems
@@ -105,8 +115,7 @@ pub mod TokenSizes
 pub mod TokenSome
 pub mod WalkLaws
 pub mod WikiGaps
-pub mod WordBytes
-pub mod TextPlaces
-pub mod WithoutTokens
 pub mod WithoutEmphasis
 pub mod WithoutReadings
+pub mod WithoutTokens
+pub mod WordBytes

@@ -12,7 +12,7 @@ use Rattle.cmark_grammar.specs.Parts.{Parts, Nil as NoParts, Single as SinglePar
 use Rattle.cmark_grammar.specs.Questions.{Exchange}
 use Rattle.cmark_grammar.specs.Readers.{Reader}
 use Rattle.cmark_grammar.specs.Siblings.{Inline, Nil, Single, Around, tag_by, footnote_then, name_text, display_from, address_type, address_link}
-use Rattle.cmark_grammar.specs.SiblingsModel.{dress, siblings_of, spans_in}
+use Rattle.cmark_inline_model.specs.SiblingsModel.{dress, siblings_of, spans_in}
 use Rattle.cmark_grammar.specs.Spans.{SpanKind, Emphasis, Strong, SingleTilde, DoubleTilde, Caret, DoubleEquals, span_tag}
 use Rattle.cmark_grammar.specs.Tag as tag
 use Rattle.cmark_grammar.specs.Tag.{Tag, Linked, Link, Image}
@@ -239,12 +239,12 @@ module _ (source : List ℕ) where
 
       go : ((n : ℕ) → (0 < n → AreAutos inside) → LinksApart n more → LinksApart n (inline_events source inside ++ more)) → LinksApart begun (inline_events source after ++ rest)
           → TagView t → ApartBy (of_tag t) begun (λ n. LinksApart n (inline_events source inside ++ more))
-      go inner behind (NoLink e f) = subst (λ l. Onward (inline_events source inside ++ more) l begun) (sym e) (inner begun (λ some. (autos some).1) (subst (λ l. Onward (inline_events source after ++ rest) l begun) (sym f) behind))
-      go inner behind (ALink true linked e f) =
-          subst (λ l. Onward (inline_events source inside ++ more) l begun) (sym e) (inner begun (λ some. (autos some).1) (subst (λ l. Onward (inline_events source after ++ rest) l begun) (sym f) behind))
-      go inner behind (ALink false linked e f) =
+      go inner following (NoLink e f) = subst (λ l. Onward (inline_events source inside ++ more) l begun) (sym e) (inner begun (λ some. (autos some).1) (subst (λ l. Onward (inline_events source after ++ rest) l begun) (sym f) following))
+      go inner following (ALink true linked e f) =
+          subst (λ l. Onward (inline_events source inside ++ more) l begun) (sym e) (inner begun (λ some. (autos some).1) (subst (λ l. Onward (inline_events source after ++ rest) l begun) (sym f) following))
+      go inner following (ALink false linked e f) =
           subst (λ l. Onward (inline_events source inside ++ more) l begun) (sym e)
-          (may linked begun (λ some. subst IsAuto e (autos some).0), inner (suc begun) (λ some. subst (λ l. HoldsApart l inside) e h.0) (subst (λ l. Onward (inline_events source after ++ rest) l (suc begun)) (sym f) behind))
+          (may linked begun (λ some. subst IsAuto e (autos some).0), inner (suc begun) (λ some. subst (λ l. HoldsApart l inside) e h.0) (subst (λ l. Onward (inline_events source after ++ rest) l (suc begun)) (sym f) following))
 
   pub inline-apart : (spans : Inline) (rest : List Ranged) → AreApart spans → LinksApart 0 rest → LinksApart 0 (inline_events source spans ++ rest)
   inline-apart spans rest h k = events_apart spans 0 rest h (λ some. absurd (omega arith)) k

@@ -7,7 +7,7 @@ use Rattle.caseless.proofs.Computing.{caseless}
 use Rattle.ucd_category.proofs.Computing.{ucd_category}
 use Rattle.cmark_grammar.specs.BracketDecisions.{decide}
 use Rattle.cmark_grammar.specs.Emphasis.{agrees, pair_of, rest_of_opener, rest_of_closer, kinds_of, deactivates}
-use Rattle.cmark_grammar.specs.EmphasisModel.{closed}
+use Rattle.cmark_inline_model.specs.EmphasisModel.{closed}
 use Rattle.cmark_grammar.specs.Event.{Ranged}
 use Rattle.cmark_grammar.specs.Flanking.{is_unicode_white_space, is_unicode_punctuation}
 use Rattle.cmark_grammar.specs.InlineReading.{inline_events}
@@ -19,7 +19,7 @@ use Rattle.cmark_grammar.specs.LinkType.{LinkType, Collapsed, Reference, Shortcu
 use Rattle.cmark_grammar.specs.Options.{Options, no_options}
 use Rattle.cmark_grammar.specs.Questions.{Exchange, IsNext}
 use Rattle.cmark_grammar.specs.Readers.{Reader}
-use Rattle.cmark_grammar.specs.SiblingsModel.{spans_in}
+use Rattle.cmark_inline_model.specs.SiblingsModel.{spans_in}
 use Rattle.cmark_inline_model.specs.LeafModel.{leaf_end, leaf_events, leaf_after}
 use Rattle.cmark_inline_model.proofs.BracketQuestions.{plan_of, next-plan}
 use Rattle.cmark_inline_model.proofs.BracketsOne.{parts-one}
@@ -72,9 +72,9 @@ unfolding caseless encode chars token decide ucd_category is_unicode_white_space
 code_in_autolink = refused (plain_reader no_options (codes "<http://a`b>c`")) (whole (codes "<http://a`b>c`")) (codes "&lt;http://a<code>b&gt;c</code>") (λ all. refl) (λ all. refl) refl
 
 -- a shortcut reference, although the label of the full reference has no definition
-pub shortcut_behind_full : Refused (defining_reader no_options (codes "[x][y]")) (whole (codes "[x][y]")) (codes "<a href=\"/u\">x</a>[y]")
+pub shortcut_after_full : Refused (defining_reader no_options (codes "[x][y]")) (whole (codes "[x][y]")) (codes "<a href=\"/u\">x</a>[y]")
 unfolding caseless encode chars token decide ucd_category is_unicode_white_space is_unicode_punctuation agrees pair_of rest_of_opener rest_of_closer kinds_of deactivates closed
-shortcut_behind_full = refused (defining_reader no_options (codes "[x][y]")) (whole (codes "[x][y]")) (codes "<a href=\"/u\">x</a>[y]") (λ all. refl) (λ all. refl) refl
+shortcut_after_full = refused (defining_reader no_options (codes "[x][y]")) (whole (codes "[x][y]")) (codes "<a href=\"/u\">x</a>[y]") (λ all. refl) (λ all. refl) refl
 
 -- a closing run that takes the farther opening one
 pub farther_opener : Refused (plain_reader no_options (codes "*a *b*")) (whole (codes "*a *b*")) (codes "<em>a *b</em>")

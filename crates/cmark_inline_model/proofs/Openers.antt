@@ -4,7 +4,7 @@ use Rattle.std.proofs.Common.{◌≡◌, ◌+◌, ◌≤◌, ℕ, Bool, true, fa
 use Rattle.std.proofs.lemmas.List.{length-drop}
 use Rattle.cmark_grammar.specs.BracketStates.{Opener}
 use Rattle.cmark_grammar.specs.Items.{Bracket}
-use Rattle.cmark_grammar.specs.OpenBrackets.{Taken, one_nearer, nearest, used_up, touches, doubled_behind, doubled, undoubled, tried, inactive, behind_link, dropped}
+use Rattle.cmark_grammar.specs.OpenBrackets.{Taken, one_nearer, nearest, used_up, touches, doubled_after, doubled, undoubled, tried, inactive, after_link, dropped}
 use Rattle.cmark_inline_model.specs.NestedLinks.{Persist, OpenNoLink}
 use Rattle.cmark_inline_model.proofs.LinkNesting.{persist-same}
 
@@ -85,17 +85,17 @@ nearest-taken (o ∷ os) = go o.stands (nearest-taken os)
     go true h = record { opener = o; before = os; there = refl; bracket = refl; inactive = refl }
     go false h = one_nearer_taken o os (nearest os) h
 
-doubled_behind_taken : (second : Opener) (os : List Opener) → AreTaken (second ∷ os) (doubled_behind second os)
-doubled_behind_taken second [] = tt
-doubled_behind_taken second (first ∷ os) = go (first.doubles && touches second first) (doubled_behind_taken first os)
+doubled_after_taken : (second : Opener) (os : List Opener) → AreTaken (second ∷ os) (doubled_after second os)
+doubled_after_taken second [] = tt
+doubled_after_taken second (first ∷ os) = go (first.doubles && touches second first) (doubled_after_taken first os)
   where
-    go : (b : Bool) → AreTaken (first ∷ os) (doubled_behind first os) → AreTaken (second ∷ (first ∷ os)) (if b then Some (record { nearer = 1; opener = first }) else one_nearer (doubled_behind first os))
+    go : (b : Bool) → AreTaken (first ∷ os) (doubled_after first os) → AreTaken (second ∷ (first ∷ os)) (if b then Some (record { nearer = 1; opener = first }) else one_nearer (doubled_after first os))
     go true h = record { opener = first; before = os; there = refl; bracket = refl; inactive = refl }
-    go false h = one_nearer_taken second (first ∷ os) (doubled_behind first os) h
+    go false h = one_nearer_taken second (first ∷ os) (doubled_after first os) h
 
 pub doubled-taken : (os : List Opener) → AreTaken os (doubled os)
 doubled-taken [] = tt
-doubled-taken (o ∷ os) = doubled_behind_taken o os
+doubled-taken (o ∷ os) = doubled_after_taken o os
 
 -- a doubled bracket has a nearer one: its second
 abbrev pub IsFar : Option Taken → Type 0
@@ -106,17 +106,17 @@ one_nearer_far : (taken : Option Taken) → IsFar (one_nearer taken)
 one_nearer_far None = tt
 one_nearer_far (Some taken) = let e : 1 ≤ suc taken.nearer = omega arith in e
 
-doubled_behind_far : (second : Opener) (os : List Opener) → IsFar (doubled_behind second os)
-doubled_behind_far second [] = tt
-doubled_behind_far second (first ∷ os) = go (first.doubles && touches second first)
+doubled_after_far : (second : Opener) (os : List Opener) → IsFar (doubled_after second os)
+doubled_after_far second [] = tt
+doubled_after_far second (first ∷ os) = go (first.doubles && touches second first)
   where
-    go : (b : Bool) → IsFar (if b then Some (record { nearer = 1; opener = first }) else one_nearer (doubled_behind first os))
+    go : (b : Bool) → IsFar (if b then Some (record { nearer = 1; opener = first }) else one_nearer (doubled_after first os))
     go true = let e : 1 ≤ 1 = omega arith in e
-    go false = one_nearer_far (doubled_behind first os)
+    go false = one_nearer_far (doubled_after first os)
 
 pub doubled-far : (os : List Opener) → IsFar (doubled os)
 doubled-far [] = tt
-doubled-far (o ∷ os) = doubled_behind_far o os
+doubled-far (o ∷ os) = doubled_after_far o os
 
 -- the second bracket of a doubled one is directly after the first, and opens no image
 pub record IsTouched (os : List Opener) (taken : Taken) : Type 0 where
@@ -135,9 +135,9 @@ one_nearer_touched : (o : Opener) (os : List Opener) (taken : Option Taken) → 
 one_nearer_touched o os None h = tt
 one_nearer_touched o os (Some taken) h = record { n = suc h.n; second = h.second; before = h.before; there = h.there; link = h.link; start = h.start }
 
-doubled_behind_touched : (second : Opener) (os : List Opener) → AreTouched (second ∷ os) (doubled_behind second os)
-doubled_behind_touched second [] = tt
-doubled_behind_touched second (first ∷ os) = go (first.doubles && touches second first) refl (doubled_behind_touched first os)
+doubled_after_touched : (second : Opener) (os : List Opener) → AreTouched (second ∷ os) (doubled_after second os)
+doubled_after_touched second [] = tt
+doubled_after_touched second (first ∷ os) = go (first.doubles && touches second first) refl (doubled_after_touched first os)
   where
     last-true : (a b : Bool) → (a && b) ≡ true → b ≡ true
     last-true true b e = e
@@ -151,8 +151,8 @@ doubled_behind_touched second (first ∷ os) = go (first.doubles && touches seco
     not-false true e = cc
     not-false false e = refl
 
-    go : (b : Bool) → (first.doubles && touches second first) ≡ b → AreTouched (first ∷ os) (doubled_behind first os)
-        → AreTouched (second ∷ (first ∷ os)) (if b then Some (record { nearer = 1; opener = first }) else one_nearer (doubled_behind first os))
+    go : (b : Bool) → (first.doubles && touches second first) ≡ b → AreTouched (first ∷ os) (doubled_after first os)
+        → AreTouched (second ∷ (first ∷ os)) (if b then Some (record { nearer = 1; opener = first }) else one_nearer (doubled_after first os))
     go true e h =
         let t = last-true first.doubles (touches second first) e in
         record {
@@ -163,11 +163,11 @@ doubled_behind_touched second (first ∷ os) = go (first.doubles && touches seco
           link = not-false second.bracket.is_image (first-true (not second.bracket.is_image) (second.bracket.start == first.bracket.end) t);
           start = eqb-true second.bracket.start first.bracket.end (last-true (not second.bracket.is_image) (second.bracket.start == first.bracket.end) t);
         }
-    go false e h = one_nearer_touched second (first ∷ os) (doubled_behind first os) h
+    go false e h = one_nearer_touched second (first ∷ os) (doubled_after first os) h
 
 pub doubled-touched : (os : List Opener) → AreTouched os (doubled os)
 doubled-touched [] = tt
-doubled-touched (o ∷ os) = doubled_behind_touched o os
+doubled-touched (o ∷ os) = doubled_after_touched o os
 
 pub touched-alike : (a b : List Opener) (taken : Taken) → Alike a b → IsTouched b taken → IsTouched a taken
 touched-alike a b taken h k = go (drop k.n a) refl (subst (Alike (drop k.n a)) k.there (alike-drop k.n a b h))
@@ -202,7 +202,7 @@ dropped-persist os = map-persist dropped (λ o. (refl, λ e. e)) os
 pub undoubled-persist : (os : List Opener) → Persist os (map undoubled os)
 undoubled-persist os = map-persist undoubled (λ o. (refl, λ e. e)) os
 
-pub link-persist : (is_image : Bool) (os : List Opener) → Persist os (behind_link is_image os)
+pub link-persist : (is_image : Bool) (os : List Opener) → Persist os (after_link is_image os)
 link-persist true os = persist-same os
 link-persist false os = inactive-persist os
 

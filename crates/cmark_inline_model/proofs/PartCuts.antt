@@ -3,7 +3,7 @@ use Rattle.std.proofs.Common.{◌≡◌, ℕ, ◌+◌, Bool, true, false, ◌==�
 use Rattle.std.proofs.lemmas.Bool.{eq-eqb, eqb-true, ne_eqb}
 use Rattle.cmark_grammar.specs.Items.{Bracket}
 use Rattle.cmark_grammar.specs.Parts.{Parts, Nil, Single, Form, Closing, Opening, openings}
-use Rattle.cmark_inline_model.specs.PartLists.{join, Cut, behind, cut_at}
+use Rattle.cmark_inline_model.specs.PartLists.{join, Cut, following, cut_at}
 
 pub join-nil : (a : Parts) → join a Nil ≡ a
 join-nil Nil = refl
@@ -30,21 +30,21 @@ openings-join (Opening opener after) b = let e = openings-join after b in omega 
 pub cut-is : (a : Parts) (opener : Bracket) (b : Parts) → cut_at (openings b) (join a (Opening opener b)) ≡ Some (record { before = a; opener = opener; inside = b })
 cut-is Nil opener b = go (openings b == openings b) (eq-eqb (openings b) (openings b) refl)
   where
-    go : (x : Bool) → x ≡ true → (if x then Some (record { before = Nil; opener = opener; inside = b }) else behind (Opening opener Nil) (cut_at (openings b) b)) ≡ Some (record { before = Nil; opener = opener; inside = b })
+    go : (x : Bool) → x ≡ true → (if x then Some (record { before = Nil; opener = opener; inside = b }) else following (Opening opener Nil) (cut_at (openings b) b)) ≡ Some (record { before = Nil; opener = opener; inside = b })
     go true e = refl
     go false e = absurd (let d : ⊥ = cc in d)
-cut-is (Single item after) opener b = ap (behind (Single item Nil)) (cut-is after opener b)
-cut-is (Form other inside closer formed after) opener b = ap (behind (Form other inside closer formed Nil)) (cut-is after opener b)
-cut-is (Closing closer after) opener b = ap (behind (Closing closer Nil)) (cut-is after opener b)
+cut-is (Single item after) opener b = ap (following (Single item Nil)) (cut-is after opener b)
+cut-is (Form other inside closer formed after) opener b = ap (following (Form other inside closer formed Nil)) (cut-is after opener b)
+cut-is (Closing closer after) opener b = ap (following (Closing closer Nil)) (cut-is after opener b)
 cut-is (Opening other after) opener b =
     go (openings (join after (Opening opener b)) == openings b) (ne_eqb (openings (join after (Opening opener b))) (openings b) (λ x. let k = openings-join after (Opening opener b) in let d : ⊥ = omega arith in d))
     (cut-is after opener b)
   where
     go : (x : Bool) → x ≡ false → cut_at (openings b) (join after (Opening opener b)) ≡ Some (record { before = after; opener = opener; inside = b })
-        → (if x then Some (record { before = Nil; opener = other; inside = join after (Opening opener b) }) else behind (Opening other Nil) (cut_at (openings b) (join after (Opening opener b))))
+        → (if x then Some (record { before = Nil; opener = other; inside = join after (Opening opener b) }) else following (Opening other Nil) (cut_at (openings b) (join after (Opening opener b))))
         ≡ Some (record { before = Opening other after; opener = opener; inside = b })
     go true e k = absurd (let d : ⊥ = cc in d)
-    go false e k = ap (behind (Opening other Nil)) k
+    go false e k = ap (following (Opening other Nil)) k
 
 -- and whatever it is cut into is it
 pub record IsCut (nearer : ℕ) (whole : Parts) (cut : Cut) : Type 0 where
@@ -55,21 +55,21 @@ abbrev pub Cuts : ℕ → Parts → Option Cut → Type 0
 Cuts nearer whole None = ℕ
 Cuts nearer whole (Some cut) = IsCut nearer whole cut
 
-cuts_behind : (nearer : ℕ) (piece whole : Parts) (cut : Option Cut) → Cuts nearer whole cut → Cuts nearer (join piece whole) (behind piece cut)
-cuts_behind nearer piece whole None h = h
-cuts_behind nearer piece whole (Some cut) h = record {
+cuts_after : (nearer : ℕ) (piece whole : Parts) (cut : Option Cut) → Cuts nearer whole cut → Cuts nearer (join piece whole) (following piece cut)
+cuts_after nearer piece whole None h = h
+cuts_after nearer piece whole (Some cut) h = record {
   whole_is = ap (join piece) h.whole_is ∙ sym (join_assoc piece cut.before (Opening cut.opener cut.inside));
   more_is = h.more_is;
 }
 
 pub cuts : (nearer : ℕ) (whole : Parts) → Cuts nearer whole (cut_at nearer whole)
 cuts nearer Nil = 0
-cuts nearer (Single item after) = cuts_behind nearer (Single item Nil) after (cut_at nearer after) (cuts nearer after)
-cuts nearer (Form opener inside closer formed after) = cuts_behind nearer (Form opener inside closer formed Nil) after (cut_at nearer after) (cuts nearer after)
-cuts nearer (Closing closer after) = cuts_behind nearer (Closing closer Nil) after (cut_at nearer after) (cuts nearer after)
+cuts nearer (Single item after) = cuts_after nearer (Single item Nil) after (cut_at nearer after) (cuts nearer after)
+cuts nearer (Form opener inside closer formed after) = cuts_after nearer (Form opener inside closer formed Nil) after (cut_at nearer after) (cuts nearer after)
+cuts nearer (Closing closer after) = cuts_after nearer (Closing closer Nil) after (cut_at nearer after) (cuts nearer after)
 cuts nearer (Opening opener after) = go (openings after == nearer) refl (cuts nearer after)
   where
     go : (x : Bool) → (openings after == nearer) ≡ x → Cuts nearer after (cut_at nearer after)
-        → Cuts nearer (Opening opener after) (if x then Some (record { before = Nil; opener = opener; inside = after }) else behind (Opening opener Nil) (cut_at nearer after))
+        → Cuts nearer (Opening opener after) (if x then Some (record { before = Nil; opener = opener; inside = after }) else following (Opening opener Nil) (cut_at nearer after))
     go true e k = record { whole_is = refl; more_is = eqb-true (openings after) nearer e }
-    go false e k = cuts_behind nearer (Opening opener Nil) after (cut_at nearer after) k
+    go false e k = cuts_after nearer (Opening opener Nil) after (cut_at nearer after) k

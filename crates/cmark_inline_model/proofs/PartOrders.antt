@@ -15,13 +15,13 @@ use Rattle.cmark_grammar.specs.Parts.{Parts, Nil as NoParts, Single as SinglePar
 use Rattle.cmark_grammar.specs.Questions.{Saying}
 use Rattle.cmark_grammar.specs.Readers.{Reader}
 use Rattle.cmark_grammar.specs.Siblings.{Inline, Nil, Single, Around, tag_by, item, item_then, footnote_then, from_place, display_from}
-use Rattle.cmark_grammar.specs.SiblingsModel.{dress, siblings_of, spans_in}
+use Rattle.cmark_inline_model.specs.SiblingsModel.{dress, siblings_of, spans_in}
 use Rattle.cmark_inline_model.specs.LeafModel.{HaveLineEnds}
 use Rattle.cmark_inline_model.specs.PartRanges.{StandBetween, end_of}
 use Rattle.cmark_grammar.specs.Tag.{Linked}
-use Rattle.cmark_inline_model.specs.CutRanges.{IsLinkOrImage, IsBehindPipe}
+use Rattle.cmark_inline_model.specs.CutRanges.{IsLinkOrImage, IsAfterPipe}
 use Rattle.cmark_inline_model.proofs.KindViews.{KindView, AQuote, ARun, AnAutolink, AText, kind-view}
-use Rattle.cmark_inline_model.proofs.LeafPlaces.{place-behind, next-size}
+use Rattle.cmark_inline_model.proofs.LeafPlaces.{place-following, next-size}
 use Rattle.cmark_inline_model.proofs.ReadingPlaces.{HavePipes}
 use Rattle.cmark_inline_model.proofs.SpanRanges.{Fills, Begun, begun-up, InlineOrder, SiblingOrder, inline-wide, dress-order}
 use Rattle.cmark_inline_model.proofs.TokenItems.{HoldsOfItems, HoldsOf, token-holds, OfItems, items-hold}
@@ -30,23 +30,23 @@ use Rattle.cmark_inline_model.proofs.WikiGaps.{HaveGaps}
 
 -- ## Items fill their bytes
 
-autolink_behind : (emails : Bool) (bs : List ℕ) (found : Parsed) → autolink_in emails bs ≡ Some found → length found.behind < length bs
-autolink_behind emails [] found e = by (has_address emails []) e
+autolink_after : (emails : Bool) (bs : List ℕ) (found : Parsed) → autolink_in emails bs ≡ Some found → length found.following < length bs
+autolink_after emails [] found e = by (has_address emails []) e
   where
-    by : (x : Bool) → (if x then None else None) ≡ Some found → length found.behind < 0
+    by : (x : Bool) → (if x then None else None) ≡ Some found → length found.following < 0
     by true f = cc
     by false f = cc
-autolink_behind emails (b ∷ bs) found e = scheme (has_address emails (b ∷ bs)) e
+autolink_after emails (b ∷ bs) found e = scheme (has_address emails (b ∷ bs)) e
   where
     size : ℕ
     size = prefix_len is_uri_byte (b ∷ bs)
 
-    closed : (x : Bool) → (if x then Some (record { bytes = take size (b ∷ bs); behind = drop size bs }) else None) ≡ Some found → length found.behind < length (b ∷ bs)
-    closed true f = let g : drop size bs ≡ found.behind = cc in let l = ap length g in let d = length-drop size bs in omega arith
+    closed : (x : Bool) → (if x then Some (record { bytes = take size (b ∷ bs); following = drop size bs }) else None) ≡ Some found → length found.following < length (b ∷ bs)
+    closed true f = let g : drop size bs ≡ found.following = cc in let l = ap length g in let d = length-drop size bs in omega arith
     closed false f = cc
 
-    scheme : (x : Bool) → (if x then (if first_is (λ c. c == 62) (drop size (b ∷ bs)) then Some (record { bytes = take size (b ∷ bs); behind = drop size bs }) else None) else None) ≡ Some found
-        → length found.behind < length (b ∷ bs)
+    scheme : (x : Bool) → (if x then (if first_is (λ c. c == 62) (drop size (b ∷ bs)) then Some (record { bytes = take size (b ∷ bs); following = drop size bs }) else None) else None) ≡ Some found
+        → length found.following < length (b ∷ bs)
     scheme true f = closed (first_is (λ c. c == 62) (drop size (b ∷ bs))) f
     scheme false f = cc
 
@@ -54,12 +54,12 @@ abbrev pub FillsItem : Item → Type 0
 FillsItem x = Fills x.kind x.start x.end
 
 module _ (reader : Reader) (leaf : Leaf) (size : ℕ) (turn : InTurn 0 leaf.stretches size) where
-  autolink_fills : (at b : ℕ) (bs : List ℕ) (found : Parsed) → from reader leaf at ≡ b ∷ bs → autolink_in reader.options.email_autolinks bs ≡ Some found → at + 2 ≤ place_of reader leaf found.behind
+  autolink_fills : (at b : ℕ) (bs : List ℕ) (found : Parsed) → from reader leaf at ≡ b ∷ bs → autolink_in reader.options.email_autolinks bs ≡ Some found → at + 2 ≤ place_of reader leaf found.following
   autolink_fills at b bs found here e =
       let l = ap length here in
       let n = next-size reader.source leaf.stretches size turn at in
-      let k = autolink_behind reader.options.email_autolinks bs found e in
-      let p = place-behind reader.source leaf.stretches size turn (length found.behind) (suc at) (omega arith) in
+      let k = autolink_after reader.options.email_autolinks bs found e in
+      let p = place-following reader.source leaf.stretches size turn (length found.following) (suc at) (omega arith) in
       omega arith
 
   items_fill : HoldsOfItems reader leaf Fills
@@ -188,7 +188,7 @@ module _ (reader : Reader) (leaf : Leaf) (size : ℕ) (turn : InTurn 0 leaf.stre
   UncutItem x = Uncut reader leaf size turn within lines x.kind x.start x.end
 
   abbrev Pipe : ℕ → Type 0
-  Pipe at = IsBehindPipe reader.options reader.source at
+  Pipe at = IsAfterPipe reader.options reader.source at
 
   -- no run contains a pipe
   item_free : (place : ℕ) → Pipe place → (x : Item) (after : Inline) → UncutItem x → IsFree place after → IsFree place (item_then x.kind x after)

@@ -1,9 +1,9 @@
 -- The stretches of leaves and the places of their bytes, computed.
 use Rattle.std.specs.Prelude.{◌≡◌, ℕ, List, [], ◌∷◌, codes, map}
 use Rattle.std.proofs.Common.{refl, arith}
-use Rattle.cmark_grammar.specs.BlocksModel.{blocks, begin}
+use Rattle.cmark_block_model.specs.BlocksModel.{blocks, begin}
 use Rattle.cmark_grammar.specs.Containers.{keeps, enter}
-use Rattle.cmark_grammar.specs.Derivation.{document}
+use Rattle.cmark_block_model.specs.DocumentModel.{document}
 use Rattle.cmark_grammar.specs.Entities.{basic_entity}
 use Rattle.cmark_grammar.specs.LeafText.{Leaf}
 use Rattle.cmark_grammar.specs.Leaves.{underlines}

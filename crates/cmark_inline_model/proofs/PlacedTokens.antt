@@ -11,24 +11,24 @@ use Rattle.cmark_grammar.specs.CodeSpans.{is_backtick, backticks, code_in, code_
 use Rattle.cmark_grammar.specs.Columns.{is_blank_byte}
 use Rattle.cmark_grammar.specs.Dashes.{dashes_of, dash_text}
 use Rattle.cmark_grammar.specs.Flanking.{Flanking, flanking, is_run_delimiter}
-use Rattle.cmark_grammar.specs.Formulas.{is_dollar, no_braces, braces_behind, inline_in, display_in}
-use Rattle.cmark_grammar.specs.InlineHtml.{behind_markup, behind_opened, opened_in}
+use Rattle.cmark_grammar.specs.Formulas.{is_dollar, no_braces, braces_after, inline_in, display_in}
+use Rattle.cmark_grammar.specs.InlineHtml.{after_markup, after_opened, opened_in}
 use Rattle.cmark_grammar.specs.InlineTokens.{item_at, bracket, as_in, first_of, from, before, place_of, size_to, character_before, character_at, line_begins, read_on, break_to, break_or, code_or, escaped_backtick, escape_at, entity_or, autolink_or, tag_kind, tag_or_text, source_from, markup_or, less_than, run_or, run_at, formula_or, dollar, dots, hyphens, quote_at, smart_or, begins, begins_at}
 use Rattle.cmark_grammar.specs.Items.{ItemKind, Plain, Own, Written, Code, InlineMath, DisplayMath, Autolink, Quoted, Delimiters, SoftBreak, HardBreak, Token, Stands, Opens, Closes}
 use Rattle.cmark_grammar.specs.LabelsOverLines.{piped}
 use Rattle.cmark_grammar.specs.LeafText.{Leaf, end_of}
-use Rattle.cmark_grammar.specs.Letters.{first_is, starts, behind_first}
+use Rattle.cmark_grammar.specs.Letters.{first_is, starts, after_first_of}
 use Rattle.cmark_grammar.specs.LineBreaks.{LineBreak, backslash_break_in, blank_break_in}
 use Rattle.cmark_grammar.specs.Lines.{is_content}
-use Rattle.cmark_grammar.specs.LinkDefinitions.{Parsed, behind_blanks}
+use Rattle.cmark_grammar.specs.LinkDefinitions.{Parsed, after_leading_blanks}
 use Rattle.cmark_grammar.specs.Quotes.{quote_beside}
 use Rattle.cmark_grammar.specs.Readers.{Reader}
-use Rattle.cmark_grammar.specs.Tags.{behind_tag, no_prefix}
+use Rattle.cmark_grammar.specs.Tags.{after_tag, no_prefix}
 use Rattle.cmark_grammar.specs.Tokens.{Entity, entity_in, is_punctuation, slice}
-use Rattle.cmark_grammar.proofs.RowEdges.{Front, front-less}
+use Rattle.cmark_block_model.proofs.RowEdges.{Front, front-less}
 use Rattle.cmark_inline_model.specs.PlacedTokens.{IsParted, AreLeafPlaces, one_stretch, text_reader, placed, may_open_markup}
 use Rattle.cmark_inline_model.proofs.BreakRests.{BreakTaken, blank-taken, backslash-taken}
-use Rattle.cmark_inline_model.proofs.FindRests.{IsBehind, ParsedBehind, behind-rest, code-behind, inline-behind, display-behind, autolink-behind, tag-behind}
+use Rattle.cmark_inline_model.proofs.FindRests.{IsAfter, ParsedAfter, following-rest, code-following, inline-following, display-following, autolink-following, tag-following}
 use Rattle.cmark_inline_model.proofs.WordBytes.{IsWord, and-right, word-is, punctuation-word, front-map, Leads, prefix-leads, starts-leads, first-leads, leads-cons, EntityLeads, entity-leads}
 
 abbrev pub Content : ℕ → Type 0
@@ -85,8 +85,8 @@ module _ (reader : Reader) (leaf : Leaf) (text : List ℕ) (place : ℕ → ℕ)
       go j a b (inr c) = let o = h.places.order k j c (omega arith) in omega arith
 
   -- after a byte
-  pub at-behind : (k : ℕ) → k < length text → IsParted (length text) place (suc (place k)) (suc k)
-  at-behind k lt = record { within = lt; earlier = λ j a. go j a (le_or k j); later = λ j a b. (let o = h.places.order k j a (omega arith) in omega arith) }
+  pub at-following : (k : ℕ) → k < length text → IsParted (length text) place (suc (place k)) (suc k)
+  at-following k lt = record { within = lt; earlier = λ j a. go j a (le_or k j); later = λ j a b. (let o = h.places.order k j a (omega arith) in omega arith) }
     where
       go : (j : ℕ) → j < suc k → (k ≤ j) ⊎ (j < k) → place j < suc (place k)
       go j a (inl c) = subst (λ i. place i < suc (place k)) (let e : k ≡ j = omega arith in e) (omega arith)
@@ -140,7 +140,7 @@ module _ (reader : Reader) (leaf : Leaf) (text : List ℕ) (place : ℕ → ℕ)
       (b ∙ sym z ∙ ap place (sym g))
 
   -- up to the end of a byte that does not end a line
-  rest_is : (kind : ItemKind) (k : ℕ) (l rest : List ℕ) → drop k text ≡ l → IsBehind l rest → item_at kind (place k) (place_of reader leaf rest) ≡ placed place (item_at kind k (place_of one alone rest))
+  rest_is : (kind : ItemKind) (k : ℕ) (l rest : List ℕ) → drop k text ≡ l → IsAfter l rest → item_at kind (place k) (place_of reader leaf rest) ≡ placed place (item_at kind k (place_of one alone rest))
   rest_is kind k l rest d b =
       let j = k + b.place in
       let n = ap length d in
@@ -155,9 +155,9 @@ module _ (reader : Reader) (leaf : Leaf) (text : List ℕ) (place : ℕ → ℕ)
       item_is kind (place k) (place_of reader leaf rest) (place_of reader leaf rest) k (suc j) (suc j) refl (end ∙ h.places.next j lt byte ∙ ap (λ i. suc (place i)) (let q : j ≡ suc j - 1 = omega arith in q)) end
       ∙ ap (λ i. placed place (item_at kind k i)) (sym own)
 
-  found_is : (kind : List ℕ → ItemKind) (k : ℕ) (l : List ℕ) (found : Option Parsed) → drop k text ≡ l → ParsedBehind l found → (f : Parsed) → found ≡ Some f
-      → item_at (kind f.bytes) (place k) (place_of reader leaf f.behind) ≡ placed place (item_at (kind f.bytes) k (place_of one alone f.behind))
-  found_is kind k l found d b f e = rest_is (kind f.bytes) k l f.behind d (subst (ParsedBehind l) e b)
+  found_is : (kind : List ℕ → ItemKind) (k : ℕ) (l : List ℕ) (found : Option Parsed) → drop k text ≡ l → ParsedAfter l found → (f : Parsed) → found ≡ Some f
+      → item_at (kind f.bytes) (place k) (place_of reader leaf f.following) ≡ placed place (item_at (kind f.bytes) k (place_of one alone f.following))
+  found_is kind k l found d b f e = rest_is (kind f.bytes) k l f.following d (subst (ParsedAfter l) e b)
 
   -- one of two tokens, by the condition
   either : (b : Bool) (x y x0 y0 : Token) → (b ≡ true → x ≡ placed place x0) → (b ≡ false → y ≡ placed place y0) → (if b then x else y) ≡ placed place (if b then x0 else y0)
@@ -171,10 +171,10 @@ module _ (reader : Reader) (leaf : Leaf) (text : List ℕ) (place : ℕ → ℕ)
   read-on x k p =
       let line : line_begins reader leaf x ≡ line_begins one alone k = ap (λ l. first_is (λ b. not (is_content b)) (reverse l)) (h.front x k p ∙ sym (before-text k p.within)) in
       let bytes : from reader leaf x ≡ from one alone k = h.rest x k p ∙ sym (from-text k) in
-      ap (λ b. place_of reader leaf (if b then behind_blanks (from reader leaf x) else from reader leaf x)) line
-      ∙ ap (λ l. place_of reader leaf (if line_begins one alone k then behind_blanks l else l)) (bytes ∙ from-text k)
+      ap (λ b. place_of reader leaf (if b then after_leading_blanks (from reader leaf x) else from reader leaf x)) line
+      ∙ ap (λ l. place_of reader leaf (if line_begins one alone k then after_leading_blanks l else l)) (bytes ∙ from-text k)
       ∙ by (line_begins one alone k)
-      ∙ ap (λ l. place (place_of one alone (if line_begins one alone k then behind_blanks l else l))) (sym (from-text k))
+      ∙ ap (λ l. place (place_of one alone (if line_begins one alone k then after_leading_blanks l else l))) (sym (from-text k))
     where
       at : (n : ℕ) → place_of reader leaf (drop n (drop k text)) ≡ place (place_of one alone (drop n (drop k text)))
       at n = subst (λ l. place_of reader leaf l ≡ place (place_of one alone l)) (sym (drop-drop n k text)) (go (le_or (k + n) (length text)))
@@ -190,7 +190,7 @@ module _ (reader : Reader) (leaf : Leaf) (text : List ℕ) (place : ℕ → ℕ)
               nothing (x ∷ a) b e f = absurd (omega arith)
               nothing [] (x ∷ b) e f = absurd (omega arith)
 
-      by : (b : Bool) → place_of reader leaf (if b then behind_blanks (drop k text) else drop k text) ≡ place (place_of one alone (if b then behind_blanks (drop k text) else drop k text))
+      by : (b : Bool) → place_of reader leaf (if b then after_leading_blanks (drop k text) else drop k text) ≡ place (place_of one alone (if b then after_leading_blanks (drop k text) else drop k text))
       by true = at _
       by false = at 0
 
@@ -198,10 +198,10 @@ module _ (reader : Reader) (leaf : Leaf) (text : List ℕ) (place : ℕ → ℕ)
   starts_not : (c : ℕ) (prefix l : List ℕ) → prefix ≡ 60 ∷ c ∷ [] → (take 2 l ≡ 60 ∷ c ∷ [] → ⊥) → starts prefix l ≡ false
   starts_not c prefix l is other = false_from_ne_true (starts prefix l) (λ t. other (ap (λ p. take (length p) l) (sym is) ∙ (bytes_eq-Decides (take (length prefix) l) prefix).0 t ∙ is))
 
-  no_markup : (l : List ℕ) → (take 2 l ≡ 60 ∷ 33 ∷ [] → ⊥) → (take 2 l ≡ 60 ∷ 63 ∷ [] → ⊥) → behind_markup l ≡ None
+  no_markup : (l : List ℕ) → (take 2 l ≡ 60 ∷ 33 ∷ [] → ⊥) → (take 2 l ≡ 60 ∷ 63 ∷ [] → ⊥) → after_markup l ≡ None
   no_markup l x y =
-      ap (λ z. if z then behind_opened (opened_in (drop 2 l)) else if starts (codes "<?") l then behind_first (codes "?>") (drop 2 l) else None) (starts_not 33 (codes "<!") l refl x)
-      ∙ ap (λ z. if z then behind_first (codes "?>") (drop 2 l) else None) (starts_not 63 (codes "<?") l refl y)
+      ap (λ z. if z then after_opened (opened_in (drop 2 l)) else if starts (codes "<?") l then after_first_of (codes "?>") (drop 2 l) else None) (starts_not 33 (codes "<!") l refl x)
+      ∙ ap (λ z. if z then after_first_of (codes "?>") (drop 2 l) else None) (starts_not 63 (codes "<?") l refl y)
 
   -- the source has the leaf's next byte after a byte that does not end a line
   second_of_source : (k c : ℕ) → k < length text → is_content (get_or text k 0) ≡ true → take 2 (source_from reader leaf (place k)) ≡ 60 ∷ c ∷ [] → first_is (λ d. d == c) (drop (suc k) text) ≡ true
@@ -283,20 +283,20 @@ module _ (reader : Reader) (leaf : Leaf) (text : List ℕ) (place : ℕ → ℕ)
         ap (λ n. break_to reader leaf (place k) found (place k + n)) size_here
         ∙ item_is (if found.is_hard then HardBreak else SoftBreak) (place k + found.before) (place k + n) (read_on reader leaf (place k + n)) (k + found.before) (k + n) (read_on one alone (k + n))
         (sym (fewer-steps found.before t.blanks k (b ∷ bs) t.begins here blank_leads)) end_is
-        (ap (read_on reader leaf) end_is ∙ read-on (suc (place last)) (k + n) (subst (IsParted (length text) place (suc (place last))) (let q : suc last ≡ k + n = omega arith in q) (at-behind last last_in)))
+        (ap (read_on reader leaf) end_is ∙ read-on (suc (place last)) (k + n) (subst (IsParted (length text) place (suc (place last))) (let q : suc last ≡ k + n = omega arith in q) (at-following last last_in)))
         ∙ ap (λ n. placed place (break_to one alone k found (k + n))) (sym size_own)
       where
         n : ℕ
         n = t.blanks + suc t.more
 
-        behind_size : length (b ∷ bs) - length found.behind ≡ n
-        behind_size = let e = ap length t.behind in let d = length-drop (t.blanks + suc t.more) (b ∷ bs) in let w = t.fits in omega arith
+        following_size : length (b ∷ bs) - length found.following ≡ n
+        following_size = let e = ap length t.following in let d = length-drop (t.blanks + suc t.more) (b ∷ bs) in let w = t.fits in omega arith
 
-        size_here : size_to reader leaf (place k) found.behind ≡ n
-        size_here = ap (λ l. length l - length found.behind) from_here ∙ behind_size
+        size_here : size_to reader leaf (place k) found.following ≡ n
+        size_here = ap (λ l. length l - length found.following) from_here ∙ following_size
 
-        size_own : size_to one alone k found.behind ≡ n
-        size_own = ap (λ l. length l - length found.behind) from_own ∙ behind_size
+        size_own : size_to one alone k found.following ≡ n
+        size_own = ap (λ l. length l - length found.following) from_own ∙ following_size
 
         blank_leads : Leads Content t.blanks (b ∷ bs)
         blank_leads = record { front = front-map IsWord Content (λ c w. w.content) t.blanks (b ∷ bs) t.leads.front; fits = t.leads.fits }
@@ -324,9 +324,9 @@ module _ (reader : Reader) (leaf : Leaf) (text : List ℕ) (place : ℕ → ℕ)
             let v = ap place q in
             omega arith)) t.ending
 
-    code_is : (found : Option Parsed) → ParsedBehind (b ∷ bs) found → Leads Content (backticks (b ∷ bs)) (b ∷ bs) → 0 < backticks (b ∷ bs)
+    code_is : (found : Option Parsed) → ParsedAfter (b ∷ bs) found → Leads Content (backticks (b ∷ bs)) (b ∷ bs) → 0 < backticks (b ∷ bs)
         → code_or reader leaf (place k) (backticks (b ∷ bs)) found ≡ placed place (code_or one alone k (backticks (b ∷ bs)) found)
-    code_is (Some found) f w some = rest_is (Code (code_text (as_in leaf.is_cell found.bytes))) k (b ∷ bs) found.behind here f
+    code_is (Some found) f w some = rest_is (Code (code_text (as_in leaf.is_cell found.bytes))) k (b ∷ bs) found.following here f
     code_is None f w some = bytes_are Own (backticks (b ∷ bs)) w some
 
     entity_is : IsWord b → (entity : Option Entity) → EntityLeads bs entity → entity_or reader leaf (place k) entity ≡ placed place (entity_or one alone k entity)
@@ -381,7 +381,7 @@ module _ (reader : Reader) (leaf : Leaf) (text : List ℕ) (place : ℕ → ℕ)
       parts_of [] e = (refl, refl)
       parts_of (d ∷ l) e = or_parts (d == 33) (d == 63) e
 
-      no_source : (b == 60) ≡ true → autolink_in reader.options.email_autolinks bs ≡ None → behind_markup (source_from reader leaf (place k)) ≡ None
+      no_source : (b == 60) ≡ true → autolink_in reader.options.email_autolinks bs ≡ None → after_markup (source_from reader leaf (place k)) ≡ None
       no_source e link =
           let c : is_content (get_or text k 0) ≡ true = ap is_content (inside k b bs here).1 ∙ subst (λ x. is_content x ≡ true) (sym (eqb-true b 60 e)) refl in
           let p = parts_of bs (no_second e link) in
@@ -394,7 +394,7 @@ module _ (reader : Reader) (leaf : Leaf) (text : List ℕ) (place : ℕ → ℕ)
           (let d = length-drop k text in ap (λ n. take n (drop k text)) (let e : end_of alone.stretches - k ≡ length (drop k text) = omega arith in e))
           ∙ take-length (drop k text) ∙ here
 
-      pub no-own : (b == 60) ≡ true → autolink_in reader.options.email_autolinks bs ≡ None → behind_markup (source_from one alone k) ≡ None
+      pub no-own : (b == 60) ≡ true → autolink_in reader.options.email_autolinks bs ≡ None → after_markup (source_from one alone k) ≡ None
       no-own e link =
           let p = parts_of bs (no_second e link) in
           no_markup (source_from one alone k)
@@ -405,32 +405,32 @@ module _ (reader : Reader) (leaf : Leaf) (text : List ℕ) (place : ℕ → ℕ)
           second c [] t = absurd (let n = ap length t in omega arith)
           second c (d ∷ l) t = eq-eqb d c (ap (λ m. get_or m 1 0) t)
 
-      tag_is : IsWord b → (found : Option (List ℕ)) → behind_tag no_prefix (b ∷ bs) ≡ found → tag_or_text reader leaf (place k) found ≡ placed place (tag_or_text one alone k found)
+      tag_is : IsWord b → (found : Option (List ℕ)) → after_tag no_prefix (b ∷ bs) ≡ found → tag_or_text reader leaf (place k) found ≡ placed place (tag_or_text one alone k found)
       tag_is w None e = byte_is Own w.content
       tag_is w (Some rest) e =
           ap (λ l. item_at (tag_kind reader leaf (take (length l - length rest) l)) (place k) (place_of reader leaf rest)) from_here
-          ∙ rest_is (tag_kind reader leaf (take (length (b ∷ bs) - length rest) (b ∷ bs))) k (b ∷ bs) rest here (tag-behind (b ∷ bs) rest e)
+          ∙ rest_is (tag_kind reader leaf (take (length (b ∷ bs) - length rest) (b ∷ bs))) k (b ∷ bs) rest here (tag-following (b ∷ bs) rest e)
           ∙ ap (λ l. placed place (item_at (tag_kind one alone (take (length l - length rest) l)) k (place_of one alone rest))) (sym from_own)
 
-      autolink_is : (found : Option Parsed) (other other0 : Token) → ParsedBehind bs found → (found ≡ None → other ≡ placed place other0)
+      autolink_is : (found : Option Parsed) (other other0 : Token) → ParsedAfter bs found → (found ≡ None → other ≡ placed place other0)
           → autolink_or reader leaf (place k) found other ≡ placed place (autolink_or one alone k found other0)
       autolink_is None other other0 f p = p refl
-      autolink_is (Some found) other other0 f p = rest_is (Autolink found.bytes) k (b ∷ bs) found.behind here (behind-rest (b ∷ bs) bs found.behind (1, refl) f)
+      autolink_is (Some found) other other0 f p = rest_is (Autolink found.bytes) k (b ∷ bs) found.following here (following-rest (b ∷ bs) bs found.following (1, refl) f)
 
       less_than_is : (b == 60) ≡ true → less_than reader leaf (place k) bs ≡ placed place (less_than one alone k bs)
       less_than_is e =
           let w = word-is b 60 refl (omega arith) e in
-          let tag = tag_or_text reader leaf (place k) (behind_tag no_prefix (from reader leaf (place k))) in
-          let tag0 = tag_or_text one alone k (behind_tag no_prefix (from one alone k)) in
-          let others = markup_or reader leaf (place k) (behind_markup (source_from reader leaf (place k))) tag in
-          let others0 = markup_or one alone k (behind_markup (source_from one alone k)) tag0 in
+          let tag = tag_or_text reader leaf (place k) (after_tag no_prefix (from reader leaf (place k))) in
+          let tag0 = tag_or_text one alone k (after_tag no_prefix (from one alone k)) in
+          let others = markup_or reader leaf (place k) (after_markup (source_from reader leaf (place k))) tag in
+          let others0 = markup_or one alone k (after_markup (source_from one alone k)) tag0 in
           either (first_is (λ c. c == 92) bs) (item_at Plain (place k) (suc (place k))) (autolink_or reader leaf (place k) (autolink_in reader.options.email_autolinks bs) others) (item_at Plain k (suc k)) (autolink_or one alone k (autolink_in reader.options.email_autolinks bs) others0)
           (λ f. byte_is Plain w.content)
-          (λ f. autolink_is (autolink_in reader.options.email_autolinks bs) others others0 (autolink-behind reader.options.email_autolinks bs)
+          (λ f. autolink_is (autolink_in reader.options.email_autolinks bs) others others0 (autolink-following reader.options.email_autolinks bs)
           (λ n. ap (λ o. markup_or reader leaf (place k) o tag) (no_source e n)
-          ∙ ap (λ l. tag_or_text reader leaf (place k) (behind_tag no_prefix l)) from_here
-          ∙ tag_is w (behind_tag no_prefix (b ∷ bs)) refl
-          ∙ ap (λ l. placed place (tag_or_text one alone k (behind_tag no_prefix l))) (sym from_own)
+          ∙ ap (λ l. tag_or_text reader leaf (place k) (after_tag no_prefix l)) from_here
+          ∙ tag_is w (after_tag no_prefix (b ∷ bs)) refl
+          ∙ ap (λ l. placed place (tag_or_text one alone k (after_tag no_prefix l))) (sym from_own)
           ∙ ap (λ o. placed place (markup_or one alone k o tag0)) (sym (no-own e n))))
 
       -- ## Runs, formulas, and smart punctuation
@@ -460,22 +460,22 @@ module _ (reader : Reader) (leaf : Leaf) (text : List ℕ) (place : ℕ → ℕ)
           some : 0 < prefix_len (λ c. c == b) (b ∷ bs)
           some = subst (λ z. 0 < (if z then 1 + prefix_len (λ c. c == b) bs else 0)) (sym (eq-eqb b b refl)) (omega arith)
 
-      formula_is : Content b → (kind : List ℕ → ItemKind) (found : Option Parsed) → ParsedBehind (b ∷ bs) found → formula_or reader leaf kind (place k) found ≡ placed place (formula_or one alone kind k found)
+      formula_is : Content b → (kind : List ℕ → ItemKind) (found : Option Parsed) → ParsedAfter (b ∷ bs) found → formula_or reader leaf kind (place k) found ≡ placed place (formula_or one alone kind k found)
       formula_is c kind None f = byte_is Own c
-      formula_is c kind (Some found) f = rest_is (kind (as_in leaf.is_cell found.bytes)) k (b ∷ bs) found.behind here f
+      formula_is c kind (Some found) f = rest_is (kind (as_in leaf.is_cell found.bytes)) k (b ∷ bs) found.following here f
 
-      more_behind : (n : ℕ) (l : List ℕ) (found : Option Parsed) → ParsedBehind (drop n l) found → ParsedBehind l found
-      more_behind n l None f = tt
-      more_behind n l (Some found) f = behind-rest l (drop n l) found.behind (n, refl) f
+      more_after : (n : ℕ) (l : List ℕ) (found : Option Parsed) → ParsedAfter (drop n l) found → ParsedAfter l found
+      more_after n l None f = tt
+      more_after n l (Some found) f = following-rest l (drop n l) found.following (n, refl) f
 
-      dollar_is : Content b → dollar reader leaf (place k) bs (braces_behind false (before reader leaf (place k)) no_braces) ≡ placed place (dollar one alone k bs (braces_behind false (before one alone k) no_braces))
+      dollar_is : Content b → dollar reader leaf (place k) bs (braces_after false (before reader leaf (place k)) no_braces) ≡ placed place (dollar one alone k bs (braces_after false (before one alone k) no_braces))
       dollar_is c =
-          let braces = braces_behind false (before one alone k) no_braces in
-          ap (λ l. dollar reader leaf (place k) bs (braces_behind false l no_braces)) before_here
+          let braces = braces_after false (before one alone k) no_braces in
+          ap (λ l. dollar reader leaf (place k) bs (braces_after false l no_braces)) before_here
           ∙ either (first_is is_dollar bs) (formula_or reader leaf DisplayMath (place k) (display_in braces (drop 1 bs))) (formula_or reader leaf InlineMath (place k) (inline_in braces bs))
           (formula_or one alone DisplayMath k (display_in braces (drop 1 bs))) (formula_or one alone InlineMath k (inline_in braces bs))
-          (λ e. formula_is c DisplayMath (display_in braces (drop 1 bs)) (more_behind 2 (b ∷ bs) (display_in braces (drop 1 bs)) (display-behind braces (drop 1 bs))))
-          (λ e. formula_is c InlineMath (inline_in braces bs) (more_behind 1 (b ∷ bs) (inline_in braces bs) (inline-behind braces bs)))
+          (λ e. formula_is c DisplayMath (display_in braces (drop 1 bs)) (more_after 2 (b ∷ bs) (display_in braces (drop 1 bs)) (display-following braces (drop 1 bs))))
+          (λ e. formula_is c InlineMath (inline_in braces bs) (more_after 1 (b ∷ bs) (inline_in braces bs) (inline-following braces bs)))
 
       dots_is : Content b → dots reader leaf (place k) ≡ placed place (dots one alone k)
       dots_is c =
@@ -533,8 +533,8 @@ module _ (reader : Reader) (leaf : Leaf) (text : List ℕ) (place : ℕ → ℕ)
           let plain0 = item_at Plain k (suc k) in
           let c9 = if reader.options.smart_punctuation then smart_or reader leaf at b else plain in
           let d9 = if reader.options.smart_punctuation then smart_or one alone k b else plain0 in
-          let c8 = if reader.options.math && is_dollar b then dollar reader leaf at bs (braces_behind false (before reader leaf at) no_braces) else c9 in
-          let d8 = if reader.options.math && is_dollar b then dollar one alone k bs (braces_behind false (before one alone k) no_braces) else d9 in
+          let c8 = if reader.options.math && is_dollar b then dollar reader leaf at bs (braces_after false (before reader leaf at) no_braces) else c9 in
+          let d8 = if reader.options.math && is_dollar b then dollar one alone k bs (braces_after false (before one alone k) no_braces) else d9 in
           let run = run_at reader leaf at b (prefix_len (λ c. c == b) (b ∷ bs)) in
           let run0 = run_at one alone k b (prefix_len (λ c. c == b) (b ∷ bs)) in
           let c7 = if is_run_delimiter b then run else c8 in
@@ -567,7 +567,7 @@ module _ (reader : Reader) (leaf : Leaf) (text : List ℕ) (place : ℕ → ℕ)
           (λ e1. either (b == 38) (entity_or reader leaf at (entity_in reader.lookup bs)) c2 (entity_or one alone k (entity_in reader.lookup bs)) d2
           (λ e. entity_is (word-is b 38 refl (omega arith) e) (entity_in reader.lookup bs) (entity-leads reader.lookup bs))
           (λ e2. either (b == 96) code c3 code0 d3
-          (λ e. code_is (code_in (b ∷ bs)) (code-behind (b ∷ bs))
+          (λ e. code_is (code_in (b ∷ bs)) (code-following (b ∷ bs))
           (content-leads (backticks (b ∷ bs)) (b ∷ bs) (prefix-leads is_backtick IsWord (λ d q. word-is d 96 refl (omega arith) q) (b ∷ bs))) (backtick_some e))
           (λ e3. either (b == 60) (less_than reader leaf at bs) c4 (less_than one alone k bs) d4 less_than_is
           (λ e4. either (b == 33) bang c5 bang0 d5
@@ -577,8 +577,8 @@ module _ (reader : Reader) (leaf : Leaf) (text : List ℕ) (place : ℕ → ℕ)
           (λ e. ap (λ x. Opens (bracket false at x)) (sym (next_place c)))
           (λ e6. either (b == 93) (Closes (bracket false at (suc at))) c7 (Closes (bracket false k (suc k))) d7 (λ e. ap (λ x. Closes (bracket false at x)) (sym (next_place c)))
           (λ e7. either (is_run_delimiter b) run c8 run0 d8 (λ e. run_is c)
-          (λ e8. either (reader.options.math && is_dollar b) (dollar reader leaf at bs (braces_behind false (before reader leaf at) no_braces)) c9
-          (dollar one alone k bs (braces_behind false (before one alone k) no_braces)) d9 (λ e. dollar_is c)
+          (λ e8. either (reader.options.math && is_dollar b) (dollar reader leaf at bs (braces_after false (before reader leaf at) no_braces)) c9
+          (dollar one alone k bs (braces_after false (before one alone k) no_braces)) d9 (λ e. dollar_is c)
           (λ e9. either reader.options.smart_punctuation (smart_or reader leaf at b) plain (smart_or one alone k b) plain0 (λ e. smart_is c) (λ e. byte_is Plain c))))))))))))
         where
           opens_is : (is_image : Bool) (n : ℕ) → Leads IsWord n (b ∷ bs) → Opens (bracket is_image (place k) (place k + n)) ≡ placed place (Opens (bracket is_image k (k + n)))

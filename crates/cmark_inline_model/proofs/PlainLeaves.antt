@@ -19,7 +19,7 @@ use Rattle.cmark_grammar.specs.Questions.{Exchange, IsNext}
 use Rattle.cmark_grammar.specs.Readers.{Reader}
 use Rattle.cmark_grammar.specs.Siblings.{Nil, Single, IsDressed, AreSpans}
 use Rattle.cmark_grammar.specs.Spans as spans
-use Rattle.cmark_grammar.specs.Tags.{behind_ending, behind_line_feed}
+use Rattle.cmark_grammar.specs.Tags.{after_ending, after_line_feed}
 use Rattle.cmark_grammar.specs.Tokens.{slice}
 use Rattle.cmark_inline_model.specs.PlacedLeaves.{StandWhole}
 use Rattle.cmark_inline_model.specs.PlacedTokens.{AreLeafPlaces, StandsUpTo, StopsAt, one_stretch, text_reader, placed, may_open_markup}
@@ -38,23 +38,23 @@ abbrev EndNoLine : List ℕ → Type 0
 EndNoLine text = (k : ℕ) → k < length text → is_content (get_or text k 0) ≡ true
 
 -- no line ends after blanks
-no_ending : (l : List ℕ) → EndNoLine l → behind_ending l ≡ None
+no_ending : (l : List ℕ) → EndNoLine l → after_ending l ≡ None
 no_ending [] h = refl
 no_ending (b ∷ bs) h = go (b == 10) (b == 13) (h 0 (omega arith))
   where
-    go : (x y : Bool) → (not x && not y) ≡ true → (if x then Some bs else if y then Some (behind_line_feed bs) else None) ≡ None
+    go : (x y : Bool) → (not x && not y) ≡ true → (if x then Some bs else if y then Some (after_line_feed bs) else None) ≡ None
     go true y e = absurd (true≢false (sym e))
     go false true e = absurd (true≢false (sym e))
     go false false e = refl
 
-no_ending_behind : (text : List ℕ) (n : ℕ) → EndNoLine text → EndNoLine (drop n text)
-no_ending_behind text n h k lt = let d = length-drop n text in ap is_content (get_or-drop n text k 0) ∙ h (n + k) (omega arith)
+no_ending_after : (text : List ℕ) (n : ℕ) → EndNoLine text → EndNoLine (drop n text)
+no_ending_after text n h k lt = let d = length-drop n text in ap is_content (get_or-drop n text k 0) ∙ h (n + k) (omega arith)
 
 no_blank_break : (text : List ℕ) (k : ℕ) → EndNoLine text → blank_break_in (drop k text) ≡ None
 no_blank_break text k h =
     let l = drop k text in
     let n = length (take_while is_blank_byte l) in
-    ap (λ o. option_map (blank_break (take_while is_blank_byte l)) o) (no_ending (drop n l) (no_ending_behind l n (no_ending_behind text k h)))
+    ap (λ o. option_map (blank_break (take_while is_blank_byte l)) o) (no_ending (drop n l) (no_ending_after l n (no_ending_after text k h)))
 
 not_blank : (b : ℕ) → is_content b ≡ false → is_blank_byte b ≡ true → ⊥
 not_blank b e f = go (b == 32) (b == 9) refl refl f

@@ -8,8 +8,8 @@ use Rattle.cmark_grammar.specs.CodeSpans.{is_backtick, backticks, code_in}
 use Rattle.cmark_grammar.specs.Columns.{is_blank_byte}
 use Rattle.cmark_grammar.specs.Dashes.{dashes_of, dash_text}
 use Rattle.cmark_grammar.specs.Flanking.{Flanking, flanking, is_run_delimiter}
-use Rattle.cmark_grammar.specs.Formulas.{is_dollar, Braces, no_braces, braces_behind, inline_in, display_in}
-use Rattle.cmark_grammar.specs.InlineHtml.{behind_markup, takes_lines}
+use Rattle.cmark_grammar.specs.Formulas.{is_dollar, Braces, no_braces, braces_after, inline_in, display_in}
+use Rattle.cmark_grammar.specs.InlineHtml.{after_markup, takes_lines}
 use Rattle.cmark_grammar.specs.InlineTokens.{item_at, bracket, is_plain, from, before, size_to, read_on, character_before, character_at, break_or, code_or, escaped_backtick, escape_at, entity_or, autolink_or, tag_or_text, source_from, markup_or, less_than, run_or, run_at, formula_or, dollar, dots, hyphens, quote_at, smart_or, begins, begins_at, goes_on, plain_end, longest, token}
 use Rattle.cmark_grammar.specs.Items.{ItemKind, Plain, Written, InlineMath, DisplayMath, Delimiters, Html, OwnedHtml, SoftBreak, HardBreak, Token, Stands, Opens, Closes, Ends}
 use Rattle.cmark_grammar.specs.LabelsOverLines.{piped}
@@ -19,7 +19,7 @@ use Rattle.cmark_grammar.specs.LineBreaks.{LineBreak, backslash_break_in, blank_
 use Rattle.cmark_grammar.specs.Lines.{is_content}
 use Rattle.cmark_grammar.specs.LinkDefinitions.{Parsed}
 use Rattle.cmark_grammar.specs.Readers.{Reader}
-use Rattle.cmark_grammar.specs.Tags.{behind_tag, no_prefix}
+use Rattle.cmark_grammar.specs.Tags.{after_tag, no_prefix}
 use Rattle.cmark_grammar.specs.Tokens.{Entity, entity_in, is_punctuation}
 use Rattle.cmark_inline_model.specs.PlacedTokens.{AreLeafPlaces, StandsUpTo, StopsAt, one_stretch, text_reader, placed, may_open_markup}
 use Rattle.cmark_inline_model.proofs.PlacedTokens.{from-text, from-place, begins-at}
@@ -52,7 +52,7 @@ module _ (reader : Reader) (leaf : Leaf) where
   break_shaped at None other h = h
   break_shaped at (Some found) other h = by found.is_hard
     where
-      by : (b : Bool) → is_plain (if b then HardBreak else SoftBreak) ≡ true → at + size_to reader leaf at found.behind ≡ read_on reader leaf (at + size_to reader leaf at found.behind)
+      by : (b : Bool) → is_plain (if b then HardBreak else SoftBreak) ≡ true → at + size_to reader leaf at found.following ≡ read_on reader leaf (at + size_to reader leaf at found.following)
       by true e = absurd (true≢false (sym e))
       by false e = absurd (true≢false (sym e))
 
@@ -94,10 +94,10 @@ module _ (reader : Reader) (leaf : Leaf) where
 
   less_than_shaped : (at : ℕ) (bs : List ℕ) → Shaped (less_than reader leaf at bs)
   less_than_shaped at bs =
-      let tag = tag_or_text reader leaf at (behind_tag no_prefix (from reader leaf at)) in
-      let others = markup_or reader leaf at (behind_markup (source_from reader leaf at)) tag in
+      let tag = tag_or_text reader leaf at (after_tag no_prefix (from reader leaf at)) in
+      let others = markup_or reader leaf at (after_markup (source_from reader leaf at)) tag in
       when (first_is (λ c. c == 92) bs) (item_at Plain at (suc at)) (autolink_or reader leaf at (autolink_in reader.options.email_autolinks bs) others) (λ e. refl)
-      (autolink_shaped at (autolink_in reader.options.email_autolinks bs) others (markup_shaped at (behind_markup (source_from reader leaf at)) tag (tag_shaped at (behind_tag no_prefix (from reader leaf at)))))
+      (autolink_shaped at (autolink_in reader.options.email_autolinks bs) others (markup_shaped at (after_markup (source_from reader leaf at)) tag (tag_shaped at (after_tag no_prefix (from reader leaf at)))))
 
   run_shaped : (at delimiter size : ℕ) (beside : Flanking) → Shaped (run_or reader leaf at delimiter size beside)
   run_shaped at delimiter size beside =
@@ -123,7 +123,7 @@ module _ (reader : Reader) (leaf : Leaf) where
   begins-shaped at (b ∷ bs) =
       let plain = item_at Plain at (suc at) in
       let c9 = if reader.options.smart_punctuation then smart_or reader leaf at b else plain in
-      let c8 = if reader.options.math && is_dollar b then dollar reader leaf at bs (braces_behind false (before reader leaf at) no_braces) else c9 in
+      let c8 = if reader.options.math && is_dollar b then dollar reader leaf at bs (braces_after false (before reader leaf at) no_braces) else c9 in
       let n = prefix_len (λ c. c == b) (b ∷ bs) in
       let c7 = if is_run_delimiter b then run_at reader leaf at b n else c8 in
       let c6 = if b == 93 then Closes (bracket false at (suc at)) else c7 in
@@ -143,7 +143,7 @@ module _ (reader : Reader) (leaf : Leaf) where
       (when (b == 91) (Opens (bracket false at (suc at))) c6 tt
       (when (b == 93) (Closes (bracket false at (suc at))) c7 tt
       (when (is_run_delimiter b) (run_at reader leaf at b n) c8 (run_shaped at b n (flanking reader.options b n (character_before reader leaf at) (character_at reader leaf (at + n))))
-      (when (reader.options.math && is_dollar b) (dollar reader leaf at bs (braces_behind false (before reader leaf at) no_braces)) c9 (dollar_shaped at bs (braces_behind false (before reader leaf at) no_braces))
+      (when (reader.options.math && is_dollar b) (dollar reader leaf at bs (braces_after false (before reader leaf at) no_braces)) c9 (dollar_shaped at bs (braces_after false (before reader leaf at) no_braces))
       (when reader.options.smart_punctuation (smart_or reader leaf at b) plain (smart_shaped at b) (λ e. refl)))))))))))
 
   -- ## Where markup may open, no text does
@@ -159,7 +159,7 @@ module _ (reader : Reader) (leaf : Leaf) where
       subst (λ z. NotPlain (if z then item_at Plain at (suc at) else autolink_or reader leaf at (autolink_in reader.options.email_autolinks (c ∷ bs)) others)) (sym slash) (link (autolink_in reader.options.email_autolinks (c ∷ bs)))
     where
       others : Token
-      others = markup_or reader leaf at (behind_markup (source_from reader leaf at)) (tag_or_text reader leaf at (behind_tag no_prefix (from reader leaf at)))
+      others = markup_or reader leaf at (after_markup (source_from reader leaf at)) (tag_or_text reader leaf at (after_tag no_prefix (from reader leaf at)))
 
       slash : (c == 92) ≡ false
       slash = go (or-either (c == 33) (c == 63) e)
@@ -176,12 +176,12 @@ module _ (reader : Reader) (leaf : Leaf) where
           by true = refl
           by false = refl
 
-      markup : (found : Option (List ℕ)) → NotPlain (markup_or reader leaf at found (tag_or_text reader leaf at (behind_tag no_prefix (from reader leaf at))))
-      markup None = tag (behind_tag no_prefix (from reader leaf at))
+      markup : (found : Option (List ℕ)) → NotPlain (markup_or reader leaf at found (tag_or_text reader leaf at (after_tag no_prefix (from reader leaf at))))
+      markup None = tag (after_tag no_prefix (from reader leaf at))
       markup (Some rest) = refl
 
       link : (found : Option Parsed) → NotPlain (autolink_or reader leaf at found others)
-      link None = markup (behind_markup (source_from reader leaf at))
+      link None = markup (after_markup (source_from reader leaf at))
       link (Some found) = refl
 
   pub markup-not : (at : ℕ) (l : List ℕ) → may_open_markup reader.options.email_autolinks l ≡ true → NotPlain (begins reader leaf at l)

@@ -64,7 +64,7 @@ module _ (token : ℕ → Token) (decide : State → (closer : Bracket) → Deci
       let cx = c.0.begins in let cy = c.1 in
       let reach = always-comes (Reaches closer.end size) Says h.until.asked (decide h.until closer) o (keeps.ranges.comes h.until closer h.closes) h.comes in
       let k = reading-below h.next after t d.turns.begin reach.within h.after in
-      let past = reach.behind.0 in let on = reach.behind.1 in
+      let past = reach.following.0 in let on = reach.following.1 in
       let whole = Form opener inside closer formed after in
       let until_left = (spends-within s.expansion_left 0 (costs inside) s.expansion_left h.until.expansion_left (omega arith) (reading-spends token decide Says keeps.limit (opened opener s) inside h.until h.inside)).left in
       let next_left = (spends-within h.until.expansion_left 0 (cost formed) h.until.expansion_left h.next.expansion_left (omega arith)
@@ -92,7 +92,7 @@ module _ (token : ℕ → Token) (decide : State → (closer : Bracket) → Deci
       let c = keeps.ranges.closes s.at closer h.closes in
       let cx = c.0.begins in let cy = c.1 in
       let reach = always-comes (Reaches closer.end size) Says s.asked (decide s closer) o (keeps.ranges.comes s closer h.closes) h.comes in
-      let past : closer.end ≤ h.next.at = reach.behind in
+      let past : closer.end ≤ h.next.at = reach.following in
       let k = reading-below h.next after t d.turns.begin reach.within h.after in
       let same : h.next.expansion_left ≡ s.expansion_left = always-comes (Pays s.expansion_left) Says s.asked (decide s closer) o (keeps.limit.pays s closer) h.comes in
       let first = put (IsBelow (Closing closer after) s.expansion_left) s h.next d (λ some. ((closer, h.closes), (let n = later h.next after t reach.within h.after s.at (omega arith) in omega arith))) in

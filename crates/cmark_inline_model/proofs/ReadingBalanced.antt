@@ -3,8 +3,8 @@ use Rattle.cmark_inline_model.proofs.DocumentLeaves.{begins-start, StartsWith}
 use Rattle.std.specs.Prelude.{map}
 use Rattle.std.proofs.Common.{◌≡◌, ℕ, List, [], ◌∷◌, ◌++◌, refl, sym, ap, subst, ◌∙◌, zero, suc, ◌⊎◌, inl, inr, ⊎_elim}
 use Rattle.std.proofs.lemmas.List.{append_assoc, map-append}
-use Rattle.cmark_grammar.specs.Balance as balance
-use Rattle.cmark_grammar.specs.Balance.{IsSingle, Balanced}
+use Rattle.cmark_block_model.specs.Balance as balance
+use Rattle.cmark_block_model.specs.Balance.{IsSingle, Balanced}
 use Rattle.cmark_grammar.specs.BlockDocument.{BlockKind, Paragraph, TightParagraph, Heading, ThematicBreak, IndentedCode, FencedCode, HtmlBlock, LinkDefinition, MetadataBlock, BlockQuote, BlockList, ListItem, TaskMarker, FootnoteDefinition, DefinitionList, DefinitionListTitle, DefinitionListDefinition, Text, OwnedText, Html, BlockNode, BlockDocument, Nil, Node, Table, TableHead, TableRow, TableCell}
 use Rattle.cmark_grammar.specs.BlockReading.{Reads, Around, Inside, Alone, First, Silent, first_event, read_as, over, starts_before}
 use Rattle.cmark_grammar.specs.Event.{Start, End, Ranged}
@@ -17,7 +17,7 @@ use Rattle.cmark_grammar.specs.Readers.{Reader}
 use Rattle.cmark_grammar.specs.Siblings.{Inline, Nil as NoSpans, Single as SingleItem, Around as Element_around}
 use Rattle.cmark_grammar.specs.SpanDocuments.{Segment, Given, Content, inside_of, node_segments, first_of_segments, with_first_segment, segments, ReadsAll}
 use Rattle.cmark_grammar.specs.TagEnd.{end_of}
-use Rattle.cmark_grammar.proofs.BalanceLaws.{IsFit, fit}
+use Rattle.cmark_block_model.proofs.BalanceLaws.{IsFit, fit}
 use Rattle.cmark_inline_model.specs.ReadingRanges.{ranged, Matched, NoMore, Alone as AloneEvent, Pair}
 use Rattle.cmark_grammar.specs.Tag.{Tag}
 
@@ -173,13 +173,13 @@ module _ (reader : Reader) (Says : Saying) where
       subst Matched (sym (h.2 ∙ ap (λ l. x ∷ l) (h.1.2 ∙ ap (λ l. y ∷ l) h.1.1.2))) (matched-put 2 r (x ∷ (y ∷ h.1.1.0)) fits (k before after (x ∷ (y ∷ h.1.1.0)) (y ∷ h.1.1.0, (h.1.1.0, h.1.1.1, refl), refl)))
   first_matches (suc (suc (suc n))) r others fits begins k = absurd begins
 
-  with_matches : (reads : Reads) (node : BlockNode) (inside : List Segment) (behind : BlockDocument) → IsFit reads → Balances (node_segments reads node inside ++ segments behind)
-      → Balances (with_first_segment (first_event reads) (starts_before behind) node (node_segments reads node inside ++ segments behind))
-  with_matches (Around tag) node inside behind fits k = k
-  with_matches Inside node inside behind fits k = k
-  with_matches (Alone event) node inside behind fits k = k
-  with_matches (First event) node inside behind fits k = first_matches (starts_before behind) (over node event) (segments behind) fits (begins-start behind) k
-  with_matches Silent node inside behind fits k = k
+  with_matches : (reads : Reads) (node : BlockNode) (inside : List Segment) (following : BlockDocument) → IsFit reads → Balances (node_segments reads node inside ++ segments following)
+      → Balances (with_first_segment (first_event reads) (starts_before following) node (node_segments reads node inside ++ segments following))
+  with_matches (Around tag) node inside following fits k = k
+  with_matches Inside node inside following fits k = k
+  with_matches (Alone event) node inside following fits k = k
+  with_matches (First event) node inside following fits k = first_matches (starts_before following) (over node event) (segments following) fits (begins-start following) k
+  with_matches Silent node inside following fits k = k
 
   pub document-matched : (document : BlockDocument) → Balances (segments document)
   document-matched Nil = λ before after events h. subst Matched (sym h.0) NoMore

@@ -5,7 +5,7 @@ use Rattle.cmark_grammar.specs.Derivation.{Derives}
 use Rattle.cmark_grammar.specs.Event.{Ranged}
 use Rattle.cmark_grammar.specs.Questions.{Exchange}
 use Rattle.cmark_grammar.specs.SpanDocuments.{Profile, IsReading}
-use Rattle.cmark_grammar.proofs.BlockDocumentOne.{document-only}
+use Rattle.cmark_block_model.proofs.BlockDocumentOne.{document-only}
 
 pub document-of : (text : List ℕ) (profile : Profile) (document : BlockDocument) (exchanges : List Exchange) (events : List Ranged) → Derives text profile.options profile.lookup document
     → (h : IsReading text profile exchanges events) → (Holds : BlockDocument → Type 0) → Holds h.document → Holds document

@@ -2,7 +2,7 @@
 use Rattle.std.specs.Prelude.{suc, zero, ◌==◌, get_or, drop, IsUtf8}
 use Rattle.std.proofs.Common.{◌≡◌, inl, inr, ◌<◌, ◌+◌, ℕ, true, List, [], ◌∷◌, length, Option, Some, None, refl, sym, ap, ◌∙◌, subst, arith, length-drop, drop-drop, eqb-true}
 use Rattle.std.proofs.lemmas.List.{get_or-drop}
-use Rattle.cmark_grammar.specs.BracketDecisions.{behind, decide, place as place_of_rest}
+use Rattle.cmark_grammar.specs.BracketDecisions.{following, decide, place as place_of_rest}
 use Rattle.cmark_grammar.specs.BracketReading.{Reads}
 use Rattle.cmark_grammar.specs.BracketStates.{Opener, State, moved, new_opener, opened, Result, StaysText, Forms, Outcome}
 use Rattle.cmark_grammar.specs.InlineTokens.{from, token}
@@ -20,9 +20,9 @@ use Rattle.cmark_inline_model.specs.Progress.{Always}
 use Rattle.cmark_inline_model.specs.TextPlaces.{place_in, text_of}
 use Rattle.cmark_inline_model.proofs.DecisionLaws.{always-by, decide-apart}
 use Rattle.cmark_inline_model.proofs.DecisionShape.{IsPlace, Shape, Stays, ToInline, ToReference, ToFootnote, ToWiki}
-use Rattle.cmark_inline_model.proofs.FindRests.{IsBehind}
+use Rattle.cmark_inline_model.proofs.FindRests.{IsAfter}
 use Rattle.cmark_inline_model.proofs.LinkNesting.{always-comes, reading-nests}
-use Rattle.cmark_inline_model.proofs.LinkRests.{TailBehind, link_tail-behind}
+use Rattle.cmark_inline_model.proofs.LinkRests.{TailAfter, link_tail-following}
 use Rattle.cmark_inline_model.proofs.PlacedTokens.{from-place}
 use Rattle.cmark_inline_model.proofs.SourceEdges as edges
 use Rattle.cmark_inline_model.proofs.SourceEdges.{AreEdges}
@@ -60,23 +60,23 @@ module _ (reader : Reader) (leaf : Leaf) (at : IsPlaced reader leaf) (utf8 : IsU
   good-there : (n : ℕ) (os : List Opener) (o : Opener) (more : List Opener) → AreGood os → drop n os ≡ o ∷ more → Good o.bracket
   good-there n os o more h e = let k = subst AreGood e (good-drop n os h) in k.0
 
-  -- ## Behind a closing bracket
+  -- ## Following a closing bracket
 
-  rest-at : (p : ℕ) → At p → (rest : List ℕ) → IsBehind (behind reader leaf p) rest → At (place_of_rest reader leaf rest)
+  rest-at : (p : ℕ) → At p → (rest : List ℕ) → IsAfter (following reader leaf p) rest → At (place_of_rest reader leaf rest)
   rest-at p a rest b =
       let text = text_of reader leaf in
-      let here : behind reader leaf p ≡ drop a.k text = ap (from reader leaf) a.is ∙ from-place reader leaf text (place_in reader leaf) at.places a.k a.within in
+      let here : following reader leaf p ≡ drop a.k text = ap (from reader leaf) a.is ∙ from-place reader leaf text (place_in reader leaf) at.places a.k a.within in
       let i = b.inside in
       let n = ap length here in
       let d = length-drop a.k text in
-      let byte : get_or text (a.k + b.place) 0 ≡ get_or (behind reader leaf p) b.place 0 = sym (get_or-drop a.k text b.place 0) ∙ ap (λ l. get_or l b.place 0) (sym here) in
+      let byte : get_or text (a.k + b.place) 0 ≡ get_or (following reader leaf p) b.place 0 = sym (get_or-drop a.k text b.place 0) ∙ ap (λ l. get_or l b.place 0) (sym here) in
       let rest_is : rest ≡ drop (a.k + suc b.place) text = b.rest ∙ ap (drop (suc b.place)) here ∙ drop-drop (suc b.place) a.k text in
       let w : suc (a.k + b.place) ≡ a.k + suc b.place = omega arith in
       record {
         k = a.k + suc b.place;
         within = omega arith;
         edge = subst (λ j. edges.TextEdge reader leaf at utf8 ends j) w
-            (texts.behind-ascii reader.options reader.lookup leaf.is_cell text (edges.whole-text reader leaf at utf8 ends) (a.k + b.place) (omega arith, subst (λ c. c < 128) (sym byte) b.ascii));
+            (texts.following-ascii reader.options reader.lookup leaf.is_cell text (edges.whole-text reader leaf at utf8 ends) (a.k + b.place) (omega arith, subst (λ c. c < 128) (sym byte) b.ascii));
         is = ap (place_of_rest reader leaf) rest_is;
       }
 
@@ -84,18 +84,18 @@ module _ (reader : Reader) (leaf : Leaf) (at : IsPlaced reader leaf) (utf8 : IsU
   place-at closer p a (inl e) = subst At (sym e) a
   place-at closer p a (inr r) = subst At (sym r.2) (rest-at closer.end a r.0 r.3)
 
-  tail-behind : (bs : List ℕ) (tail : LinkTail) → link_tail_in bs ≡ Some tail → IsBehind bs tail.behind
-  tail-behind bs tail e = go (link_tail_in bs) (link_tail-behind bs) e
+  tail-following : (bs : List ℕ) (tail : LinkTail) → link_tail_in bs ≡ Some tail → IsAfter bs tail.following
+  tail-following bs tail e = go (link_tail_in bs) (link_tail-following bs) e
     where
-      go : (o : Option LinkTail) → TailBehind bs o → o ≡ Some tail → IsBehind bs tail.behind
+      go : (o : Option LinkTail) → TailAfter bs o → o ≡ Some tail → IsAfter bs tail.following
       go None h e = cc
-      go (Some other) h e = subst (λ (o : Option LinkTail). TailBehind bs o) e h
+      go (Some other) h e = subst (λ (o : Option LinkTail). TailAfter bs o) e h
 
   -- the second of two closing brackets
-  second-at : (p : ℕ) → At p → first_is (λ b. b == 93) (behind reader leaf p) ≡ true → At (suc p)
+  second-at : (p : ℕ) → At p → first_is (λ b. b == 93) (following reader leaf p) ≡ true → At (suc p)
   second-at p a e =
       let text = text_of reader leaf in
-      let here : behind reader leaf p ≡ drop a.k text = ap (from reader leaf) a.is ∙ from-place reader leaf text (place_in reader leaf) at.places a.k a.within in
+      let here : following reader leaf p ≡ drop a.k text = ap (from reader leaf) a.is ∙ from-place reader leaf text (place_in reader leaf) at.places a.k a.within in
       go (drop a.k text) refl (subst (λ l. first_is (λ b. b == 93) l ≡ true) here e)
     where
       go : (l : List ℕ) → drop a.k (text_of reader leaf) ≡ l → first_is (λ b. b == 93) l ≡ true → At (suc p)
@@ -110,7 +110,7 @@ module _ (reader : Reader) (leaf : Leaf) (at : IsPlaced reader leaf) (utf8 : IsU
           record {
             k = suc a.k;
             within = omega arith;
-            edge = texts.behind-ascii reader.options reader.lookup leaf.is_cell text (edges.whole-text reader leaf at utf8 ends) a.k (omega arith, omega arith);
+            edge = texts.following-ascii reader.options reader.lookup leaf.is_cell text (edges.whole-text reader leaf at utf8 ends) a.k (omega arith, omega arith);
             is = ap suc a.is ∙ sym next;
           }
 
@@ -134,8 +134,8 @@ module _ (reader : Reader) (leaf : Leaf) (at : IsPlaced reader leaf) (utf8 : IsU
   shape-closed : (s : State) (closer : Bracket) → At closer.end → AreGood s.openers → (asked : List _) (o : Outcome) → Shape reader leaf s closer asked o → Closed s.openers o
   shape-closed s closer a g asked o (Stays label os h e) = subst (Closed s.openers) (sym e) (record { there = a; result = tt })
   shape-closed s closer a g asked o (ToInline label os taken tail h t found e) =
-      let p = rest-at closer.end a tail.behind (tail-behind (behind reader leaf closer.end) tail found) in
-      subst (Closed s.openers) (sym e) (record { there = p; result = λ taken before f. edges.at-edge reader leaf at utf8 ends (place_of_rest reader leaf tail.behind) p })
+      let p = rest-at closer.end a tail.following (tail-following (following reader leaf closer.end) tail found) in
+      subst (Closed s.openers) (sym e) (record { there = p; result = λ taken before f. edges.at-edge reader leaf at utf8 ends (place_of_rest reader leaf tail.following) p })
   shape-closed s closer a g asked o (ToReference label os taken named link_type found h t n some l e) =
       let p = place-at closer named.end a n.ends in
       let q = place-at closer named.resume a n.passes in
@@ -206,7 +206,7 @@ module _ (reader : Reader) (leaf : Leaf) (at : IsPlaced reader leaf) (utf8 : IsU
         let n = reading-nests (token reader leaf) (decide reader leaf) Says (decide-apart reader leaf) (opened opener s) inside h.until h.inside in
         let d = taken (drop (openings inside) h.until.openers) refl n.persist in
         let q = p d.0 d.1 d.2 in
-        let k = reading-edged h.next after t c.there (good-persist d.1 h.next.openers q.persist (behind-taken d.0 d.1 d.2 i.openers)) h.after in
+        let k = reading-edged h.next after t c.there (good-persist d.1 h.next.openers q.persist (following-taken d.0 d.1 d.2 i.openers)) h.after in
         record { there = k.there; openers = k.openers; parts_are = (w.0, v.0, subst (λ b. FormedEdges b formed) d.3 (c.result d.0 d.1 d.2), i.parts_are, k.parts_are) }
       where
         taken : (l : List Opener) → drop (openings inside) h.until.openers ≡ l → Persist (new_opener opener ∷ s.openers) l
@@ -214,5 +214,5 @@ module _ (reader : Reader) (leaf : Leaf) (at : IsPlaced reader leaf) (utf8 : IsU
         taken [] e p = absurd p
         taken (o ∷ more) e p = (o, more, e, p.0)
 
-        behind-taken : (o : Opener) (more : List Opener) → drop (openings inside) h.until.openers ≡ o ∷ more → AreGood h.until.openers → AreGood more
-        behind-taken o more e g = let k = subst AreGood e (good-drop (openings inside) h.until.openers g) in k.1
+        following-taken : (o : Opener) (more : List Opener) → drop (openings inside) h.until.openers ≡ o ∷ more → AreGood h.until.openers → AreGood more
+        following-taken o more e g = let k = subst AreGood e (good-drop (openings inside) h.until.openers g) in k.1

@@ -25,13 +25,13 @@ module _ (token : ℕ → Token) (decide : State → (closer : Bracket) → Deci
   formed-hold Holds grows recorded keeps all rest s (Form opener inside closer formed after) t e h =
       let d = decide h.until closer in
       let o : Outcome = record { result = Forms (openings inside) formed; after = h.next } in
-      let behind = reads-add token decide Says recorded h.next after t h.after in
-      let there : all ≡ h.next.asked ++ (behind.0 ++ rest) = added-before token decide Says recorded all rest h.next t behind e in
+      let following = reads-add token decide Says recorded h.next after t h.after in
+      let there : all ≡ h.next.asked ++ (following.0 ++ rest) = added-before token decide Says recorded all rest h.next t following e in
       let own = comes-adds token decide Says recorded h.until d o (recorded.keeps h.until closer) h.comes in
-      let before : all ≡ h.until.asked ++ (own.0 ++ (behind.0 ++ rest)) = added-before token decide Says recorded all (behind.0 ++ rest) h.until h.next own there in
+      let before : all ≡ h.until.asked ++ (own.0 ++ (following.0 ++ rest)) = added-before token decide Says recorded all (following.0 ++ rest) h.until h.next own there in
       let right : Holds h.next.asked formed = always-comes (λ x. ResultHolds (Holds x.after.asked) x.result) Says h.until.asked d o (keeps.forms h.until closer) h.comes in (
-        subst (λ xs. Holds xs formed) (sym there) (grows h.next.asked (behind.0 ++ rest) formed right),
-        formed-hold Holds grows recorded keeps all (own.0 ++ (behind.0 ++ rest)) (opened opener s) inside h.until before h.inside,
+        subst (λ xs. Holds xs formed) (sym there) (grows h.next.asked (following.0 ++ rest) formed right),
+        formed-hold Holds grows recorded keeps all (own.0 ++ (following.0 ++ rest)) (opened opener s) inside h.until before h.inside,
         formed-hold Holds grows recorded keeps all rest h.next after t e h.after,
       )
   formed-hold Holds grows recorded keeps all rest s (Closing closer after) t e h = formed-hold Holds grows recorded keeps all rest h.next after t e h.after
@@ -75,8 +75,8 @@ module _ (token : ℕ → Token) (decide : State → (closer : Bracket) → Deci
       let i = reading-stands size keeps (opened opener s) inside h.until opener.end (omega arith) a.ends h.inside in
       let c = keeps.closes h.until.at closer h.closes in
       let r = always-comes (Reaches closer.end size) Says h.until.asked (decide h.until closer) (record { result = Forms (openings inside) formed; after = h.next }) (keeps.comes h.until closer h.closes) h.comes in
-      let k = reading-stands size keeps h.next after t (end_of formed) r.behind.1 r.within h.after in
-      ((omega arith, a.ordered, farther opener.end inside h.until.at closer.start i.0 c.0.begins, c.1, r.behind.0, k.0), k.1)
+      let k = reading-stands size keeps h.next after t (end_of formed) r.following.1 r.within h.after in
+      ((omega arith, a.ordered, farther opener.end inside h.until.at closer.start i.0 c.0.begins, c.1, r.following.0, k.0), k.1)
     where
       farther : (low : ℕ) (parts : Parts) (to more : ℕ) → StandBetween low parts to → to ≤ more → StandBetween low parts more
       farther low Nil to more h e = omega arith
@@ -88,7 +88,7 @@ module _ (token : ℕ → Token) (decide : State → (closer : Bracket) → Deci
       let c = keeps.closes s.at closer h.closes in
       let x = c.0.begins in
       let r = always-comes (Reaches closer.end size) Says s.asked (decide s closer) (record { result = StaysText; after = h.next }) (keeps.comes s closer h.closes) h.comes in
-      let k = reading-stands size keeps h.next after t closer.end r.behind r.within h.after in
+      let k = reading-stands size keeps h.next after t closer.end r.following r.within h.after in
       ((omega arith, c.1, k.0), k.1)
   reading-stands size keeps s (Opening opener after) t from f w h =
       let a = keeps.opens s.at opener h.0 in

@@ -9,7 +9,7 @@ use Rattle.cmark_grammar.specs.LeafReading.{Between, entering, ReadsLeaf}
 use Rattle.cmark_grammar.specs.LeafText.{Leaf}
 use Rattle.cmark_grammar.specs.Questions.{Exchange, Saying, IsNext}
 use Rattle.cmark_grammar.specs.Readers.{Reader}
-use Rattle.cmark_grammar.specs.SiblingsModel.{spans_in}
+use Rattle.cmark_inline_model.specs.SiblingsModel.{spans_in}
 use Rattle.cmark_grammar.specs.SpanDocuments.{Segment, Given, Content, segments, ReadsAll, Profile, reader_of, at_start, IsReading}
 use Rattle.cmark_inline_model.specs.ReferenceExpansion.{costs}
 use Rattle.cmark_inline_model.specs.LinkRules.{IsFormedRightly}
@@ -121,9 +121,9 @@ module _ (text : List ℕ) (profile : Profile) (exchanges : List Exchange) (even
   pub reading-given : AreGiven profile.options events
   reading-given = all-given reader (IsNext exchanges) (segments h.document) (at_start profile) h.after events (segments-optionless profile.options h.document) h.reads
 
-  pub reading-within : (front behind : List ℕ) (own : ℕ) → reference_costs [] events ≡ front ++ (own ∷ behind) → sum front < profile.reference_expansion_limit
-  reading-within front behind own e =
+  pub reading-within : (front following : List ℕ) (own : ℕ) → reference_costs [] events ≡ front ++ (own ∷ following) → sum front < profile.reference_expansion_limit
+  reading-within front following own e =
       let w = all-within reader (IsNext exchanges) profile.reference_expansion_limit 0 (segments h.document) (at_start profile) h.after events (omega arith) (segments-neither h.document) h.reads in
-      let all = subst (Within profile.reference_expansion_limit 0) (e ∙ sym (append_assoc front (own ∷ []) behind)) w in
-      let k = within-last profile.reference_expansion_limit 0 front own (within-front profile.reference_expansion_limit 0 (front ++ (own ∷ [])) behind all) in
+      let all = subst (Within profile.reference_expansion_limit 0) (e ∙ sym (append_assoc front (own ∷ []) following)) w in
+      let k = within-last profile.reference_expansion_limit 0 front own (within-front profile.reference_expansion_limit 0 (front ++ (own ∷ [])) following all) in
       omega (arith, k)

@@ -8,7 +8,7 @@ use Rattle.cmark_grammar.specs.BlockReading.{Reads as ReadsAs, Around, Inside, A
 use Rattle.cmark_grammar.specs.BracketDecisions.{decide}
 use Rattle.cmark_grammar.specs.BracketReading.{Reads}
 use Rattle.cmark_grammar.specs.BracketStates.{State, Decision}
-use Rattle.cmark_grammar.specs.Balance.{IsSingle}
+use Rattle.cmark_block_model.specs.Balance.{IsSingle}
 use Rattle.cmark_grammar.specs.Event.{Start, End, Ranged}
 use Rattle.cmark_grammar.specs.InlineReading.{event_of, inline_events}
 use Rattle.cmark_grammar.specs.InlineTokens.{token}
@@ -18,19 +18,19 @@ use Rattle.cmark_grammar.specs.LeafText.{Stretch, InTurn, begin_of, end_of, size
 use Rattle.cmark_grammar.specs.Options.{Options}
 use Rattle.cmark_grammar.specs.Parts.{Parts, Nil as NoParts, Single as SinglePart, Form, Closing, Opening}
 use Rattle.cmark_grammar.specs.Questions.{Exchange, Saying, IsNext}
-use Rattle.cmark_grammar.specs.Ranges.{InOrder}
+use Rattle.cmark_block_model.specs.Ranges.{InOrder}
 use Rattle.cmark_grammar.specs.Readers.{Reader}
 use Rattle.cmark_grammar.specs.Siblings.{Inline, Nil as NoSpans, Single as SingleItem, Around as SpanAround}
-use Rattle.cmark_grammar.specs.SiblingsModel.{spans_in}
+use Rattle.cmark_inline_model.specs.SiblingsModel.{spans_in}
 use Rattle.cmark_grammar.specs.SpanDocuments.{Segment, Given, Content, stretches_of, leaf_of, inside_of, node_segments, first_of_segments, with_first_segment, segments, ReadsAll, Profile, reader_of, at_start, IsReading}
 use Rattle.cmark_grammar.specs.Tag as tags
 use Rattle.cmark_grammar.specs.Tag.{Tag}
 use Rattle.cmark_grammar.specs.TagEnd as tag_end
-use Rattle.cmark_grammar.proofs.BalanceLaws.{IsFit, fit}
-use Rattle.cmark_grammar.proofs.RangeLaws.{derived-order}
+use Rattle.cmark_block_model.proofs.BalanceLaws.{IsFit, fit}
+use Rattle.cmark_block_model.proofs.RangeLaws.{derived-order}
 use Rattle.cmark_inline_model.specs.LeafModel.{HaveLineEnds, AreLeavesOfLines}
 use Rattle.cmark_inline_model.specs.ReadingRanges as plain
-use Rattle.cmark_inline_model.specs.CutRanges.{IsBehindPipe, IsTask, BeginsWithTask, HasNoTasks, BeginsAt, InPlaceButCut, Nothing, Single, Element}
+use Rattle.cmark_inline_model.specs.CutRanges.{IsAfterPipe, IsTask, BeginsWithTask, HasNoTasks, BeginsAt, InPlaceButCut, Nothing, Single, Element}
 use Rattle.cmark_inline_model.specs.ReadingRanges.{HasNo, HasNoDisplays, ranged, InPlace, LieWithin}
 use Rattle.cmark_inline_model.proofs.DocumentLeaves.{order-up, stretches-turn, begins-start, StartsWith}
 use Rattle.cmark_inline_model.proofs.ForwardLaws.{leaf-forward, leaf-ranges}
@@ -62,7 +62,7 @@ module _ (options : Options) (text : List ℕ) where
       subst (λ es. Places from (ranged (Start tag) start end ∷ es) to) (sym (append_assoc inside (ranged (End (tag_end.end_of tag)) start end ∷ after) second))
       (Element from to tag written start end inside (after ++ second) a w b i (placed_both end mid after second to j k))
 
-  inline_placed : (source : List ℕ) (from : ℕ) (spans : Inline) (to : ℕ) → InlineOrder (IsBehindPipe options text) from spans to → Places from (inline_events source spans) to
+  inline_placed : (source : List ℕ) (from : ℕ) (spans : Inline) (to : ℕ) → InlineOrder (IsAfterPipe options text) from spans to → Places from (inline_events source spans) to
   inline_placed source from NoSpans to h = Nothing from to h
   inline_placed source from (SingleItem x after) to h =
       Single from to (ranged (event_of source x x.kind) x.start x.end) (inline_events source after) (item-single source x x.kind) h.0 h.1 (inline_placed source x.end after to h.2)
@@ -142,7 +142,7 @@ module _ (reader : Reader) (Says : Saying) where
       let order = spans-order reader leaf to zero_turn bound lines start.at h.parts h.last.at stands.0 (parts-fill reader leaf to zero_turn Says start h.parts h.last h.reads.reads) reached.items reached.pipes gaps in
       let e : events ≡ inline_events reader.source (spans_in reader.options h.parts) = h.events_are ∙ ap (inline_events reader.source) (spans-one reader.options h.parts h.spans h.are) in
       subst (λ es. Stand from es to) (sym e)
-      (inline_placed reader.options reader.source reader.source from (spans_in reader.options h.parts) to (wider (IsBehindPipe reader.options reader.source) from leaf.stretches to h.last.at (spans_in reader.options h.parts) turn stands.1 empty order))
+      (inline_placed reader.options reader.source reader.source from (spans_in reader.options h.parts) to (wider (IsAfterPipe reader.options reader.source) from leaf.stretches to h.last.at (spans_in reader.options h.parts) turn stands.1 empty order))
     where
       -- a leaf begins with a byte of its own, or ends at once
       begin-place : (st : List Stretch) (ended : HaveLineEnds reader.source st) (turn : InTurn 0 st to) → (left : ℕ) × IsAt reader.source st to turn bound ended left (begin_of st)
@@ -265,13 +265,13 @@ module _ (reader : Reader) (Says : Saying) where
   task_first (OwnedText bytes) = tt
   task_first (Html bytes) = tt
 
-  with_placed : (reads : ReadsAs) (node : BlockNode) (from to : ℕ) → IsFit reads → IsTaskFirst reads → from ≤ node.start → node.start ≤ node.end → node.end ≤ to → (inside : List Segment) (behind : BlockDocument)
-      → Placed from node.end (node_segments reads node inside) → Placed node.end to (segments behind) → Placed from to (with_first_segment (first_event reads) (starts_before behind) node (node_segments reads node inside ++ segments behind))
-  with_placed (Around tag) node from to fits first a b on inside behind k l = both_placed (node_segments (Around tag) node inside) (segments behind) from node.end to on k l
-  with_placed Inside node from to fits first a b on inside behind k l = both_placed inside (segments behind) from node.end to on k l
-  with_placed (Alone event) node from to fits first a b on inside behind k l = both_placed (Given (over node event) ∷ []) (segments behind) from node.end to on k l
-  with_placed (First event) node from to fits first a b on inside behind k l = first_placed (over node event) behind from to first fits a b l
-  with_placed Silent node from to fits first a b on inside behind k l = both_placed [] (segments behind) from node.end to on k l
+  with_placed : (reads : ReadsAs) (node : BlockNode) (from to : ℕ) → IsFit reads → IsTaskFirst reads → from ≤ node.start → node.start ≤ node.end → node.end ≤ to → (inside : List Segment) (following : BlockDocument)
+      → Placed from node.end (node_segments reads node inside) → Placed node.end to (segments following) → Placed from to (with_first_segment (first_event reads) (starts_before following) node (node_segments reads node inside ++ segments following))
+  with_placed (Around tag) node from to fits first a b on inside following k l = both_placed (node_segments (Around tag) node inside) (segments following) from node.end to on k l
+  with_placed Inside node from to fits first a b on inside following k l = both_placed inside (segments following) from node.end to on k l
+  with_placed (Alone event) node from to fits first a b on inside following k l = both_placed (Given (over node event) ∷ []) (segments following) from node.end to on k l
+  with_placed (First event) node from to fits first a b on inside following k l = first_placed (over node event) following from to first fits a b l
+  with_placed Silent node from to fits first a b on inside following k l = both_placed [] (segments following) from node.end to on k l
 
   document_placed : (document : BlockDocument) (from to : ℕ) → InOrder from document to → Placed from to (segments document)
   document_placed Nil from to o = λ bound lines before after events h. subst (λ es. Stand from es to) (sym h.0) (Nothing from to o)
@@ -296,7 +296,7 @@ no_byte byte (b ∷ bs) zero h some e = true≢false (sym (eq-eqb b byte e) ∙ 
 no_byte byte (b ∷ bs) (suc n) h some e = no_byte byte bs n h.1 some e
 
 module _ (options : Options) (text : List ℕ) (none : HasNoDisplays options text) where
-  no_pipe : (at : ℕ) → IsBehindPipe options text at → ⊥
+  no_pipe : (at : ℕ) → IsAfterPipe options text at → ⊥
   no_pipe at h = go none
     where
       go : HasNoDisplays options text → ⊥

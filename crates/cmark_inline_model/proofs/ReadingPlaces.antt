@@ -3,7 +3,7 @@
 use Rattle.std.specs.Prelude.{zero, suc, ◌-◌, ◌==◌, if◌then◌else◌, get_or, drop, take}
 use Rattle.std.proofs.Common.{◌≡◌, inl, inr, ℕ, ◌+◌, ◌<◌, ◌≤◌, Bool, true, false, List, [], ◌∷◌, length, Option, Some, None, refl, sym, ap, subst, arith, ◌∙◌, eqb-true}
 use Rattle.std.proofs.lemmas.List.{length-take, get_or-drop}
-use Rattle.cmark_grammar.specs.BracketDecisions.{name_in, behind_pipe, wiki_text, behind, place, decide}
+use Rattle.cmark_grammar.specs.BracketDecisions.{name_in, after_pipe, wiki_text, following, place, decide}
 use Rattle.cmark_grammar.specs.BracketReading.{Reads}
 use Rattle.cmark_grammar.specs.BracketStates.{State, moved, opened, Result, StaysText, Forms, Outcome}
 use Rattle.cmark_grammar.specs.InlineTokens.{from, token}
@@ -16,12 +16,12 @@ use Rattle.cmark_grammar.specs.OpenBrackets.{Taken}
 use Rattle.cmark_grammar.specs.Parts.{Formed, Linking, Footnote, Wiki, Parts, Nil, Single, Form, Closing, Opening, openings}
 use Rattle.cmark_grammar.specs.Questions.{Exchange, Saying}
 use Rattle.cmark_grammar.specs.Readers.{Reader}
-use Rattle.cmark_grammar.proofs.ShorterRests.{TailBelow, link_tail-shorter}
+use Rattle.cmark_inline_model.proofs.ShorterRests.{TailBelow, link_tail-shorter}
 use Rattle.cmark_inline_model.specs.LeafModel.{HaveLineEnds}
 use Rattle.cmark_inline_model.specs.Progress.{Always}
-use Rattle.cmark_inline_model.specs.CutRanges.{IsBehindPipe}
+use Rattle.cmark_inline_model.specs.CutRanges.{IsAfterPipe}
 use Rattle.cmark_inline_model.proofs.DecisionLaws.{always-by}
-use Rattle.cmark_inline_model.proofs.DecisionShape.{Shape, Stays, ToInline, ToReference, ToFootnote, ToWiki, IsPlace as IsPlaceBehind}
+use Rattle.cmark_inline_model.proofs.DecisionShape.{Shape, Stays, ToInline, ToReference, ToFootnote, ToWiki, IsPlace as IsPlaceAfter}
 use Rattle.cmark_inline_model.proofs.LinkNesting.{always-comes}
 use Rattle.cmark_inline_model.proofs.TokenItems.{OfItems}
 use Rattle.cmark_inline_model.proofs.TokenPlaces.{IsPlace, next-place, rest-place, Uncut, HaveContent, Sits, token-sits}
@@ -30,23 +30,23 @@ use Rattle.cmark_inline_model.proofs.TokenPlaces.{IsPlace, next-place, rest-plac
 
 -- the pipe before a display
 pub record IsPipe (at : ℕ) (bs : List ℕ) (found : ℕ) : Type 0 where
-  pub behind : at < found
+  pub following : at < found
   pub within : found ≤ at + length bs
   pub byte : get_or bs (found - suc at) 0 ≡ 124
 
-pub pipe-is : (at : ℕ) (bs : List ℕ) (found : ℕ) → behind_pipe at bs ≡ Some found → IsPipe at bs found
+pub pipe-is : (at : ℕ) (bs : List ℕ) (found : ℕ) → after_pipe at bs ≡ Some found → IsPipe at bs found
 pipe-is at [] found e = cc
 pipe-is at (b ∷ bs) found e = go (b == 124) refl e (λ f. pipe-is (suc at) bs found f)
   where
-    go : (x : Bool) → (b == 124) ≡ x → (if x then Some (suc at) else behind_pipe (suc at) bs) ≡ Some found → (behind_pipe (suc at) bs ≡ Some found → IsPipe (suc at) bs found) → IsPipe at (b ∷ bs) found
+    go : (x : Bool) → (b == 124) ≡ x → (if x then Some (suc at) else after_pipe (suc at) bs) ≡ Some found → (after_pipe (suc at) bs ≡ Some found → IsPipe (suc at) bs found) → IsPipe at (b ∷ bs) found
     go true q f ih =
         let s : suc at ≡ found = cc in
         let z : found - suc at ≡ 0 = omega arith in
-        record { behind = omega arith; within = omega arith; byte = ap (λ n. get_or (b ∷ bs) n 0) z ∙ eqb-true b 124 q }
+        record { following = omega arith; within = omega arith; byte = ap (λ n. get_or (b ∷ bs) n 0) z ∙ eqb-true b 124 q }
     go false q f ih =
-        let i = ih f in let x = i.behind in let y = i.within in
+        let i = ih f in let x = i.following in let y = i.within in
         let z : found - suc at ≡ suc (found - suc (suc at)) = omega arith in
-        record { behind = omega arith; within = omega arith; byte = ap (λ n. get_or (b ∷ bs) n 0) z ∙ i.byte }
+        record { following = omega arith; within = omega arith; byte = ap (λ n. get_or (b ∷ bs) n 0) z ∙ i.byte }
 
 take_get : (n i : ℕ) (l : List ℕ) → i < n → get_or (take n l) i 0 ≡ get_or l i 0
 take_get zero i l h = absurd (omega arith)
@@ -60,7 +60,7 @@ module _ (reader : Reader) where
   DisplayBy (Linking target) closer = Unit {0}
   DisplayBy (Footnote label end) closer = Unit {0}
   DisplayBy (Wiki name None end) closer = Unit {0}
-  DisplayBy (Wiki name (Some place) end) closer = IsBehindPipe reader.options reader.source place × (place ≤ closer.start)
+  DisplayBy (Wiki name (Some place) end) closer = IsAfterPipe reader.options reader.source place × (place ≤ closer.start)
 
   abbrev pub HavePipes : Parts → Type 0
   HavePipes Nil = Unit {0}
@@ -74,8 +74,8 @@ module _ (reader : Reader) where
   DisplayResult closer (Forms nearer formed) = DisplayBy formed closer
 
   display_by : (leaf : Leaf) (closer : Bracket) (first : Taken) (name : List ℕ) (end : ℕ) → reader.options.wikilinks ≡ true
-      → DisplayBy (Wiki name (behind_pipe (suc first.opener.bracket.end) (wiki_text reader leaf first closer)) end) closer
-  display_by leaf closer first name end on = go (behind_pipe at text) refl
+      → DisplayBy (Wiki name (after_pipe (suc first.opener.bracket.end) (wiki_text reader leaf first closer)) end) closer
+  display_by leaf closer first name end on = go (after_pipe at text) refl
     where
       at : ℕ
       at = suc first.opener.bracket.end
@@ -83,11 +83,11 @@ module _ (reader : Reader) where
       text : List ℕ
       text = wiki_text reader leaf first closer
 
-      go : (o : Option ℕ) → behind_pipe at text ≡ o → DisplayBy (Wiki name o end) closer
+      go : (o : Option ℕ) → after_pipe at text ≡ o → DisplayBy (Wiki name o end) closer
       go None e = tt
       go (Some found) e =
           let p = pipe-is at text found e in
-          let x = p.behind in let y = p.within in
+          let x = p.following in let y = p.within in
           let l = length-take (closer.start - at) (drop at reader.source) in
           let i : ℕ = found - suc at in
           let z : at + i ≡ found - 1 = omega arith in (
@@ -112,15 +112,15 @@ module _ (reader : Reader) (leaf : Leaf) (size : ℕ) (turn : InTurn 0 leaf.stre
 
   -- ## The outcome of a closing bracket
 
-  below : (n : ℕ) (o : Option LinkTail) (tail : LinkTail) → TailBelow n o → o ≡ Some tail → length tail.behind < n
+  below : (n : ℕ) (o : Option LinkTail) (tail : LinkTail) → TailBelow n o → o ≡ Some tail → length tail.following < n
   below n None tail h e = cc
   below n (Some other) tail h e = subst (λ (o : Option LinkTail). TailBelow n o) e h
 
-  behind_place : (closer : Bracket) (p : ℕ) → Place closer.end → IsPlaceBehind reader leaf closer p → Place p
-  behind_place closer p h (inl e) = subst Place (sym e) h
-  behind_place closer p h (inr r) = subst Place (sym r.2) (rest-place reader leaf size turn within lines closer.end r.0 h r.1)
+  after_place : (closer : Bracket) (p : ℕ) → Place closer.end → IsPlaceAfter reader leaf closer p → Place p
+  after_place closer p h (inl e) = subst Place (sym e) h
+  after_place closer p h (inr r) = subst Place (sym r.2) (rest-place reader leaf size turn within lines closer.end r.0 h r.1)
 
-  second : (closer : Bracket) → Place closer.end → first_is (λ b. b == 93) (behind reader leaf closer.end) ≡ true → Place (suc closer.end)
+  second : (closer : Bracket) → Place closer.end → first_is (λ b. b == 93) (following reader leaf closer.end) ≡ true → Place (suc closer.end)
   second closer h e = go (from reader leaf closer.end) refl e
     where
       go : (l : List ℕ) → from reader leaf closer.end ≡ l → first_is (λ b. b == 93) l ≡ true → Place (suc closer.end)
@@ -130,9 +130,9 @@ module _ (reader : Reader) (leaf : Leaf) (size : ℕ) (turn : InTurn 0 leaf.stre
   shape_place : (s : State) (closer : Bracket) → Place closer.end → (asked : List Exchange) (o : Outcome) → Shape reader leaf s closer asked o → Place o.after.at
   shape_place s closer w asked o (Stays label os h e) = subst (λ (x : Outcome). Place x.after.at) (sym e) w
   shape_place s closer w asked o (ToInline label os taken tail h t found e) =
-      let b = below (length (behind reader leaf closer.end)) (link_tail_in (behind reader leaf closer.end)) tail (link_tail-shorter (behind reader leaf closer.end)) found in
-      subst (λ (x : Outcome). Place x.after.at) (sym e) (rest-place reader leaf size turn within lines closer.end tail.behind w (omega arith))
-  shape_place s closer w asked o (ToReference label os taken named link_type found h t n some l e) = subst (λ (x : Outcome). Place x.after.at) (sym e) (behind_place closer named.resume w n.passes)
+      let b = below (length (following reader leaf closer.end)) (link_tail_in (following reader leaf closer.end)) tail (link_tail-shorter (following reader leaf closer.end)) found in
+      subst (λ (x : Outcome). Place x.after.at) (sym e) (rest-place reader leaf size turn within lines closer.end tail.following w (omega arith))
+  shape_place s closer w asked o (ToReference label os taken named link_type found h t n some l e) = subst (λ (x : Outcome). Place x.after.at) (sym e) (after_place closer named.resume w n.passes)
   shape_place s closer w asked o (ToFootnote label os taken name h t on e) = subst (λ (x : Outcome). Place x.after.at) (sym e) w
   shape_place s closer w asked o (ToWiki label os first far h t on next touched e) = subst (λ (x : Outcome). Place x.after.at) (sym e) (second closer w next)
 

@@ -11,7 +11,7 @@ use Rattle.cmark_grammar.specs.LeafText.{Stretch, Leaf, InTurn, begin_of, end_of
 use Rattle.cmark_grammar.specs.Questions.{Question, Exchange, Saying, IsNext}
 use Rattle.cmark_grammar.specs.Readers.{Reader}
 use Rattle.cmark_grammar.specs.SpanDocuments.{Segment, Given, Content, segments, ReadsAll, Profile, reader_of, at_start, IsReading}
-use Rattle.cmark_grammar.proofs.RangeLaws.{derived-order}
+use Rattle.cmark_block_model.proofs.RangeLaws.{derived-order}
 use Rattle.cmark_inline_model.specs.LinkRules.{IsQuestion}
 use Rattle.cmark_inline_model.specs.ReadingQuestions.{HasCloser, IsCloser, PutInTurn, AllQuestions}
 use Rattle.cmark_inline_model.proofs.QuestionsInTurn.{turn-wide, turn-both, turn-none, asked-both, BeginUpTo, begin-drop, IsAbout, AsksAbout, KeepsTurn, reading-turns}

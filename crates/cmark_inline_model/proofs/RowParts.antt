@@ -9,13 +9,13 @@ use Rattle.cmark_grammar.specs.Options.{Options}
 use Rattle.cmark_grammar.specs.Parts.{Parts, Nil as NoParts, Single as SinglePart, Form, Closing, Opening, Linking, Footnote, Wiki, openings}
 use Rattle.cmark_grammar.specs.Quotes.{Quote, quote_characters}
 use Rattle.cmark_grammar.specs.Siblings.{Inline, Nil, Single, Around, append, item, item_then, text_then, footnote_then, tag_by, wiki_tag, name_text, display_from, quote_then, quotes_of, quote_as, with_characters, with_quotes, run_then, runs_from, dressed_all}
-use Rattle.cmark_grammar.specs.SiblingsModel.{dress, siblings_of}
+use Rattle.cmark_inline_model.specs.SiblingsModel.{dress, siblings_of}
 use Rattle.cmark_grammar.specs.Spans.{Spans}
 use Rattle.cmark_grammar.specs.Tag.{Tag}
-use Rattle.cmark_grammar.proofs.EmphasisOne.{one}
+use Rattle.cmark_inline_model.proofs.EmphasisOne.{one}
 use Rattle.cmark_inline_model.specs.PartLists.{join, Cut, cut_at}
 use Rattle.cmark_inline_model.specs.RowParts.{run_before, runs_in, bytes_in, counted, BracketPlace, text_slot, LaysParts, IsRow, CutsRow}
-use Rattle.cmark_inline_model.specs.SlotRows.{Slot, ItemSlot, BeginSlot, EndSlot, NothingSlot, seen, slots_of, run_slots, run_places, LaysItem, LaysOut, character_slot, quoted, marked, marks_by, marks_of, StandBehind}
+use Rattle.cmark_inline_model.specs.SlotRows.{Slot, ItemSlot, BeginSlot, EndSlot, NothingSlot, seen, slots_of, run_slots, run_places, LaysItem, LaysOut, character_slot, quoted, marked, marks_by, marks_of, StandAfter}
 use Rattle.cmark_inline_model.proofs.PartCuts.{join_assoc, openings-join, cut-is, Cuts, cuts}
 use Rattle.cmark_inline_model.proofs.SlotLaws.{pairs-write, marks-make}
 use Rattle.cmark_inline_model.proofs.SlotQuotes.{quotes-written}
@@ -180,18 +180,18 @@ module _ (options : Options) where
       subst (λ x. LaysOut at x (s ++ t) (b ++ c) (q ++ r)) (sym (siblings-join a p)) (rows-grow (siblings_of options a) (siblings_of options p) at s t b c q r h k)
 
   -- ## Rows whose last opening bracket is followed by parts, as one list
-  opening-grow : (before inside : Parts) (opener : Bracket) (front behind : List Slot) (fb bb fq bq : List ℕ) → LaysOut 0 (siblings_of options before) front fb fq → LaysOut (suc (length front)) (siblings_of options inside) behind bb bq
-      → LaysOut 0 (siblings_of options (join before (Opening opener inside))) (front ++ (text_slot opener ∷ behind)) (fb ++ bb) (fq ++ bq)
-  opening-grow before inside opener front behind fb bb fq bq h k = parts-grow before (Opening opener inside) 0 front (text_slot opener ∷ behind) fb bb fq bq h (behind, refl, subst (λ i. LaysOut i (siblings_of options inside) behind bb bq) (let e : suc (length front) ≡ suc (0 + length front) = omega arith in e) k)
+  opening-grow : (before inside : Parts) (opener : Bracket) (front following : List Slot) (fb bb fq bq : List ℕ) → LaysOut 0 (siblings_of options before) front fb fq → LaysOut (suc (length front)) (siblings_of options inside) following bb bq
+      → LaysOut 0 (siblings_of options (join before (Opening opener inside))) (front ++ (text_slot opener ∷ following)) (fb ++ bb) (fq ++ bq)
+  opening-grow before inside opener front following fb bb fq bq h k = parts-grow before (Opening opener inside) 0 front (text_slot opener ∷ following) fb bb fq bq h (following, refl, subst (λ i. LaysOut i (siblings_of options inside) following bb bq) (let e : suc (length front) ≡ suc (0 + length front) = omega arith in e) k)
 
   pub row-whole : (bs : List BracketPlace) (parts : Parts) (slots : List Slot) (bytes quotes : List ℕ) → LaysParts options bs parts slots bytes quotes → LaysOut 0 (siblings_of options parts) slots bytes quotes
   row-whole [] parts slots bytes quotes h = h.1
   row-whole (b ∷ bs) parts slots bytes quotes h =
-      let w = opening-grow h.before h.inside h.opener h.front h.behind h.front_bytes h.behind_bytes h.front_quotes h.behind_quotes (row-whole bs h.before h.front h.front_bytes h.front_quotes h.laid_before) h.laid_behind in
+      let w = opening-grow h.before h.inside h.opener h.front h.following h.front_bytes h.after_bytes h.front_quotes h.after_quotes (row-whole bs h.before h.front h.front_bytes h.front_quotes h.laid_before) h.laid_after in
       subst (λ p. LaysOut 0 (siblings_of options p) slots bytes quotes) (sym h.parts_are)
       (subst (λ l. LaysOut 0 (siblings_of options (join h.before (Opening h.opener h.inside))) l bytes quotes) (sym h.slots_are)
-      (subst (λ l. LaysOut 0 (siblings_of options (join h.before (Opening h.opener h.inside))) (h.front ++ (text_slot h.opener ∷ h.behind)) l quotes) (sym h.bytes_are)
-      (subst (λ l. LaysOut 0 (siblings_of options (join h.before (Opening h.opener h.inside))) (h.front ++ (text_slot h.opener ∷ h.behind)) (h.front_bytes ++ h.behind_bytes) l) (sym h.quotes_are) w)))
+      (subst (λ l. LaysOut 0 (siblings_of options (join h.before (Opening h.opener h.inside))) (h.front ++ (text_slot h.opener ∷ h.following)) l quotes) (sym h.bytes_are)
+      (subst (λ l. LaysOut 0 (siblings_of options (join h.before (Opening h.opener h.inside))) (h.front ++ (text_slot h.opener ∷ h.following)) (h.front_bytes ++ h.after_bytes) l) (sym h.quotes_are) w)))
 
   -- more parts at the end, without opening brackets
   row-grows : (bs : List BracketPlace) (parts piece : Parts) (slots more : List Slot) (bytes more_bytes quotes more_quotes : List ℕ) → LaysParts options bs parts slots bytes quotes → openings piece ≡ 0
@@ -203,7 +203,7 @@ module _ (options : Options) where
   row-grows (b ∷ bs) parts piece slots more bytes more_bytes quotes more_quotes h none k =
       let o = openings-join h.inside piece in
       let z = h.none in
-      let n = ap length h.slots_are ∙ length-append h.front (text_slot h.opener ∷ h.behind) in
+      let n = ap length h.slots_are ∙ length-append h.front (text_slot h.opener ∷ h.following) in
       record {
         before = h.before;
         opener = h.opener;
@@ -212,20 +212,20 @@ module _ (options : Options) where
         parts_are = ap (λ p. join p piece) h.parts_are ∙ join_assoc h.before (Opening h.opener h.inside) piece;
         none = omega arith;
         front = h.front;
-        behind = h.behind ++ more;
-        slots_are = ap (λ l. l ++ more) h.slots_are ∙ append_assoc h.front (text_slot h.opener ∷ h.behind) more;
+        following = h.following ++ more;
+        slots_are = ap (λ l. l ++ more) h.slots_are ∙ append_assoc h.front (text_slot h.opener ∷ h.following) more;
         slot_is = h.slot_is;
         runs_is = h.runs_is;
         quotes_is = h.quotes_is;
         front_bytes = h.front_bytes;
-        behind_bytes = h.behind_bytes ++ more_bytes;
-        bytes_are = ap (λ l. l ++ more_bytes) h.bytes_are ∙ append_assoc h.front_bytes h.behind_bytes more_bytes;
+        after_bytes = h.after_bytes ++ more_bytes;
+        bytes_are = ap (λ l. l ++ more_bytes) h.bytes_are ∙ append_assoc h.front_bytes h.after_bytes more_bytes;
         front_quotes = h.front_quotes;
-        behind_quotes = h.behind_quotes ++ more_quotes;
-        quotes_are = ap (λ l. l ++ more_quotes) h.quotes_are ∙ append_assoc h.front_quotes h.behind_quotes more_quotes;
+        after_quotes = h.after_quotes ++ more_quotes;
+        quotes_are = ap (λ l. l ++ more_quotes) h.quotes_are ∙ append_assoc h.front_quotes h.after_quotes more_quotes;
         laid_before = h.laid_before;
-        laid_behind = parts-grow h.inside piece (suc (length h.front)) h.behind more h.behind_bytes more_bytes h.behind_quotes more_quotes h.laid_behind
-            (subst (λ i. LaysOut i (siblings_of options piece) more more_bytes more_quotes) (let e : length slots ≡ suc (length h.front) + length h.behind = omega arith in e) k);
+        laid_after = parts-grow h.inside piece (suc (length h.front)) h.following more h.after_bytes more_bytes h.after_quotes more_quotes h.laid_after
+            (subst (λ i. LaysOut i (siblings_of options piece) more more_bytes more_quotes) (let e : length slots ≡ suc (length h.front) + length h.following = omega arith in e) k);
       }
 
   -- an opening bracket at the end
@@ -240,19 +240,19 @@ module _ (options : Options) where
     parts_are = refl;
     none = refl;
     front = slots;
-    behind = [];
+    following = [];
     slots_are = refl;
     slot_is = refl;
     runs_is = refl;
     quotes_is = refl;
     front_bytes = bytes;
-    behind_bytes = [];
+    after_bytes = [];
     bytes_are = sym (append-nil bytes);
     front_quotes = quotes;
-    behind_quotes = [];
+    after_quotes = [];
     quotes_are = sym (append-nil quotes);
     laid_before = h;
-    laid_behind = (refl, refl, refl);
+    laid_after = (refl, refl, refl);
   }
 
   -- cut at an opening bracket
@@ -264,19 +264,19 @@ module _ (options : Options) where
     place_is : drop nearer bs ≡ place ∷ drop (suc nearer) bs
     opener_is : place.bracket ≡ cut.opener
     front : List Slot
-    behind : List Slot
-    slots_are : slots ≡ front ++ (text_slot cut.opener ∷ behind)
+    following : List Slot
+    slots_are : slots ≡ front ++ (text_slot cut.opener ∷ following)
     slot_is : place.slot ≡ length front
     runs_is : place.runs ≡ length (runs_in (siblings_of options cut.before))
     quotes_is : place.quotes ≡ length (quotes_of (siblings_of options cut.before))
     front_bytes : List ℕ
-    behind_bytes : List ℕ
-    bytes_are : bytes ≡ front_bytes ++ behind_bytes
+    after_bytes : List ℕ
+    bytes_are : bytes ≡ front_bytes ++ after_bytes
     front_quotes : List ℕ
-    behind_quotes : List ℕ
-    quotes_are : quotes ≡ front_quotes ++ behind_quotes
+    after_quotes : List ℕ
+    quotes_are : quotes ≡ front_quotes ++ after_quotes
     laid_before : LaysParts options (drop (suc nearer) bs) cut.before front front_bytes front_quotes
-    laid_behind : LaysOut (suc (length front)) (siblings_of options cut.inside) behind behind_bytes behind_quotes
+    laid_after : LaysOut (suc (length front)) (siblings_of options cut.inside) following after_bytes after_quotes
 
   cutting : (nearer : ℕ) (bs : List BracketPlace) (parts : Parts) (slots : List Slot) (bytes quotes : List ℕ) → nearer < length bs → LaysParts options bs parts slots bytes quotes → Cutting nearer bs parts slots bytes quotes
   cutting nearer [] parts slots bytes quotes lt h = absurd (omega arith)
@@ -288,19 +288,19 @@ module _ (options : Options) where
     place_is = refl;
     opener_is = h.opener_is;
     front = h.front;
-    behind = h.behind;
+    following = h.following;
     slots_are = h.slots_are;
     slot_is = h.slot_is;
     runs_is = h.runs_is;
     quotes_is = h.quotes_is;
     front_bytes = h.front_bytes;
-    behind_bytes = h.behind_bytes;
+    after_bytes = h.after_bytes;
     bytes_are = h.bytes_are;
     front_quotes = h.front_quotes;
-    behind_quotes = h.behind_quotes;
+    after_quotes = h.after_quotes;
     quotes_are = h.quotes_are;
     laid_before = h.laid_before;
-    laid_behind = h.laid_behind;
+    laid_after = h.laid_after;
   }
   cutting (suc nearer) (b ∷ bs) parts slots bytes quotes lt h = further (cutting nearer bs h.before h.front h.front_bytes h.front_quotes (omega arith) h.laid_before)
     where
@@ -311,7 +311,7 @@ module _ (options : Options) where
           let count : openings inside ≡ suc nearer = (let o = openings-join c.cut.inside (Opening h.opener h.inside) in let a = is.more_is in let z = h.none in omega arith) in
           let whole : parts ≡ join c.cut.before (Opening c.cut.opener inside) =
           h.parts_are ∙ ap (λ p. join p (Opening h.opener h.inside)) c.parts_are ∙ join_assoc c.cut.before (Opening c.cut.opener c.cut.inside) (Opening h.opener h.inside) in
-          let n = ap length c.slots_are ∙ length-append c.front (text_slot c.cut.opener ∷ c.behind) in
+          let n = ap length c.slots_are ∙ length-append c.front (text_slot c.cut.opener ∷ c.following) in
           record {
             cut = record { before = c.cut.before; opener = c.cut.opener; inside = inside };
             cut_is = ap (cut_at (suc nearer)) whole ∙ ap (λ n. cut_at n (join c.cut.before (Opening c.cut.opener inside))) (sym count) ∙ cut-is c.cut.before c.cut.opener inside;
@@ -320,20 +320,20 @@ module _ (options : Options) where
             place_is = c.place_is;
             opener_is = c.opener_is;
             front = c.front;
-            behind = c.behind ++ (text_slot h.opener ∷ h.behind);
-            slots_are = h.slots_are ∙ ap (λ l. l ++ (text_slot h.opener ∷ h.behind)) c.slots_are ∙ append_assoc c.front (text_slot c.cut.opener ∷ c.behind) (text_slot h.opener ∷ h.behind);
+            following = c.following ++ (text_slot h.opener ∷ h.following);
+            slots_are = h.slots_are ∙ ap (λ l. l ++ (text_slot h.opener ∷ h.following)) c.slots_are ∙ append_assoc c.front (text_slot c.cut.opener ∷ c.following) (text_slot h.opener ∷ h.following);
             slot_is = c.slot_is;
             runs_is = c.runs_is;
             quotes_is = c.quotes_is;
             front_bytes = c.front_bytes;
-            behind_bytes = c.behind_bytes ++ h.behind_bytes;
-            bytes_are = h.bytes_are ∙ ap (λ l. l ++ h.behind_bytes) c.bytes_are ∙ append_assoc c.front_bytes c.behind_bytes h.behind_bytes;
+            after_bytes = c.after_bytes ++ h.after_bytes;
+            bytes_are = h.bytes_are ∙ ap (λ l. l ++ h.after_bytes) c.bytes_are ∙ append_assoc c.front_bytes c.after_bytes h.after_bytes;
             front_quotes = c.front_quotes;
-            behind_quotes = c.behind_quotes ++ h.behind_quotes;
-            quotes_are = h.quotes_are ∙ ap (λ l. l ++ h.behind_quotes) c.quotes_are ∙ append_assoc c.front_quotes c.behind_quotes h.behind_quotes;
+            after_quotes = c.after_quotes ++ h.after_quotes;
+            quotes_are = h.quotes_are ∙ ap (λ l. l ++ h.after_quotes) c.quotes_are ∙ append_assoc c.front_quotes c.after_quotes h.after_quotes;
             laid_before = c.laid_before;
-            laid_behind = parts-grow c.cut.inside (Opening h.opener h.inside) (suc (length c.front)) c.behind (text_slot h.opener ∷ h.behind) c.behind_bytes h.behind_bytes c.behind_quotes h.behind_quotes c.laid_behind
-                (h.behind, refl, subst (λ i. LaysOut i (siblings_of options h.inside) h.behind h.behind_bytes h.behind_quotes) (let e : suc (length h.front) ≡ suc (suc (length c.front) + length c.behind) = omega arith in e) h.laid_behind);
+            laid_after = parts-grow c.cut.inside (Opening h.opener h.inside) (suc (length c.front)) c.following (text_slot h.opener ∷ h.following) c.after_bytes h.after_bytes c.after_quotes h.after_quotes c.laid_after
+                (h.following, refl, subst (λ i. LaysOut i (siblings_of options h.inside) h.following h.after_bytes h.after_quotes) (let e : suc (length h.front) ≡ suc (suc (length c.front) + length c.following) = omega arith in e) h.laid_after);
           }
 
   -- ## These lemmas with runs and quotes
@@ -373,9 +373,9 @@ module _ (options : Options) where
       let all : runs ≡ before ++ inside = sym h.runs_are ∙ ap (λ p. runs_in (siblings_of options p)) c.parts_are ∙ runs-join c.cut.before (Opening c.cut.opener c.cut.inside) in
       let qall : quoted ≡ qbefore ++ qinside = sym h.quoted_are ∙ ap (λ p. quotes_of (siblings_of options p)) c.parts_are ∙ quotes-join c.cut.before (Opening c.cut.opener c.cut.inside) in
       let front : before ≡ take c.place.runs runs = sym (ap (take c.place.runs) all ∙ ap (λ n. take n (before ++ inside)) c.runs_is ∙ take-append_seam before inside) in
-      let behind : inside ≡ drop c.place.runs runs = sym (ap (drop c.place.runs) all ∙ ap (λ n. drop n (before ++ inside)) c.runs_is ∙ drop-append_seam before inside) in
+      let following : inside ≡ drop c.place.runs runs = sym (ap (drop c.place.runs) all ∙ ap (λ n. drop n (before ++ inside)) c.runs_is ∙ drop-append_seam before inside) in
       let qfront : qbefore ≡ take c.place.quotes quoted = sym (ap (take c.place.quotes) qall ∙ ap (λ n. take n (qbefore ++ qinside)) c.quotes_is ∙ take-append_seam qbefore qinside) in
-      let qbehind : qinside ≡ drop c.place.quotes quoted = sym (ap (drop c.place.quotes) qall ∙ ap (λ n. drop n (qbefore ++ qinside)) c.quotes_is ∙ drop-append_seam qbefore qinside) in
+      let qafter : qinside ≡ drop c.place.quotes quoted = sym (ap (drop c.place.quotes) qall ∙ ap (λ n. drop n (qbefore ++ qinside)) c.quotes_is ∙ drop-append_seam qbefore qinside) in
       let n = lays-count (siblings_of options c.cut.before) 0 c.front c.front_bytes c.front_quotes (row-whole (drop (suc nearer) bs) c.cut.before c.front c.front_bytes c.front_quotes c.laid_before) in
       record {
         cut = c.cut;
@@ -384,21 +384,21 @@ module _ (options : Options) where
         place_is = c.place_is;
         opener_is = c.opener_is;
         front = c.front;
-        behind = c.behind;
+        following = c.following;
         slots_are = c.slots_are;
         slot_is = c.slot_is;
         front_bytes = c.front_bytes;
-        behind_bytes = c.behind_bytes;
+        after_bytes = c.after_bytes;
         bytes_are = c.bytes_are;
         bytes_count = n.0 ∙ ap bytes_in front;
         front_quotes = c.front_quotes;
-        behind_quotes = c.behind_quotes;
+        after_quotes = c.after_quotes;
         quotes_are = c.quotes_are;
         quotes_count = n.1 ∙ sym c.quotes_is;
         before = record { laid = c.laid_before; runs_are = front; quoted_are = qfront };
-        laid_behind = c.laid_behind;
-        runs_behind = behind;
-        quoted_behind = qbehind;
+        laid_after = c.laid_after;
+        runs_after = following;
+        quoted_after = qafter;
       }
 
   -- ## A construct that brackets form: an element around the slots of the siblings inside it
@@ -422,12 +422,12 @@ module _ (options : Options) where
       (subst (λ l. IsRow options others p s (c.front_bytes ++ []) (c.front_quotes ++ []) (rs ++ runs_in (siblings_of options piece)) l) (ap (λ l. qs ++ l) no_quotes ∙ append-nil qs) r)))
 
   -- siblings that are laid out after others become their spans, once their quotes and the pairs of their runs have written into the row
-  pub row-dressed : (siblings : Inline) (before behind slots : List Slot) (bytes quotes : List ℕ) (runs : List Run) (quotes_are : List Quote) → slots ≡ before ++ behind → LaysOut (length before) siblings behind bytes quotes → runs_in siblings ≡ runs
+  pub row-dressed : (siblings : Inline) (before following slots : List Slot) (bytes quotes : List ℕ) (runs : List Run) (quotes_are : List Quote) → slots ≡ before ++ following → LaysOut (length before) siblings following bytes quotes → runs_in siblings ≡ runs
       → quotes_of siblings ≡ quotes_are → (pairs : List Pair) (spans : Spans) → IsEmphasis (counted 0 runs) pairs spans
-      → StandBehind before behind (dress options siblings) (marked options bytes (marks_by (length bytes) pairs) (quoted quotes (quote_characters [] quotes_are) slots) [])
-  row-dressed siblings before behind slots bytes quotes runs quotes_are cut laid runs_is quotes_is pairs spans e =
+      → StandAfter before following (dress options siblings) (marked options bytes (marks_by (length bytes) pairs) (quoted quotes (quote_characters [] quotes_are) slots) [])
+  row-dressed siblings before following slots bytes quotes runs quotes_are cut laid runs_is quotes_is pairs spans e =
       let cs = quote_characters [] (quotes_of siblings) in
-      let q = quotes-written siblings before behind bytes quotes cs laid in
+      let q = quotes-written siblings before following bytes quotes cs laid in
       let counted_is : counted 0 runs ≡ runs_from (with_quotes siblings) 0 = ap (counted 0) (sym runs_is ∙ sym (runs-quoted siblings cs)) ∙ sym (runs-counted (with_quotes siblings) 0) in
       let emphasis : IsEmphasis (runs_from (with_quotes siblings) 0) pairs spans = subst (λ r. IsEmphasis r pairs spans) counted_is e in
       let m = marks-make options (with_quotes siblings) pairs spans emphasis before q.now bytes [] q.laid in
@@ -439,21 +439,21 @@ module _ (options : Options) where
       record {
         own = m.own;
         cut = written ∙ m.cut;
-        as_many = m.as_many ∙ as_many q.now behind (quoted_length quotes cs (before ++ behind)) q.cut;
+        as_many = m.as_many ∙ as_many q.now following (quoted_length quotes cs (before ++ following)) q.cut;
         stand_for = m.stand_for ∙ ap (λ sp. slots_of (dressed_all options (with_quotes siblings) sp)) (one (runs_from (with_quotes siblings) 0) pairs spans emphasis).1;
       }
     where
-      as_many : (now behind : List Slot) → length (quoted quotes (quote_characters [] (quotes_of siblings)) (before ++ behind)) ≡ length (before ++ behind)
-          → quoted quotes (quote_characters [] (quotes_of siblings)) (before ++ behind) ≡ before ++ now → length now ≡ length behind
-      as_many now behind l e = let a = length-append before now in let b = length-append before behind in let n = ap length e in omega arith
+      as_many : (now following : List Slot) → length (quoted quotes (quote_characters [] (quotes_of siblings)) (before ++ following)) ≡ length (before ++ following)
+          → quoted quotes (quote_characters [] (quotes_of siblings)) (before ++ following) ≡ before ++ now → length now ≡ length following
+      as_many now following l e = let a = length-append before now in let b = length-append before following in let n = ap length e in omega arith
 
   -- the slots after the bracket become the spans of these siblings, once their quotes and the pairs of their runs have written into them
-  pub dressed-behind : (nearer : ℕ) (bs : List BracketPlace) (parts : Parts) (slots : List Slot) (bytes quotes : List ℕ) (runs : List Run) (quoted_quotes : List Quote) (c : CutsRow options nearer bs parts slots bytes quotes runs quoted_quotes)
+  pub dressed-following : (nearer : ℕ) (bs : List BracketPlace) (parts : Parts) (slots : List Slot) (bytes quotes : List ℕ) (runs : List Run) (quoted_quotes : List Quote) (c : CutsRow options nearer bs parts slots bytes quotes runs quoted_quotes)
       → (pairs : List Pair) (spans : Spans) → IsEmphasis (counted 0 (drop c.place.runs runs)) pairs spans
-      → StandBehind (c.front ++ (text_slot c.cut.opener ∷ [])) c.behind (dress options (siblings_of options c.cut.inside))
-      (marked options c.behind_bytes (marks_by (length c.behind_bytes) pairs) (quoted c.behind_quotes (quote_characters [] (drop c.place.quotes quoted_quotes)) slots) [])
-  dressed-behind nearer bs parts slots bytes quotes runs quoted_quotes c pairs spans e =
-      row-dressed (siblings_of options c.cut.inside) (c.front ++ (text_slot c.cut.opener ∷ [])) c.behind slots c.behind_bytes c.behind_quotes (drop c.place.runs runs) (drop c.place.quotes quoted_quotes)
-      (c.slots_are ∙ sym (append_assoc c.front (text_slot c.cut.opener ∷ []) c.behind))
-      (subst (λ i. LaysOut i (siblings_of options c.cut.inside) c.behind c.behind_bytes c.behind_quotes) (let l = length-append c.front (text_slot c.cut.opener ∷ []) in let q : suc (length c.front) ≡ length (c.front ++ (text_slot c.cut.opener ∷ [])) = omega arith in q) c.laid_behind)
-      c.runs_behind c.quoted_behind pairs spans e
+      → StandAfter (c.front ++ (text_slot c.cut.opener ∷ [])) c.following (dress options (siblings_of options c.cut.inside))
+      (marked options c.after_bytes (marks_by (length c.after_bytes) pairs) (quoted c.after_quotes (quote_characters [] (drop c.place.quotes quoted_quotes)) slots) [])
+  dressed-following nearer bs parts slots bytes quotes runs quoted_quotes c pairs spans e =
+      row-dressed (siblings_of options c.cut.inside) (c.front ++ (text_slot c.cut.opener ∷ [])) c.following slots c.after_bytes c.after_quotes (drop c.place.runs runs) (drop c.place.quotes quoted_quotes)
+      (c.slots_are ∙ sym (append_assoc c.front (text_slot c.cut.opener ∷ []) c.following))
+      (subst (λ i. LaysOut i (siblings_of options c.cut.inside) c.following c.after_bytes c.after_quotes) (let l = length-append c.front (text_slot c.cut.opener ∷ []) in let q : suc (length c.front) ≡ length (c.front ++ (text_slot c.cut.opener ∷ [])) = omega arith in q) c.laid_after)
+      c.runs_after c.quoted_after pairs spans e

@@ -17,7 +17,7 @@ use Rattle.cmark_grammar.specs.Questions.{Exchange, AnyAnswer, IsNext}
 use Rattle.cmark_grammar.specs.Quotes.{Quote, quote_characters}
 use Rattle.cmark_grammar.specs.Readers.{Reader}
 use Rattle.cmark_grammar.specs.Siblings.{item, quotes_of, tag_by, address_link}
-use Rattle.cmark_grammar.specs.SiblingsModel.{dress, siblings_of, spans_in}
+use Rattle.cmark_inline_model.specs.SiblingsModel.{dress, siblings_of, spans_in}
 use Rattle.cmark_grammar.specs.Spans.{Spans}
 use Rattle.cmark_grammar.specs.Tag.{Link}
 use Rattle.cmark_inline_model.specs.BracketPass.{Pass, pass, formed_by, closed_by}
@@ -30,7 +30,7 @@ use Rattle.cmark_inline_model.proofs.BracketsSound.{joined, results}
 use Rattle.cmark_inline_model.proofs.DecisionLaws.{decide-recorded}
 use Rattle.cmark_inline_model.proofs.LeafLaws.{leaf-next}
 use Rattle.cmark_inline_model.proofs.LikeSlots.{like-quoted, like-marked, like-events}
-use Rattle.cmark_inline_model.proofs.RowParts.{row-whole, grown-row, opened-row, cut-row, formed-row, row-dressed, dressed-behind}
+use Rattle.cmark_inline_model.proofs.RowParts.{row-whole, grown-row, opened-row, cut-row, formed-row, row-dressed, dressed-following}
 use Rattle.cmark_inline_model.proofs.SiblingsOne.{spans-sound}
 use Rattle.cmark_inline_model.proofs.SlotLaws.{slots-give}
 
@@ -209,16 +209,16 @@ module _ (reader : Reader) (leaf : Leaf) (before : Between) where
       slot_is = ap (λ (b : BracketPlace). b.slot) (sym place_is) ∙ c.slot_is
 
       front_bytes : c.front_bytes ≡ take count bytes
-      front_bytes = sym (ap (take count) c.bytes_are ∙ ap (λ n. take n (c.front_bytes ++ c.behind_bytes)) (sym count_is) ∙ take-append_seam c.front_bytes c.behind_bytes)
+      front_bytes = sym (ap (take count) c.bytes_are ∙ ap (λ n. take n (c.front_bytes ++ c.after_bytes)) (sym count_is) ∙ take-append_seam c.front_bytes c.after_bytes)
 
-      pub behind_bytes : c.behind_bytes ≡ drop count bytes
-      behind_bytes = sym (ap (drop count) c.bytes_are ∙ ap (λ n. drop n (c.front_bytes ++ c.behind_bytes)) (sym count_is) ∙ drop-append_seam c.front_bytes c.behind_bytes)
+      pub after_bytes : c.after_bytes ≡ drop count bytes
+      after_bytes = sym (ap (drop count) c.bytes_are ∙ ap (λ n. drop n (c.front_bytes ++ c.after_bytes)) (sym count_is) ∙ drop-append_seam c.front_bytes c.after_bytes)
 
       front_quotes : c.front_quotes ≡ take place.quotes quotes
-      front_quotes = sym (ap (take place.quotes) c.quotes_are ∙ ap (λ n. take n (c.front_quotes ++ c.behind_quotes)) (sym quotes_count) ∙ take-append_seam c.front_quotes c.behind_quotes)
+      front_quotes = sym (ap (take place.quotes) c.quotes_are ∙ ap (λ n. take n (c.front_quotes ++ c.after_quotes)) (sym quotes_count) ∙ take-append_seam c.front_quotes c.after_quotes)
 
-      pub behind_quotes : c.behind_quotes ≡ drop place.quotes quotes
-      behind_quotes = sym (ap (drop place.quotes) c.quotes_are ∙ ap (λ n. drop n (c.front_quotes ++ c.behind_quotes)) (sym quotes_count) ∙ drop-append_seam c.front_quotes c.behind_quotes)
+      pub after_quotes : c.after_quotes ≡ drop place.quotes quotes
+      after_quotes = sym (ap (drop place.quotes) c.quotes_are ∙ ap (λ n. drop n (c.front_quotes ++ c.after_quotes)) (sym quotes_count) ∙ drop-append_seam c.front_quotes c.after_quotes)
 
       abbrev pub to : Pass
       to = closed_by p closer (record { result = Forms nearer formed; after = next })
@@ -257,7 +257,7 @@ module _ (reader : Reader) (leaf : Leaf) (before : Between) where
           let s = stands c.cut c.cut_is (sym c.opener_is ∙ ap (λ (b : BracketPlace). b.bracket) place_is) in
           let n = none c.cut in
           reached-piece (take place.slot slots) more s.row
-          (like-take reader.source place.slot slots c.front (text_slot c.cut.opener ∷ c.behind) slot_is (subst (AreLike reader.source slots) c.slots_are h.like)) s.like
+          (like-take reader.source place.slot slots c.front (text_slot c.cut.opener ∷ c.following) slot_is (subst (AreLike reader.source slots) c.slots_are h.like)) s.like
           (subst (λ i. LaysOut i (siblings_of reader.options piece) s.row [] []) slot_is s.laid) n.0 n.1
 
       -- the slots after the opening bracket, with quotes and emphasis
@@ -275,11 +275,11 @@ module _ (reader : Reader) (leaf : Leaf) (before : Between) where
       dressed-like : (pairs : List Pair) (spans : Spans) → IsEmphasis (counted 0 (drop place.runs runs)) pairs spans → DressedLike pairs
       dressed-like pairs spans e =
           let text : List Slot = text_slot c.cut.opener ∷ [] in
-          let s = dressed-behind reader.options nearer bs p.here h.row bytes quotes runs quoted_are c pairs spans (subst (λ (b : BracketPlace). IsEmphasis (counted 0 (drop b.runs runs)) pairs spans) (sym place_is) e) in
+          let s = dressed-following reader.options nearer bs p.here h.row bytes quotes runs quoted_are c pairs spans (subst (λ (b : BracketPlace). IsEmphasis (counted 0 (drop b.runs runs)) pairs spans) (sym place_is) e) in
           let made : List Slot → List ℕ → List ℕ → BracketPlace → List Slot = λ l bs qs b. marked reader.options bs (marks_by (length bs) pairs) (quoted qs (quote_characters [] (drop b.quotes quoted_are)) l) [] in
           let same : made h.row (drop count bytes) (drop place.quotes quotes) place ≡ (c.front ++ text) ++ s.own =
           ap (λ (b : BracketPlace). made h.row (drop count bytes) (drop place.quotes quotes) b) (sym place_is)
-          ∙ ap (λ l. made h.row l (drop place.quotes quotes) c.place) (sym behind_bytes) ∙ ap (λ l. made h.row c.behind_bytes l c.place) (sym behind_quotes) ∙ s.cut in
+          ∙ ap (λ l. made h.row l (drop place.quotes quotes) c.place) (sym after_bytes) ∙ ap (λ l. made h.row c.after_bytes l c.place) (sym after_quotes) ∙ s.cut in
           let like : AreLike reader.source (dressed_slots pairs) (made h.row (drop count bytes) (drop place.quotes quotes) place) =
           like-marked reader.source reader.options (drop count bytes) (marks_by (length (drop count bytes)) pairs) (quoted (drop place.quotes quotes) (quote_characters [] (drop place.quotes quoted_are)) slots)
           (quoted (drop place.quotes quotes) (quote_characters [] (drop place.quotes quoted_are)) h.row) []

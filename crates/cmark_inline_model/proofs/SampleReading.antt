@@ -1,7 +1,7 @@
 -- The events and the HTML that the model gives for samples: for the text of one leaf, and for whole documents.
 use Rattle.std.specs.Prelude.{ℕ, true, false, List, [], ◌∷◌, ◌++◌, codes, bytes_eq, if◌then◌else◌, length, map, max, Option, Some, None}
 use Rattle.cmark_grammar.specs.BlockDocument.{BlockDocument, Reference}
-use Rattle.cmark_grammar.specs.Derivation.{document}
+use Rattle.cmark_block_model.specs.DocumentModel.{document}
 use Rattle.cmark_grammar.specs.Entities.{basic_entity}
 use Rattle.cmark_grammar.specs.Event.{Event, Start, End, Text, FootnoteReference, Ranged}
 use Rattle.cmark_grammar.specs.Html as written

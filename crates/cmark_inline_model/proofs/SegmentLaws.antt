@@ -5,7 +5,7 @@ use Rattle.cmark_grammar.specs.BlockReading.{Reads, Around, Inside, Alone, First
 use Rattle.cmark_grammar.specs.Event.{Event, Start, End, Ranged}
 use Rattle.cmark_grammar.specs.LeafText.{Stretch, InTurn}
 use Rattle.cmark_grammar.specs.Options.{Options}
-use Rattle.cmark_grammar.specs.Ranges.{InOrder}
+use Rattle.cmark_block_model.specs.Ranges.{InOrder}
 use Rattle.cmark_grammar.specs.SpanDocuments.{Segment, Given, Content, leaf_of, inside_of, node_segments, first_of_segments, with_first_segment, segments}
 use Rattle.cmark_grammar.specs.TagEnd.{end_of}
 use Rattle.cmark_inline_model.specs.OptionRules.{IsGiven}

@@ -1,12 +1,12 @@
 -- The parts of a text have exactly one list of spans, that of the model.
 use Rattle.std.proofs.Common.{◌≡◌, true, false, refl, ap, ◌∙◌, Some, None}
-use Rattle.cmark_grammar.specs.EmphasisModel.{pairs_of, spans_of}
+use Rattle.cmark_inline_model.specs.EmphasisModel.{pairs_of, spans_of}
 use Rattle.cmark_grammar.specs.Options.{Options}
 use Rattle.cmark_grammar.specs.Parts.{Parts, Nil as NoParts, Single as SinglePart, Form, Closing, Opening, Linking, Footnote, Wiki}
 use Rattle.cmark_grammar.specs.Siblings.{Inline, Around, with_quotes, runs_from, dressed_all, IsDressed, item_then, text_then, tag_by, footnote_then, wiki_tag, name_text, display_from, AreSiblings, AreSpans}
-use Rattle.cmark_grammar.specs.SiblingsModel.{dress, siblings_of, spans_in}
-use Rattle.cmark_grammar.proofs.EmphasisSound.{sound}
-use Rattle.cmark_grammar.proofs.EmphasisOne.{one}
+use Rattle.cmark_inline_model.specs.SiblingsModel.{dress, siblings_of, spans_in}
+use Rattle.cmark_inline_model.proofs.EmphasisSound.{sound}
+use Rattle.cmark_inline_model.proofs.EmphasisOne.{one}
 
 module _ (options : Options) where
   pub dress-sound : (siblings : Inline) → IsDressed options siblings (dress options siblings)

@@ -2,7 +2,7 @@
 use Rattle.std.specs.Prelude.{◌-◌, ◌==◌, ◌&&◌, ◌||◌, not, if◌then◌else◌, drop, map}
 use Rattle.std.proofs.Common.{◌≡◌, ℕ, Bool, true, false, List, [], ◌∷◌, length, Option, Some, None, refl, sym, ap, subst, ◌∙◌}
 use Rattle.cmark_grammar.specs.BlockDocument as block
-use Rattle.cmark_grammar.specs.BracketDecisions.{Named, is_there, name_in, behind, place, between, stays, forms, question, answered, with_answer, ask, defined_or_asked, refers, one_line_footnotes, is_one_line, is_footnote_label, footnote_reference, as_label, collapsed_or_shortcut, by_own_label, reference_or, unless_footnote, link_or, with_taken, wiki_text, wikilink, wikilink_or, taking, decide}
+use Rattle.cmark_grammar.specs.BracketDecisions.{Named, is_there, name_in, following, place, between, stays, forms, question, answered, with_answer, ask, defined_or_asked, refers, one_line_footnotes, is_one_line, is_footnote_label, footnote_reference, as_label, collapsed_or_shortcut, by_own_label, reference_or, unless_footnote, link_or, with_taken, wiki_text, wikilink, wikilink_or, taking, decide}
 use Rattle.cmark_grammar.specs.BracketReading.{Comes}
 use Rattle.cmark_grammar.specs.BracketStates.{State, Outcome, Decision, Settled, Asks}
 use Rattle.cmark_grammar.specs.Items.{Bracket}
@@ -10,7 +10,7 @@ use Rattle.cmark_grammar.specs.Labels.{fold, normal_form}
 use Rattle.cmark_grammar.specs.LeafText.{Leaf}
 use Rattle.cmark_grammar.specs.Letters.{first_is}
 use Rattle.cmark_grammar.specs.LinkDefinitions.{Parsed}
-use Rattle.cmark_grammar.specs.LinkTails.{LinkTail, link_tail_in, behind_collapsed, is_bracketed_label, reference_label_in}
+use Rattle.cmark_grammar.specs.LinkTails.{LinkTail, link_tail_in, after_collapsed, is_bracketed_label, reference_label_in}
 use Rattle.cmark_grammar.specs.LinkType.{Reference}
 use Rattle.cmark_grammar.specs.Lines.{is_content}
 use Rattle.cmark_grammar.specs.OpenBrackets.{Taken, nearest, used_up, doubled, tried, dropped}
@@ -94,7 +94,7 @@ module _ (reader : Reader) (leaf : Leaf) where
       let r = silent reader in
       let u = unasked t in
       let name = as_label reader leaf (drop 1 bytes) in
-      let collapsed = behind_collapsed (behind reader leaf closer.end) in
+      let collapsed = after_collapsed (following reader leaf closer.end) in
       let named = collapsed_or_shortcut reader leaf (as_label reader leaf bytes) closer.end collapsed in
       let other = collapsed_or_shortcut r leaf (as_label reader leaf bytes) closer.end collapsed in
       let same : other ≡ named = own_same (as_label reader leaf bytes) closer.end collapsed in
@@ -109,7 +109,7 @@ module _ (reader : Reader) (leaf : Leaf) where
 
   reference_falls : (found : Option Parsed) (taken : Taken) (closer : Bracket) (t : State) → Falls t (reference_or reader leaf found taken closer t) (reference_or (silent reader) leaf found taken closer (unasked t))
   reference_falls (Some found) taken closer t =
-      let end = place reader leaf found.behind in
+      let end = place reader leaf found.following in
       refers_falls (record { label = as_label reader leaf found.bytes; link_type = Reference; end = end; resume = end }) taken closer
       (record { at = t.at; expansion_left = t.expansion_left; label_close = Some (end - 1); asked = t.asked; openers = t.openers })
   reference_falls None taken closer t =
@@ -123,7 +123,7 @@ module _ (reader : Reader) (leaf : Leaf) where
   link_falls : (tail : Option LinkTail) (taken : Taken) (closer : Bracket) (t : State) → Falls t (link_or reader leaf tail taken closer t) (link_or (silent reader) leaf tail taken closer (unasked t))
   link_falls (Some tail) taken closer t = λ o k. ap unasked_outcome k
   link_falls None taken closer t =
-      let found = reference_label_in (behind reader leaf closer.end) in
+      let found = reference_label_in (following reader leaf closer.end) in
       subst (λ f. Falls t (reference_or reader leaf (unless_footnote reader leaf found) taken closer t) (reference_or (silent reader) leaf f taken closer (unasked t))) (sym (unless_same found))
       (reference_falls (unless_footnote reader leaf found) taken closer t)
 
@@ -132,7 +132,7 @@ module _ (reader : Reader) (leaf : Leaf) where
   taken_falls (Some taken) closer t =
       let r = silent reader in
       let u = unasked t in
-      let tail = link_tail_in (behind reader leaf closer.end) in
+      let tail = link_tail_in (following reader leaf closer.end) in
       by_bool t taken.opener.is_inactive taken.opener.is_inactive (Settled (stays reader leaf closer t)) (link_or reader leaf tail taken closer t) (Settled (stays r leaf closer u)) (link_or r leaf tail taken closer u)
       refl (settled t (stays reader leaf closer t) (stays r leaf closer u) refl) (link_falls tail taken closer t)
 
@@ -150,7 +150,7 @@ module _ (reader : Reader) (leaf : Leaf) where
   taking_falls taken closer t =
       let r = silent reader in
       let u = unasked t in
-      let next = reader.options.wikilinks && first_is (λ b. b == 93) (behind reader leaf closer.end) in
+      let next = reader.options.wikilinks && first_is (λ b. b == 93) (following reader leaf closer.end) in
       by_bool t next next (wikilink_or reader leaf (doubled t.openers) taken closer t) (with_taken reader leaf taken closer t) (wikilink_or r leaf (doubled t.openers) taken closer u) (with_taken r leaf taken closer u)
       refl (wikilink_falls (doubled t.openers) taken closer t) (taken_falls taken closer t)
 

@@ -6,8 +6,8 @@ use Rattle.cmark_grammar.specs.Flanking.{is_run_delimiter}
 use Rattle.cmark_grammar.specs.Autolinks.{autolink_in}
 use Rattle.cmark_grammar.specs.CodeSpans.{is_backtick, backticks, code_in}
 use Rattle.cmark_grammar.specs.Columns.{is_blank_byte}
-use Rattle.cmark_grammar.specs.Formulas.{is_dollar, Braces, no_braces, braces_behind, inline_in, display_in}
-use Rattle.cmark_grammar.specs.InlineHtml.{behind_markup}
+use Rattle.cmark_grammar.specs.Formulas.{is_dollar, Braces, no_braces, braces_after, inline_in, display_in}
+use Rattle.cmark_grammar.specs.InlineHtml.{after_markup}
 use Rattle.cmark_grammar.specs.InlineTokens.{item_at, bracket, is_plain, from, before, source_from, break_or, code_or, escaped_backtick, escape_at, entity_or, autolink_or, tag_or_text, markup_or, less_than, run_at, formula_or, dollar, smart_or, begins, begins_at, goes_on, plain_end, longest, token}
 use Rattle.cmark_grammar.specs.Items.{ItemKind, Plain, InlineMath, DisplayMath, Token, Stands, Opens, Closes, Ends}
 use Rattle.cmark_grammar.specs.LabelsOverLines.{piped}
@@ -17,7 +17,7 @@ use Rattle.cmark_grammar.specs.LineBreaks.{LineBreak, backslash_break_in, blank_
 use Rattle.cmark_grammar.specs.Lines.{is_content}
 use Rattle.cmark_grammar.specs.LinkDefinitions.{Parsed}
 use Rattle.cmark_grammar.specs.Readers.{Reader}
-use Rattle.cmark_grammar.specs.Tags.{behind_tag, no_prefix}
+use Rattle.cmark_grammar.specs.Tags.{after_tag, no_prefix}
 use Rattle.cmark_grammar.specs.Tokens.{Entity, entity_in, is_punctuation}
 use Rattle.cmark_inline_model.specs.Unanswered.{silent}
 
@@ -62,8 +62,8 @@ module _ (reader : Reader) (leaf : Leaf) where
 
   less_same : (at : ℕ) (bs : List ℕ) → less_than (silent reader) leaf at bs ≡ less_than reader leaf at bs
   less_same at bs =
-      let tag = behind_tag no_prefix (from reader leaf at) in
-      let markup = behind_markup (source_from reader leaf at) in
+      let tag = after_tag no_prefix (from reader leaf at) in
+      let markup = after_markup (source_from reader leaf at) in
       let x = markup_or (silent reader) leaf at markup (tag_or_text (silent reader) leaf at tag) in
       let y = markup_or reader leaf at markup (tag_or_text reader leaf at tag) in
       if-same (first_is (λ c. c == 92) bs) (item_at Plain at (suc at)) (autolink_or (silent reader) leaf at (autolink_in reader.options.email_autolinks bs) x) (item_at Plain at (suc at)) (autolink_or reader leaf at (autolink_in reader.options.email_autolinks bs) y)
@@ -83,7 +83,7 @@ module _ (reader : Reader) (leaf : Leaf) where
   begins_same at [] = refl
   begins_same at (b ∷ bs) =
       let plain = item_at Plain at (suc at) in
-      let braces = braces_behind false (before reader leaf at) no_braces in
+      let braces = braces_after false (before reader leaf at) no_braces in
       let last : Token = if reader.options.smart_punctuation then smart_or reader leaf at b else plain in
       let runs : Token → Token = λ t. if is_run_delimiter b then run_at reader leaf at b (prefix_len (λ c. c == b) (b ∷ bs)) else t in
       let bang : Token = if first_is (λ c. c == 91) bs then Opens (bracket true at (at + 2)) else plain in

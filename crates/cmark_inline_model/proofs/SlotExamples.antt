@@ -7,14 +7,14 @@ use Rattle.caseless.proofs.Computing.{caseless}
 use Rattle.ucd_category.proofs.Computing.{ucd_category}
 use Rattle.cmark_grammar.specs.BracketDecisions.{decide}
 use Rattle.cmark_grammar.specs.Emphasis.{agrees, pair_of, rest_of_opener, rest_of_closer, kinds_of, deactivates}
-use Rattle.cmark_grammar.specs.EmphasisModel.{closed, pairs_of}
+use Rattle.cmark_inline_model.specs.EmphasisModel.{closed, pairs_of}
 use Rattle.cmark_grammar.specs.Event.{Ranged}
 use Rattle.cmark_grammar.specs.Flanking.{is_unicode_white_space, is_unicode_punctuation}
 use Rattle.cmark_grammar.specs.InlineTokens.{token}
 use Rattle.cmark_grammar.specs.Options.{Options, no_options}
 use Rattle.cmark_grammar.specs.Quotes.{quote_characters}
 use Rattle.cmark_grammar.specs.Siblings.{Inline, quotes_of, runs_from}
-use Rattle.cmark_grammar.specs.SiblingsModel.{siblings_of}
+use Rattle.cmark_inline_model.specs.SiblingsModel.{siblings_of}
 use Rattle.cmark_inline_model.specs.LeafModel.{leaf_parts}
 use Rattle.cmark_inline_model.specs.SlotRows.{row_of, byte_places, quote_places, quoted, marked, marks_by, slot_events}
 use Rattle.cmark_inline_model.proofs.SampleReading.{never, plain_reader, whole, start, html_of, says}

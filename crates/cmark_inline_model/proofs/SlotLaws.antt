@@ -3,22 +3,22 @@ use Rattle.std.proofs.Common.{◌≡◌, ℕ, zero, suc, ◌+◌, ◌-◌, List,
 use Rattle.std.specs.Prelude.{map}
 use Rattle.std.proofs.lemmas.List.{length-set, map-append}
 use Rattle.cmark_grammar.specs.Emphasis.{Pair, IsEmphasis, places_taken}
-use Rattle.cmark_grammar.specs.EmphasisModel.{spans_of}
+use Rattle.cmark_inline_model.specs.EmphasisModel.{spans_of}
 use Rattle.cmark_grammar.specs.Event.{Start, End, Ranged}
 use Rattle.cmark_grammar.specs.InlineReading.{event_of, over, inline_events}
 use Rattle.cmark_grammar.specs.Options.{Options}
 use Rattle.cmark_grammar.specs.Quotes.{quote_characters}
 use Rattle.cmark_grammar.specs.Siblings.{Inline, Nil, Single, Around, quotes_of, with_quotes, runs_from, run_bytes, gaps_of, dressed, dressed_all, IsDressed}
-use Rattle.cmark_grammar.specs.SpanEntries.{entries_of}
+use Rattle.cmark_inline_model.specs.SpanEntries.{entries_of}
 use Rattle.cmark_grammar.specs.Spans as spans
 use Rattle.cmark_grammar.specs.Spans.{SpanKind, Emphasis, Strong, SingleTilde, DoubleTilde, Caret, DoubleEquals, Spans, TakePlaces, span_tag, span_width}
 use Rattle.cmark_grammar.specs.Tag.{Tag}
 use Rattle.cmark_grammar.specs.TagEnd.{end_of}
 use Rattle.cmark_inline_model.specs.SlotRows.{Slot, ItemSlot, BeginSlot, EndSlot, NothingSlot, seen, slots_of, LaysOut}
-use Rattle.cmark_inline_model.specs.SlotRows.{Mark, Stays, Begins, Ends, Blank, opening, closing, marks_of, marks_by, AreTight, quoted, used_up, spanned, marked, StandBehind, slot_events}
-use Rattle.cmark_grammar.proofs.SpanPlaces.{places}
-use Rattle.cmark_grammar.proofs.EmphasisOne.{one}
-use Rattle.cmark_grammar.proofs.SpanEntries.{pairs-marked}
+use Rattle.cmark_inline_model.specs.SlotRows.{Mark, Stays, Begins, Ends, Blank, opening, closing, marks_of, marks_by, AreTight, quoted, used_up, spanned, marked, StandAfter, slot_events}
+use Rattle.cmark_inline_model.proofs.SpanPlaces.{places}
+use Rattle.cmark_inline_model.proofs.EmphasisOne.{one}
+use Rattle.cmark_inline_model.proofs.SpanEntries.{pairs-marked}
 use Rattle.cmark_inline_model.proofs.SlotCells.{seen-append, seen-both, gap_at, AreCells, cells-of, bytes-taken, runs-stand}
 use Rattle.cmark_inline_model.proofs.SlotMarks.{Cell, flatten, places_from, MarksMake}
 use Rattle.cmark_inline_model.proofs.SlotQuotes.{quotes-written}
@@ -50,7 +50,7 @@ length-marked options (at ∷ places) (Blank ∷ marks) slots begun = length-mar
 -- the cells of a list of siblings with the marks of its spans
 cells-marked : (options : Options) (siblings : Inline) (before slots : List Slot) (places : List ℕ) → (c : AreCells (length before) (gaps_of siblings) (run_bytes siblings) slots places)
     → Dressed options (gaps_of siblings) (run_bytes siblings) c.cells c.byte_is c.gap_is 0 (spans_of (runs_from siblings 0)) (length c.cells)
-    → StandBehind before slots (dressed_all options siblings (spans_of (runs_from siblings 0))) (marked options places (marks_of (spans_of (runs_from siblings 0))) (before ++ slots) [])
+    → StandAfter before slots (dressed_all options siblings (spans_of (runs_from siblings 0))) (marked options places (marks_of (spans_of (runs_from siblings 0))) (before ++ slots) [])
 cells-marked options siblings before slots places c d = record { own = c.front ++ d.out; cut = cut; as_many = as_many; stand_for = stand_for }
   where
     sp : Spans
@@ -91,7 +91,7 @@ cells-marked options siblings before slots places c d = record { own = c.front +
     stand_for = seen-both (gap_at (gaps_of siblings) 0) (dressed options (gaps_of siblings) (run_bytes siblings) (spans_of (runs_from siblings 0))) c.front d.out c.front_is d.seen_is
 
 spans-make : (options : Options) (siblings : Inline) (before slots : List Slot) (bytes quotes : List ℕ) → LaysOut (length before) siblings slots bytes quotes
-    → StandBehind before slots (dressed_all options siblings (spans_of (runs_from siblings 0))) (marked options bytes (marks_of (spans_of (runs_from siblings 0))) (before ++ slots) [])
+    → StandAfter before slots (dressed_all options siblings (spans_of (runs_from siblings 0))) (marked options bytes (marks_of (spans_of (runs_from siblings 0))) (before ++ slots) [])
 spans-make options siblings before slots bytes quotes h =
     let c = cells-of siblings (length before) slots bytes quotes h in
     let sp = spans_of (runs_from siblings 0) in
@@ -136,9 +136,9 @@ pairs-write siblings pairs spans e at slots bytes quotes h =
 
 pub marks-make : (options : Options) (siblings : Inline) (pairs : List Pair) (spans : Spans) → IsEmphasis (runs_from siblings 0) pairs spans
     → (before slots : List Slot) (bytes quotes : List ℕ) → LaysOut (length before) siblings slots bytes quotes
-    → StandBehind before slots (dressed_all options siblings spans) (marked options bytes (marks_of spans) (before ++ slots) [])
+    → StandAfter before slots (dressed_all options siblings spans) (marked options bytes (marks_of spans) (before ++ slots) [])
 marks-make options siblings pairs spans e before slots bytes quotes h =
-    subst (λ sp. StandBehind before slots (dressed_all options siblings sp) (marked options bytes (marks_of sp) (before ++ slots) [])) (sym (one (runs_from siblings 0) pairs spans e).1)
+    subst (λ sp. StandAfter before slots (dressed_all options siblings sp) (marked options bytes (marks_of sp) (before ++ slots) [])) (sym (one (runs_from siblings 0) pairs spans e).1)
     (spans-make options siblings before slots bytes quotes h)
 
 pub spans-tight : (siblings : Inline) (pairs : List Pair) (spans : Spans) → IsEmphasis (runs_from siblings 0) pairs spans → AreTight (λ i. get_or (gaps_of siblings) i Nil ≡ Nil) spans

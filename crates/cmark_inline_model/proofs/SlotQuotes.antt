@@ -27,11 +27,11 @@ Quotes siblings = (before slots : List Slot) (bytes quotes cs : List ℕ) → La
 regroup : (before own more now : List Slot) (quotes cs : List ℕ) → quoted quotes cs ((before ++ own) ++ more) ≡ (before ++ own) ++ now → quoted quotes cs (before ++ (own ++ more)) ≡ before ++ (own ++ now)
 regroup before own more now quotes cs e = ap (quoted quotes cs) (sym (append_assoc before own more)) ∙ e ∙ append_assoc before own now
 
-behind : (before own : List Slot) (n : ℕ) → length own ≡ n → length (before ++ own) ≡ length before + n
-behind before own n e = length-append before own ∙ ap (λ k. length before + k) e
+following : (before own : List Slot) (n : ℕ) → length own ≡ n → length (before ++ own) ≡ length before + n
+following before own n e = length-append before own ∙ ap (λ k. length before + k) e
 
-behind_one : (before : List Slot) (s : Slot) → length (before ++ (s ∷ [])) ≡ suc (length before)
-behind_one before s = let l = length-append before (s ∷ []) in omega (arith, l)
+after_one : (before : List Slot) (s : Slot) → length (before ++ (s ∷ [])) ≡ suc (length before)
+after_one before s = let l = length-append before (s ∷ []) in omega (arith, l)
 
 abbrev character_item : Item → (cs : List ℕ) → Item
 character_item x cs = item (Written (encode_utf8 (get_or cs 0 0))) x.start x.end
@@ -41,7 +41,7 @@ item-quoted : (kind : ItemKind) (start end : ℕ) (after : Inline) → Quotes af
     → AreQuoted before slots bytes quotes cs (with_characters (Single (record { kind = kind; start = start; end = end }) after) cs)
 item-quoted (Delimiters run) start end after ih before slots bytes quotes cs h =
     let own = run_slots start run.run_length [] in
-    let n = behind before own run.run_length (length-run-slots run.run_length start) in
+    let n = following before own run.run_length (length-run-slots run.run_length start) in
     let r = ih (before ++ own) h.0 h.1 quotes cs (subst (λ k. LaysOut k after h.0 h.1 quotes) (sym n) h.4) in
     record {
       now = run_slots start run.run_length r.now;
@@ -54,7 +54,7 @@ item-quoted (Delimiters run) start end after ih before slots bytes quotes cs h =
 item-quoted (Quoted quote) start end after ih before slots bytes quotes cs h =
     let x : Item = record { kind = Quoted quote; start = start; end = end } in
     let own = ItemSlot (character_item x cs) ∷ [] in
-    let n = behind_one before (ItemSlot (character_item x cs)) in
+    let n = after_one before (ItemSlot (character_item x cs)) in
     let r = ih (before ++ own) h.0 bytes h.1 (drop 1 cs) (subst (λ k. LaysOut k after h.0 bytes h.1) (sym n) h.4) in
     let there : get_or (before ++ (ItemSlot x ∷ h.0)) (length before) NothingSlot ≡ ItemSlot x = get_here before (length before) (ItemSlot x) NothingSlot h.0 refl in
     record {
@@ -70,7 +70,7 @@ item-quoted (Quoted quote) start end after ih before slots bytes quotes cs h =
 item-quoted (FootnoteReference label) start end after ih before slots bytes quotes cs h =
     let x : Item = record { kind = FootnoteReference label; start = start; end = end } in
     let own = ItemSlot x ∷ h.0 in
-    let n = behind before own (length h.0 + 1) (let e : length own ≡ length h.0 + 1 = omega arith in e) in
+    let n = following before own (length h.0 + 1) (let e : length own ≡ length h.0 + 1 = omega arith in e) in
     let r = ih (before ++ own) h.1 bytes quotes cs (subst (λ k. LaysOut k after h.1 bytes quotes) (sym n) h.4) in
     record {
       now = ItemSlot x ∷ (h.0 ++ r.now);
@@ -79,7 +79,7 @@ item-quoted (FootnoteReference label) start end after ih before slots bytes quot
     }
 item-quoted kind start end after ih before slots bytes quotes cs h =
     let x : Item = record { kind = kind; start = start; end = end } in
-    let n = behind_one before (ItemSlot x) in
+    let n = after_one before (ItemSlot x) in
     let r = ih (before ++ (ItemSlot x ∷ [])) h.0 bytes quotes cs (subst (λ k. LaysOut k after h.0 bytes quotes) (sym n) h.2) in
     record {
       now = ItemSlot x ∷ r.now;
@@ -95,7 +95,7 @@ quotes-written (Around tag start end inside after) before slots bytes quotes cs 
     let inner = h.0 in
     let own = BeginSlot tag start end ∷ (inner ++ (EndSlot ∷ [])) in
     let many : length own ≡ length inner + 2 = (let l = length-append inner (EndSlot ∷ []) in omega (arith, l)) in
-    let n = behind before own (length inner + 2) many in
+    let n = following before own (length inner + 2) many in
     let r = quotes-written after (before ++ own) h.1 bytes quotes cs (subst (λ k. LaysOut k after h.1 bytes quotes) (sym n) h.4) in
     let group : (l : List Slot) → BeginSlot tag start end ∷ (inner ++ (EndSlot ∷ l)) ≡ own ++ l = λ l. ap (λ k. BeginSlot tag start end ∷ k) (sym (append_assoc inner (EndSlot ∷ []) l)) in
     record {

@@ -121,8 +121,8 @@ module _ (options : Options) (gaps : List Inline) (bytes : List Item) (cells : L
       let mi = marks_of inside in
       let ma = marks_of after in
       let between = (at_cell n).gap ++ k.out in
-      let behind = (at_cell c).gap ++ l.out in
-      let out : List Slot = closed_by (span_tag options span.kind) (at_cell n).byte.start (at_cell c).byte.end between behind in
+      let following = (at_cell c).gap ++ l.out in
+      let out : List Slot = closed_by (span_tag options span.kind) (at_cell n).byte.start (at_cell c).byte.end between following in
       let made : MarksMake options (Begins span.kind ∷ (mi ++ (Ends span.kind ∷ ma))) (at_cell n ∷ (from k.count (suc n) ++ (at_cell c ∷ from l.count (suc c)))) out =
       around_marks options span.kind mi ma (at_cell n) (from k.count (suc n)) (at_cell c) (from l.count (suc c)) k.out l.out (subst (λ i. MarksMake options mi (from k.count i) k.out) one k.marks)
       (subst (λ i. MarksMake options ma (from l.count i) l.out) next l.marks) in
@@ -133,7 +133,7 @@ module _ (options : Options) (gaps : List Inline) (bytes : List Item) (cells : L
         marks = subst (λ x. MarksMake options x (from (suc (k.count + suc l.count)) n) out) (sym (thin-marks span.kind mi ma op cl))
             (subst (λ x. MarksMake options (Begins span.kind ∷ (mi ++ (Ends span.kind ∷ ma))) (at_cell n ∷ x) out) (sym (cells-split cells k.count (suc l.count) (suc n))) made);
         seen_is =
-            seen-closed (span_tag options span.kind) (at_cell n).byte.start (at_cell c).byte.end between behind (append (gap (suc n)) (inner inside)) (append (gap (suc c)) (inner after))
+            seen-closed (span_tag options span.kind) (at_cell n).byte.start (at_cell c).byte.end between following (append (gap (suc n)) (inner inside)) (append (gap (suc c)) (inner after))
             (seen-both (gap (suc n)) (inner inside) (at_cell n).gap k.out (same_gap n) k.seen_is) (seen-both (gap (suc c)) (inner after) (at_cell c).gap l.out (same_gap c) l.seen_is)
             ∙ placed-is span inside after n c (suc n) (suc c) st last first next;
       }
@@ -154,8 +154,8 @@ module _ (options : Options) (gaps : List Inline) (bytes : List Item) (cells : L
       let middle = from k.count (suc (suc n)) in
       let others = from l.count (suc (suc c)) in
       let between = (at_cell n).gap ++ ((NothingSlot ∷ (at_cell (suc n)).gap) ++ (k.out ++ (NothingSlot ∷ (at_cell c).gap))) in
-      let behind = (at_cell (suc c)).gap ++ l.out in
-      let out : List Slot = closed_by (span_tag options span.kind) (at_cell n).byte.start (at_cell (suc c)).byte.end between behind in
+      let following = (at_cell (suc c)).gap ++ l.out in
+      let out : List Slot = closed_by (span_tag options span.kind) (at_cell n).byte.start (at_cell (suc c)).byte.end between following in
       let marks = Begins span.kind ∷ (((Blank ∷ []) ++ (mi ++ (Blank ∷ []))) ++ (Ends span.kind ∷ ma)) in
       let made : MarksMake options marks (at_cell n ∷ (((at_cell (suc n) ∷ []) ++ (middle ++ (at_cell c ∷ []))) ++ (at_cell (suc c) ∷ others))) out =
       wide_marks options span.kind mi ma (at_cell n) (at_cell (suc n)) middle (at_cell c) (at_cell (suc c)) others k.out l.out (subst (λ i. MarksMake options mi (from k.count i) k.out) two k.marks)
@@ -169,7 +169,7 @@ module _ (options : Options) (gaps : List Inline) (bytes : List Item) (cells : L
         marks = subst (λ x. MarksMake options x (from (suc (suc (k.count + suc (suc l.count)))) n) out) (sym (wide-ringed span.kind mi ma op cl))
             (subst (λ x. MarksMake options marks (at_cell n ∷ (at_cell (suc n) ∷ x)) out) (append_assoc middle (at_cell c ∷ []) (at_cell (suc c) ∷ others) ∙ sym (cells-split cells k.count (suc (suc l.count)) (suc (suc n)))) made);
         seen_is =
-            seen-closed (span_tag options span.kind) (at_cell n).byte.start (at_cell (suc c)).byte.end between behind (append (gap (suc (suc n))) (inner inside)) (append (gap (suc (suc c))) (inner after))
+            seen-closed (span_tag options span.kind) (at_cell n).byte.start (at_cell (suc c)).byte.end between following (append (gap (suc (suc n))) (inner inside)) (append (gap (suc (suc c))) (inner after))
             (seen-between (at_cell n).gap (at_cell (suc n)).gap k.out (at_cell c).gap (gap (suc (suc n))) (inner inside) (same_gap n ∙ ap slots_of g1) (same_gap (suc n)) k.seen_is (same_gap c ∙ ap slots_of g2))
             (seen-both (gap (suc (suc c))) (inner after) (at_cell (suc c)).gap l.out (same_gap (suc c)) l.seen_is)
             ∙ placed-is span inside after n (suc c) (suc (suc n)) (suc (suc c)) st last first next;

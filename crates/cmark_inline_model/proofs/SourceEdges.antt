@@ -6,7 +6,7 @@ use Rattle.std.proofs.lemmas.Bool.{ltb-true, ltb-false}
 use Rattle.std.proofs.lemmas.List.{get_or-drop, length-take}
 use Rattle.std.proofs.lemmas.Str.{IsCharBoundary-after_ascii, IsCharBoundary-before_ascii, IsCharBoundary-end, IsCharBoundary-start, IsUtf8-append, IsUtf8-between, IsUtf8-nil}
 use Rattle.cmark_grammar.specs.Autolinks.{autolink_in}
-use Rattle.cmark_grammar.specs.InlineHtml.{behind_markup, takes_lines}
+use Rattle.cmark_grammar.specs.InlineHtml.{after_markup, takes_lines}
 use Rattle.cmark_grammar.specs.InlineTokens.{item_at, from, place_of, read_on, size_to, source_from, autolink_or, markup_or, tag_or_text, less_than, begins, begins_at, longest, plain_end, token}
 use Rattle.cmark_grammar.specs.Items as items
 use Rattle.cmark_grammar.specs.Items.{ItemKind, Plain, Own, Delimiters, Autolink, Html, OwnedHtml, Item, Bracket, Token, Stands, Opens, Closes, Ends}
@@ -15,14 +15,14 @@ use Rattle.cmark_grammar.specs.Letters.{first_is}
 use Rattle.cmark_grammar.specs.Lines.{is_content}
 use Rattle.cmark_grammar.specs.LinkDefinitions.{Parsed}
 use Rattle.cmark_grammar.specs.Readers.{Reader}
-use Rattle.cmark_grammar.specs.Tags.{behind_tag, no_prefix}
+use Rattle.cmark_grammar.specs.Tags.{after_tag, no_prefix}
 use Rattle.cmark_grammar.specs.Tokens.{slice}
 use Rattle.cmark_inline_model.specs.PlacedLeaves.{IsPlaced}
 use Rattle.cmark_inline_model.specs.PlacedTokens.{AreLeafPlaces, IsParted, may_open_markup, one_stretch, placed, text_reader}
 use Rattle.cmark_inline_model.specs.TextPlaces.{place_in, text_of}
-use Rattle.cmark_inline_model.proofs.FindRests.{IsBehind, tag-behind}
+use Rattle.cmark_inline_model.proofs.FindRests.{IsAfter, tag-following}
 use Rattle.cmark_inline_model.proofs.LeafPlaces.{by_size}
-use Rattle.cmark_inline_model.proofs.LinkRests.{LeavesBehind, markup-behind}
+use Rattle.cmark_inline_model.proofs.LinkRests.{LeavesAfter, markup-following}
 use Rattle.cmark_inline_model.proofs.PlacedTokens.{from-place, read-on}
 use Rattle.cmark_inline_model.proofs.PlainTokens.{NotPlain, markup-not, token-at}
 use Rattle.cmark_inline_model.proofs.TextEdges as texts
@@ -95,8 +95,8 @@ module _ (reader : Reader) (leaf : Leaf) (at : IsPlaced reader leaf) (utf8 : IsU
   pub at-ascii : (i : ℕ) → Ascii i → Edge i
   at-ascii i a = IsCharBoundary-before_ascii reader.source i a.0 a.1
 
-  pub behind-ascii : (i : ℕ) → Ascii i → Edge (suc i)
-  behind-ascii i a = subst Edge (let e : i + 1 ≡ suc i = omega arith in e) (IsCharBoundary-after_ascii reader.source i utf8 a.0 a.1)
+  pub following-ascii : (i : ℕ) → Ascii i → Edge (suc i)
+  following-ascii i a = subst Edge (let e : i + 1 ≡ suc i = omega arith in e) (IsCharBoundary-after_ascii reader.source i utf8 a.0 a.1)
 
   -- the place of a byte of the text with which a character begins, or of its end
   pub record At (p : ℕ) : Type 0 where
@@ -135,7 +135,7 @@ module _ (reader : Reader) (leaf : Leaf) (at : IsPlaced reader leaf) (utf8 : IsU
       go true c =
           let n = h.places.next (e - 1) lt c in
           subst Edge (ap place (let q : e ≡ suc (e - 1) = omega arith in q) ∙ n) (place-edge e edge)
-      go false c = behind-ascii (place (e - 1)) (ascii-there (e - 1) lt (ends-low (get_or text (e - 1) 0) c))
+      go false c = following-ascii (place (e - 1)) (ascii-there (e - 1) lt (ends-low (get_or text (e - 1) 0) c))
 
   -- ## After markup that is searched in the source
 
@@ -162,11 +162,11 @@ module _ (reader : Reader) (leaf : Leaf) (at : IsPlaced reader leaf) (utf8 : IsU
               full = let w = c.within in omega arith
 
               step : (x ≤ place n) ⊎ (place n < x) → Cut x (suc n)
-              step (inl behind) = record {
+              step (inl following) = record {
                 count = n;
                 within = omega arith;
                 earlier = λ k lt. c.earlier k (omega (arith, full, lt));
-                later = λ k a b. subst (λ i. x ≤ place i) (let q : n ≡ k = omega arith in q) behind;
+                later = λ k a b. subst (λ i. x ≤ place i) (let q : n ≡ k = omega arith in q) following;
               }
               step (inr before) = record { count = suc n; within = omega arith; earlier = λ k lt. one-more k lt (le_or n k); later = λ k a b. absurd (omega arith) }
                 where
@@ -190,8 +190,8 @@ module _ (reader : Reader) (leaf : Leaf) (at : IsPlaced reader leaf) (utf8 : IsU
       go (inl le) = subst TextEdge (let w = p.within in let q : length text ≡ count = omega arith in q) (IsCharBoundary-end text)
       go (inr lt) = by (le_or (place count) x)
         where
-          behind : x ≤ place count
-          behind = p.later count (omega arith) lt
+          following : x ≤ place count
+          following = p.later count (omega arith) lt
 
           first : (c : ℕ) → count ≡ c → x < place count → TextEdge count
           first zero e less = subst TextEdge (sym e) (IsCharBoundary-start text whole-text)
@@ -205,7 +205,7 @@ module _ (reader : Reader) (leaf : Leaf) (at : IsPlaced reader leaf) (utf8 : IsU
                   let n = h.places.next c (omega arith) q in
                   let s = ap place e in
                   absurd (let d : ⊥ = omega arith in d)
-              kind false q = subst TextEdge (sym e) (texts.behind-ascii reader.options reader.lookup leaf.is_cell text whole-text c (omega arith, ends-low (get_or text c 0) q))
+              kind false q = subst TextEdge (sym e) (texts.following-ascii reader.options reader.lookup leaf.is_cell text whole-text c (omega arith, ends-low (get_or text c 0) q))
 
           by : (place count ≤ x) ⊎ (x < place count) → TextEdge count
           by (inl le) =
@@ -284,7 +284,7 @@ module _ (reader : Reader) (leaf : Leaf) (at : IsPlaced reader leaf) (utf8 : IsU
         record {
           starts = place-edge o.start w.0;
           ends = place-edge o.end w.1;
-          first = behind-ascii (place o.start) (ascii-there o.start s.0 s.1.ascii);
+          first = following-ascii (place o.start) (ascii-there o.start s.0 s.1.ascii);
           short = λ e. ap place (w.4 e) ∙ next;
         },
         record { k = o.end; within = w.1.0; edge = w.1; is = refl },
@@ -335,10 +335,10 @@ module _ (reader : Reader) (leaf : Leaf) (at : IsPlaced reader leaf) (utf8 : IsU
     second : At (suc (place k))
     second =
         let n = h.places.next k inside-text (ap is_content byte) in
-        record { k = suc k; within = inside-text; edge = texts.behind-ascii reader.options reader.lookup leaf.is_cell text whole-text k (inside-text, (let e = byte in omega arith)); is = sym n }
+        record { k = suc k; within = inside-text; edge = texts.following-ascii reader.options reader.lookup leaf.is_cell text whole-text k (inside-text, (let e = byte in omega arith)); is = sym n }
 
     -- after a byte of the text
-    rest-at : (rest : List ℕ) → IsBehind (60 ∷ bs) rest → At (place_of reader leaf rest)
+    rest-at : (rest : List ℕ) → IsAfter (60 ∷ bs) rest → At (place_of reader leaf rest)
     rest-at rest b =
         let i = b.inside in
         let a = text-ascii b.place i b.ascii in
@@ -347,11 +347,11 @@ module _ (reader : Reader) (leaf : Leaf) (at : IsPlaced reader leaf) (utf8 : IsU
         record {
           k = k + suc b.place;
           within = (let f = a.0 in omega arith);
-          edge = subst TextEdge w (texts.behind-ascii reader.options reader.lookup leaf.is_cell text whole-text (k + b.place) a);
+          edge = subst TextEdge w (texts.following-ascii reader.options reader.lookup leaf.is_cell text whole-text (k + b.place) a);
           is = ap (place_of reader leaf) rest_is;
         }
 
-    tag-whole : (found : Option (List ℕ)) → ((rest : List ℕ) → found ≡ Some rest → IsBehind (60 ∷ bs) rest) → Whole (tag_or_text reader leaf (place k) found)
+    tag-whole : (found : Option (List ℕ)) → ((rest : List ℕ) → found ≡ Some rest → IsAfter (60 ∷ bs) rest) → Whole (tag_or_text reader leaf (place k) found)
     tag-whole None b = (start, at-edge (suc (place k)) second, second, tt)
     tag-whole (Some rest) b = kind (takes_lines (take (size_to reader leaf (place k) rest) (from reader leaf (place k))))
       where
@@ -362,7 +362,7 @@ module _ (reader : Reader) (leaf : Leaf) (at : IsPlaced reader leaf) (utf8 : IsU
         kind true = (start, at-edge (place_of reader leaf rest) a, a, tt)
         kind false = (start, at-edge (place_of reader leaf rest) a, a, tt)
 
-    markup-whole : (found : Option (List ℕ)) (other : Token) → LeavesBehind (source_from reader leaf (place k)) found → Whole other → Whole (markup_or reader leaf (place k) found other)
+    markup-whole : (found : Option (List ℕ)) (other : Token) → LeavesAfter (source_from reader leaf (place k)) found → Whole other → Whole (markup_or reader leaf (place k) found other)
     markup-whole None other b w = w
     markup-whole (Some rest) other b w = (start, ends, read-on-at end ends, tt)
       where
@@ -379,7 +379,7 @@ module _ (reader : Reader) (leaf : Leaf) (at : IsPlaced reader leaf) (utf8 : IsU
             let d = length-drop (suc b.place) source in
             let c = cut-slice reader.source (place k) (end_of leaf.stretches) b.place i in
             let size : suc (place k + b.place) ≡ end = omega (arith, i, r, d) in
-            subst Edge size (behind-ascii (place k + b.place) (c.0, subst (λ x. x < 128) c.1 b.ascii))
+            subst Edge size (following-ascii (place k + b.place) (c.0, subst (λ x. x < 128) c.1 b.ascii))
           where
             cut-slice : (l : List ℕ) (from to i : ℕ) → i < length (slice l from to) → (from + i < length l) × (get_or (slice l from to) i 0 ≡ get_or l (from + i) 0)
             cut-slice l from to i lt =
@@ -395,12 +395,12 @@ module _ (reader : Reader) (leaf : Leaf) (at : IsPlaced reader leaf) (utf8 : IsU
 
     less_than-whole : autolink_in reader.options.email_autolinks bs ≡ None → first_is (λ c. (c == 33) || (c == 63)) bs ≡ true → Whole (less_than reader leaf (place k) bs)
     less_than-whole link opens =
-        let tag = tag_or_text reader leaf (place k) (behind_tag no_prefix (from reader leaf (place k))) in
-        let others = markup_or reader leaf (place k) (behind_markup (source_from reader leaf (place k))) tag in
+        let tag = tag_or_text reader leaf (place k) (after_tag no_prefix (from reader leaf (place k))) in
+        let others = markup_or reader leaf (place k) (after_markup (source_from reader leaf (place k))) tag in
         subst (λ z. Whole (if z then item_at Plain (place k) (suc (place k)) else autolink_or reader leaf (place k) (autolink_in reader.options.email_autolinks bs) others)) (sym (slash bs opens))
         (subst (λ o. Whole (autolink_or reader leaf (place k) o others)) (sym link)
-        (markup-whole (behind_markup (source_from reader leaf (place k))) tag (markup-behind (source_from reader leaf (place k)))
-        (tag-whole (behind_tag no_prefix (from reader leaf (place k))) (λ rest f. tag-behind (60 ∷ bs) rest (ap (behind_tag no_prefix) (sym there) ∙ f)))))
+        (markup-whole (after_markup (source_from reader leaf (place k))) tag (markup-following (source_from reader leaf (place k)))
+        (tag-whole (after_tag no_prefix (from reader leaf (place k))) (λ rest f. tag-following (60 ∷ bs) rest (ap (after_tag no_prefix) (sym there) ∙ f)))))
       where
         slash : (l : List ℕ) → first_is (λ c. (c == 33) || (c == 63)) l ≡ true → first_is (λ c. c == 92) l ≡ false
         slash [] e = cc

@@ -4,7 +4,7 @@ use Rattle.std.proofs.Common.{◌≡◌, ℕ, ◌+◌, ◌<◌, ◌≤◌, Bool,
 use Rattle.cmark_grammar.specs.Autolinks.{has_scheme}
 use Rattle.cmark_grammar.specs.BracketDecisions.{linked as leading}
 use Rattle.cmark_grammar.specs.Emphasis.{StandFrom, places_taken}
-use Rattle.cmark_grammar.specs.EmphasisModel.{spans_of}
+use Rattle.cmark_inline_model.specs.EmphasisModel.{spans_of}
 use Rattle.cmark_grammar.specs.Event.{Start, End, Ranged}
 use Rattle.cmark_grammar.specs.InlineReading.{inline_events, over}
 use Rattle.cmark_grammar.specs.Items.{ItemKind, Own, Item}
@@ -13,15 +13,15 @@ use Rattle.cmark_grammar.specs.Options.{Options}
 use Rattle.cmark_grammar.specs.Parts.{Parts, Nil as NoParts, Single as SinglePart, Form, Closing, Opening, Linking, Footnote, Wiki}
 use Rattle.cmark_grammar.specs.Quotes.{quote_characters}
 use Rattle.cmark_grammar.specs.Siblings.{Inline, Nil, Single, Around, append, item, quotes_of, quote_as, with_characters, with_quotes, run_then, runs_from, run_bytes, put_gap, no_gaps, gap_then, gaps_of, no_item, element, dressed, item_then, footnote_then, tag_by, wiki_tag, from_place, display_from, address_link}
-use Rattle.cmark_grammar.specs.SiblingsModel.{dress, siblings_of, spans_in}
+use Rattle.cmark_inline_model.specs.SiblingsModel.{dress, siblings_of, spans_in}
 use Rattle.cmark_grammar.specs.Spans as spans
 use Rattle.cmark_grammar.specs.Spans.{SpanKind, Emphasis, Strong, SingleTilde, DoubleTilde, Caret, DoubleEquals, span_tag, span_width, Spans, TakePlaces}
 use Rattle.cmark_grammar.specs.Tag.{Tag, Linked}
 use Rattle.cmark_grammar.specs.TagEnd.{end_of}
-use Rattle.cmark_grammar.proofs.SpanPlaces.{places}
+use Rattle.cmark_inline_model.proofs.SpanPlaces.{places}
 use Rattle.cmark_inline_model.specs.ReferenceExpansion.{cost_as, costs}
 use Rattle.cmark_inline_model.specs.ReadingLinks.{LinkEvent, Begins, Finishes, Neither, of_tag, own_cost, costs_by, reference_costs}
-use Rattle.cmark_inline_model.proofs.CostLists.{Fewer, fewer-same, fewer-then, fewer-behind, fewer-both}
+use Rattle.cmark_inline_model.proofs.CostLists.{Fewer, fewer-same, fewer-then, fewer-following, fewer-both}
 use Rattle.cmark_inline_model.proofs.KindViews.{KindView, AQuote, ARun, AnAutolink, AText, kind-view}
 use Rattle.cmark_inline_model.proofs.LinkSpans.{TagView, ALink, NoLink, tag-view, span-neither, item-neither}
 use Rattle.cmark_inline_model.proofs.SpanElements.{quoted_then, other_then}
@@ -186,7 +186,7 @@ module _ (priced : Tag → (end : ℕ) → List ℕ) (price : Linked → (end : 
     element_costs kind start end inside after first second h k = go (span_tag options kind) refl
       where
         go : (tag : Option Tag) → span_tag options kind ≡ tag → Fewer (priced_in (element tag start end inside after)) (first ++ second)
-        go None e = fewer-behind first (priced_in after) second k
+        go None e = fewer-following first (priced_in after) second k
         go (Some tag) e =
             subst (λ l. Fewer (priced_in inside ++ (l ++ priced_in after)) (first ++ second)) (sym (is_priced.span options kind tag end e))
             (fewer-both (priced_in inside) first (priced_in after) second h k)
@@ -229,8 +229,8 @@ module _ (priced : Tag → (end : ℕ) → List ℕ) (price : Linked → (end : 
         (append (get_or gaps (span.start + w) Nil) (dressed options gaps bytes inside))
         (append (get_or gaps span.end Nil) (dressed options gaps bytes after))
         (some_gaps (n + w) (suc a)) (some_gaps (suc h.mid) (w - 1) ++ some_gaps span.end (suc b))
-        inner (fewer-behind (some_gaps (suc h.mid) (w - 1)) _ (some_gaps span.end (suc b)) others) in
-        subst (Fewer (priced_in (dressed options gaps bytes (spans.Around span inside after)))) (sym split) (fewer-behind (some_gaps (suc n) (w - 1)) _ _ whole)
+        inner (fewer-following (some_gaps (suc h.mid) (w - 1)) _ (some_gaps span.end (suc b)) others) in
+        subst (Fewer (priced_in (dressed options gaps bytes (spans.Around span inside after)))) (sym split) (fewer-following (some_gaps (suc n) (w - 1)) _ _ whole)
 
   gaps_shift : (options : Options) (bytes : List Item) (gap : Inline) (gaps : List Inline) (n count : ℕ) → some_gaps options (gap ∷ gaps) bytes (suc n) count ≡ some_gaps options gaps bytes n count
   gaps_shift options bytes gap gaps n zero = refl
@@ -276,8 +276,8 @@ module _ (priced : Tag → (end : ℕ) → List ℕ) (price : Linked → (end : 
       where
         go : (b : Bool) → Fewer (priced_in (from_place place after)) (priced_in after) → Fewer (priced_in (if b then from_place place after else Around tag (max start place) end inside after)) (priced_in (Around tag start end inside after))
         go true i =
-            fewer-behind (priced_in inside) (priced_in (from_place place after)) (priced tag end ++ priced_in after)
-            (fewer-behind (priced tag end) (priced_in (from_place place after)) (priced_in after) i)
+            fewer-following (priced_in inside) (priced_in (from_place place after)) (priced tag end ++ priced_in after)
+            (fewer-following (priced tag end) (priced_in (from_place place after)) (priced_in after) i)
         go false i = fewer-same (priced_in (Around tag start end inside after))
 
     display_costs : (place end : ℕ) (siblings : Inline) → Fewer (priced_in (display_from place end siblings)) (priced_in siblings)
@@ -305,10 +305,10 @@ module _ (priced : Tag → (end : ℕ) → List ℕ) (price : Linked → (end : 
         (fewer-both (price target.linked target.end) (price target.linked target.end) (priced_in (siblings_of options after)) (prices after) (fewer-same (price target.linked target.end)) (siblings_costs after)))
     siblings_costs (Form opener inside closer (Footnote label end) after) =
         subst (λ l. Fewer l (prices inside ++ prices after)) (sym (footnote_costs opener.is_image opener.start label end (siblings_of options after)))
-        (fewer-behind (prices inside) (priced_in (siblings_of options after)) (prices after) (siblings_costs after))
+        (fewer-following (prices inside) (priced_in (siblings_of options after)) (prices after) (siblings_costs after))
     siblings_costs (Form opener inside closer (Wiki name None end) after) =
         subst (λ l. Fewer (l ++ priced_in (siblings_of options after)) (prices inside ++ prices after)) (sym (wiki_costs opener.is_image name false end))
-        (fewer-behind (prices inside) (priced_in (siblings_of options after)) (prices after) (siblings_costs after))
+        (fewer-following (prices inside) (priced_in (siblings_of options after)) (prices after) (siblings_costs after))
     siblings_costs (Form opener inside closer (Wiki name (Some place) end) after) =
         let inner = siblings_of options inside in
         let display = display_from place closer.start inner in

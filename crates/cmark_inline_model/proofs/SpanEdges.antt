@@ -5,7 +5,7 @@ use Rattle.std.proofs.Common.{◌≡◌, ℕ, ◌+◌, ◌<◌, ◌≤◌, Bool,
 use Rattle.std.proofs.lemmas.Str.{IsCharBoundary-start}
 use Rattle.cmark_grammar.specs.BlockDocument.{BlockDocument, BlockNode, Nil as NoNodes, Node}
 use Rattle.cmark_grammar.specs.BlockReading.{Reads as ReadsAs, Around as AroundNode, Inside, Alone, First, Silent, first_event, is_leaf, over, read_as, starts_before}
-use Rattle.cmark_grammar.specs.EmphasisModel.{spans_of}
+use Rattle.cmark_inline_model.specs.EmphasisModel.{spans_of}
 use Rattle.cmark_grammar.specs.Event.{End, Ranged}
 use Rattle.cmark_grammar.specs.InlineReading.{inline_events}
 use Rattle.cmark_grammar.specs.Items.{ItemKind, Plain, Own, Written, Quoted, Delimiters, Code, InlineMath, DisplayMath, Autolink, Html, OwnedHtml, FootnoteReference, SoftBreak, HardBreak, Item}
@@ -15,18 +15,18 @@ use Rattle.cmark_grammar.specs.Options.{Options}
 use Rattle.cmark_grammar.specs.Parts.{Parts, Nil as NoParts, Single as SinglePart, Form, Closing, Opening, Linking, Footnote, Wiki}
 use Rattle.cmark_grammar.specs.Questions.{Exchange, IsNext, Saying}
 use Rattle.cmark_grammar.specs.Quotes.{quote_characters}
-use Rattle.cmark_grammar.specs.Ranges.{AllAt}
+use Rattle.cmark_block_model.specs.Ranges.{AllAt}
 use Rattle.cmark_grammar.specs.Readers.{Reader}
 use Rattle.cmark_grammar.specs.Siblings.{Inline, Nil, Single, Around, append, item, quotes_of, quote_as, with_characters, with_quotes, runs_from, bytes_then, run_bytes_then, run_bytes, put_gap, no_gaps, gap_then, gaps_of, no_item, element, dressed, item_then, footnote_then, from_place, display_from}
-use Rattle.cmark_grammar.specs.SiblingsModel.{dress, siblings_of, spans_in}
+use Rattle.cmark_inline_model.specs.SiblingsModel.{dress, siblings_of, spans_in}
 use Rattle.cmark_grammar.specs.SpanDocuments.{Content, Given, IsReading, Profile, ReadsAll, Segment, at_start, first_of_segments, inside_of, leaf_of, node_segments, reader_of, segments, stretches_of, with_first_segment}
 use Rattle.cmark_grammar.specs.Spans as spans
 use Rattle.cmark_grammar.specs.Spans.{span_tag, span_width, Spans}
 use Rattle.cmark_grammar.specs.Tag.{Tag}
 use Rattle.cmark_grammar.specs.TagEnd.{end_of as end_of_tag}
-use Rattle.cmark_grammar.proofs.BoundaryLaws.{derived-boundaries}
+use Rattle.cmark_block_model.proofs.BoundaryLaws.{derived-boundaries}
 use Rattle.cmark_inline_model.specs.CharacterRanges.{CutNoCharacter, HaveRanges}
-use Rattle.cmark_inline_model.specs.CutRanges.{IsBehindPipe}
+use Rattle.cmark_inline_model.specs.CutRanges.{IsAfterPipe}
 use Rattle.cmark_inline_model.specs.LeafModel.{HaveLineEnds}
 use Rattle.cmark_inline_model.specs.PlacedLeaves.{AreLeavesPlaced, IsPlaced}
 use Rattle.cmark_inline_model.specs.TextPlaces.{place_in, text_of}
@@ -52,7 +52,7 @@ max-of P a b p q = go (nat_le a b) refl
     go true e = subst P (let l : a ≤ b = grind (arith) in let m : b ≡ max a b = omega arith in m) q
     go false e = subst P (let l : b < a = grind (arith) in let m : a ≡ max a b = omega arith in m) p
 
-module _ (Edge : ℕ → Type 0) (Ascii : ℕ → Type 0) (at-ascii : (i : ℕ) → Ascii i → Edge i) (behind-ascii : (i : ℕ) → Ascii i → Edge (suc i)) (at-start : Edge 0) where
+module _ (Edge : ℕ → Type 0) (Ascii : ℕ → Type 0) (at-ascii : (i : ℕ) → Ascii i → Edge i) (following-ascii : (i : ℕ) → Ascii i → Edge (suc i)) (at-start : Edge 0) where
   -- both ends of each item and of each element are such places
   abbrev pub AllEdges : Inline → Type 0
   AllEdges Nil = Unit {0}
@@ -142,7 +142,7 @@ module _ (Edge : ℕ → Type 0) (Ascii : ℕ → Type 0) (at-ascii : (i : ℕ) 
   run-edges start zero after f h = h
   run-edges start (suc n) after f h =
       let a = subst Ascii (let q : start + 0 ≡ start = omega arith in q) (f 0 (omega arith)) in
-      (at-ascii start a, behind-ascii start a, run-edges (suc start) n after (λ i lt. subst Ascii (let q : start + suc i ≡ suc start + i = omega arith in q) (f (suc i) (omega arith))) h)
+      (at-ascii start a, following-ascii start a, run-edges (suc start) n after (λ i lt. subst Ascii (let q : start + suc i ≡ suc start + i = omega arith in q) (f (suc i) (omega arith))) h)
 
   bytes-edges : (siblings : Inline) → SiblingEdges siblings → ByteEdges (run_bytes siblings)
   bytes-edges Nil h = tt
@@ -200,7 +200,7 @@ module _ (Edge : ℕ → Type 0) (Ascii : ℕ → Type 0) (at-ascii : (i : ℕ) 
       edges-append (get_or (gaps_of q) 0 Nil) (dressed options (gaps_of q) (run_bytes q) (spans_of (runs_from q 0))) (gap-at (gaps_of q) 0 g)
       (dressed-edges options (gaps_of q) (run_bytes q) g (bytes-edges q k) (spans_of (runs_from q 0)))
 
-  -- ## Behind a pipe
+  -- ## Following a pipe
 
   cut-run : (kind : ItemKind) (place start end : ℕ) → place < end → FreeBy kind place start end → RunBytes kind start → RunBytes kind (max start place)
   cut-run (Delimiters run) place start end lt f r = go (nat_le place start) refl
@@ -266,24 +266,24 @@ module _ (reader : Reader) (leaf : Leaf) (at : IsPlaced reader leaf) (utf8 : IsU
   abbrev at-ascii : (i : ℕ) → Ascii i → Edge i
   at-ascii i a = edges.at-ascii reader leaf at utf8 ends i a
 
-  abbrev behind-ascii : (i : ℕ) → Ascii i → Edge (suc i)
-  behind-ascii i a = edges.behind-ascii reader leaf at utf8 ends i a
+  abbrev following-ascii : (i : ℕ) → Ascii i → Edge (suc i)
+  following-ascii i a = edges.following-ascii reader leaf at utf8 ends i a
 
   abbrev at-start : Edge 0
   at-start = IsCharBoundary-start reader.source utf8
 
   abbrev Siblings : Inline → Type 0
-  Siblings siblings = SiblingEdges Edge Ascii at-ascii behind-ascii at-start siblings
+  Siblings siblings = SiblingEdges Edge Ascii at-ascii following-ascii at-start siblings
 
   abbrev All : Inline → Type 0
-  All spans = AllEdges Edge Ascii at-ascii behind-ascii at-start spans
+  All spans = AllEdges Edge Ascii at-ascii following-ascii at-start spans
 
   -- an offset after a pipe
-  pipe-edge : (p : ℕ) → IsBehindPipe reader.options reader.source p → Edge p
+  pipe-edge : (p : ℕ) → IsAfterPipe reader.options reader.source p → Edge p
   pipe-edge p b =
       let s = b.some in
       let lt = there (p - 1) reader.source b.pipe in
-      subst Edge (let q : suc (p - 1) ≡ p = omega arith in q) (behind-ascii (p - 1) (lt, (let e = b.pipe in omega arith)))
+      subst Edge (let q : suc (p - 1) ≡ p = omega arith in q) (following-ascii (p - 1) (lt, (let e = b.pipe in omega arith)))
     where
       there : (i : ℕ) (l : List ℕ) → get_or l i 0 ≡ 124 → i < length l
       there i [] e = absurd (let d : ⊥ = omega arith in d)
@@ -294,20 +294,20 @@ module _ (reader : Reader) (leaf : Leaf) (at : IsPlaced reader leaf) (utf8 : IsU
   item-edges x after a b c f k = go x.kind refl c f
     where
       go : (kind : ItemKind) → x.kind ≡ kind → edges.Bytes reader leaf at utf8 ends kind x.start x.end → Fills kind x.start x.end → Siblings (item_then kind x after)
-      go (Delimiters run) e c f = (a, b, subst (λ q. RunBytes Edge Ascii at-ascii behind-ascii at-start q x.start) (sym e) (λ i lt. c (x.start + i) (omega arith) (omega arith)), k)
-      go (Autolink uri) e c f = (a, b, (behind-ascii x.start c.0, at-ascii (x.end - 1) c.1, tt), k)
-      go Plain e c f = (a, b, subst (λ q. RunBytes Edge Ascii at-ascii behind-ascii at-start q x.start) (sym e) tt, k)
-      go Own e c f = (a, b, subst (λ q. RunBytes Edge Ascii at-ascii behind-ascii at-start q x.start) (sym e) tt, k)
-      go (Written text) e c f = (a, b, subst (λ q. RunBytes Edge Ascii at-ascii behind-ascii at-start q x.start) (sym e) tt, k)
-      go (Quoted quote) e c f = (a, b, subst (λ q. RunBytes Edge Ascii at-ascii behind-ascii at-start q x.start) (sym e) tt, k)
-      go (Code text) e c f = (a, b, subst (λ q. RunBytes Edge Ascii at-ascii behind-ascii at-start q x.start) (sym e) tt, k)
-      go (InlineMath text) e c f = (a, b, subst (λ q. RunBytes Edge Ascii at-ascii behind-ascii at-start q x.start) (sym e) tt, k)
-      go (DisplayMath text) e c f = (a, b, subst (λ q. RunBytes Edge Ascii at-ascii behind-ascii at-start q x.start) (sym e) tt, k)
-      go Html e c f = (a, b, subst (λ q. RunBytes Edge Ascii at-ascii behind-ascii at-start q x.start) (sym e) tt, k)
-      go (OwnedHtml text) e c f = (a, b, subst (λ q. RunBytes Edge Ascii at-ascii behind-ascii at-start q x.start) (sym e) tt, k)
-      go (FootnoteReference label) e c f = (a, b, subst (λ q. RunBytes Edge Ascii at-ascii behind-ascii at-start q x.start) (sym e) tt, k)
-      go SoftBreak e c f = (a, b, subst (λ q. RunBytes Edge Ascii at-ascii behind-ascii at-start q x.start) (sym e) tt, k)
-      go HardBreak e c f = (a, b, subst (λ q. RunBytes Edge Ascii at-ascii behind-ascii at-start q x.start) (sym e) tt, k)
+      go (Delimiters run) e c f = (a, b, subst (λ q. RunBytes Edge Ascii at-ascii following-ascii at-start q x.start) (sym e) (λ i lt. c (x.start + i) (omega arith) (omega arith)), k)
+      go (Autolink uri) e c f = (a, b, (following-ascii x.start c.0, at-ascii (x.end - 1) c.1, tt), k)
+      go Plain e c f = (a, b, subst (λ q. RunBytes Edge Ascii at-ascii following-ascii at-start q x.start) (sym e) tt, k)
+      go Own e c f = (a, b, subst (λ q. RunBytes Edge Ascii at-ascii following-ascii at-start q x.start) (sym e) tt, k)
+      go (Written text) e c f = (a, b, subst (λ q. RunBytes Edge Ascii at-ascii following-ascii at-start q x.start) (sym e) tt, k)
+      go (Quoted quote) e c f = (a, b, subst (λ q. RunBytes Edge Ascii at-ascii following-ascii at-start q x.start) (sym e) tt, k)
+      go (Code text) e c f = (a, b, subst (λ q. RunBytes Edge Ascii at-ascii following-ascii at-start q x.start) (sym e) tt, k)
+      go (InlineMath text) e c f = (a, b, subst (λ q. RunBytes Edge Ascii at-ascii following-ascii at-start q x.start) (sym e) tt, k)
+      go (DisplayMath text) e c f = (a, b, subst (λ q. RunBytes Edge Ascii at-ascii following-ascii at-start q x.start) (sym e) tt, k)
+      go Html e c f = (a, b, subst (λ q. RunBytes Edge Ascii at-ascii following-ascii at-start q x.start) (sym e) tt, k)
+      go (OwnedHtml text) e c f = (a, b, subst (λ q. RunBytes Edge Ascii at-ascii following-ascii at-start q x.start) (sym e) tt, k)
+      go (FootnoteReference label) e c f = (a, b, subst (λ q. RunBytes Edge Ascii at-ascii following-ascii at-start q x.start) (sym e) tt, k)
+      go SoftBreak e c f = (a, b, subst (λ q. RunBytes Edge Ascii at-ascii following-ascii at-start q x.start) (sym e) tt, k)
+      go HardBreak e c f = (a, b, subst (λ q. RunBytes Edge Ascii at-ascii following-ascii at-start q x.start) (sym e) tt, k)
 
   footnote-edges : (is_image : Bool) (start : ℕ) (label : List ℕ) (end : ℕ) (others : Inline) → Edge start → Edge (suc start) → Edge end → Siblings others → Siblings (footnote_then is_image start label end others)
   footnote-edges true start label end others a b c k = (a, b, tt, (b, c, tt, k))
@@ -323,15 +323,15 @@ module _ (reader : Reader) (leaf : Leaf) (at : IsPlaced reader leaf) (utf8 : IsU
   siblings-edges NoParts h f u g = tt
   siblings-edges (SinglePart x after) h f u g = item-edges x (siblings_of reader.options after) h.0 h.1 h.2 f.0 (siblings-edges after h.3 f.1 u.1 g)
   siblings-edges (Form opener inside closer (Linking target) after) h f u g =
-      (h.0.starts, h.2, dress-edges Edge Ascii at-ascii behind-ascii at-start reader.options (siblings_of reader.options inside) (siblings-edges inside h.3 f.0 u.0 g.1), siblings-edges after h.4 f.1 u.1 g.2)
+      (h.0.starts, h.2, dress-edges Edge Ascii at-ascii following-ascii at-start reader.options (siblings_of reader.options inside) (siblings-edges inside h.3 f.0 u.0 g.1), siblings-edges after h.4 f.1 u.1 g.2)
   siblings-edges (Form opener inside closer (Footnote label end) after) h f u g =
       footnote-edges opener.is_image opener.start label end (siblings_of reader.options after) h.0.starts h.0.first h.2 (siblings-edges after h.4 f.1 u.1 g.2)
   siblings-edges (Form opener inside closer (Wiki name None end) after) h f u g = (h.0.starts, h.2.0, (h.2.1, h.1, tt), siblings-edges after h.4 f.1 u.1 g.2)
   siblings-edges (Form opener inside closer (Wiki name (Some place) end) after) h f u g =
       let inner = siblings_of reader.options inside in
       let free = parts-free reader leaf (length reader.source) at.turn within at.lines place g.0.0 inside u.0 in
-      let shown = display-edges Edge Ascii at-ascii behind-ascii at-start place closer.start (pipe-edge place g.0.0) inner free (siblings-edges inside h.3 f.0 u.0 g.1) in
-      (h.0.starts, h.2.0, dress-edges Edge Ascii at-ascii behind-ascii at-start reader.options (display_from place closer.start inner) shown, siblings-edges after h.4 f.1 u.1 g.2)
+      let shown = display-edges Edge Ascii at-ascii following-ascii at-start place closer.start (pipe-edge place g.0.0) inner free (siblings-edges inside h.3 f.0 u.0 g.1) in
+      (h.0.starts, h.2.0, dress-edges Edge Ascii at-ascii following-ascii at-start reader.options (display_from place closer.start inner) shown, siblings-edges after h.4 f.1 u.1 g.2)
   siblings-edges (Closing closer after) h f u g = (h.0, h.1, tt, siblings-edges after h.2 f u g)
   siblings-edges (Opening opener after) h f u g = (h.0, h.1, tt, siblings-edges after h.2 f u g)
 
@@ -350,9 +350,9 @@ module _ (reader : Reader) (leaf : Leaf) (at : IsPlaced reader leaf) (utf8 : IsU
       let r = reading-edged reader leaf at utf8 ends Says s h.parts h.last start tt h.reads.reads in
       let m = reading-reaches reader leaf (length reader.source) at.turn within at.lines Says s h.parts h.last first-place h.reads.reads in
       let f = parts-fill reader leaf (length reader.source) at.turn Says s h.parts h.last h.reads.reads in
-      let all = dress-edges Edge Ascii at-ascii behind-ascii at-start reader.options (siblings_of reader.options h.parts) (siblings-edges h.parts r.parts_are f m.items m.pipes) in
+      let all = dress-edges Edge Ascii at-ascii following-ascii at-start reader.options (siblings_of reader.options h.parts) (siblings-edges h.parts r.parts_are f m.items m.pipes) in
       subst (CutNoCharacter reader.source) (sym (h.events_are ∙ ap (inline_events reader.source) (spans-one reader.options h.parts h.spans h.are)))
-      (events-edges Edge Ascii at-ascii behind-ascii at-start reader.source (λ p e. e) (spans_in reader.options h.parts) all)
+      (events-edges Edge Ascii at-ascii following-ascii at-start reader.source (λ p e. e) (spans_in reader.options h.parts) all)
     where
       -- a leaf begins in the place of its first byte
       begins : begin_of leaf.stretches ≡ place_in reader leaf 0

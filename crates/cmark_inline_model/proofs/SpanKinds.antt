@@ -2,9 +2,9 @@
 use Rattle.std.specs.Prelude.{map}
 use Rattle.std.proofs.Common.{◌≡◌, ℕ, zero, suc, ◌+◌, ◌-◌, Bool, true, false, nat_lt, if◌then◌else◌, List, [], ◌∷◌, ◌++◌, refl, sym, subst}
 use Rattle.cmark_grammar.specs.Emphasis.{Run, Pair, Sibling, Plain, Delimiter, Piece, Whole, Standing, pair_of, rest_of_opener, rest_of_closer, kinds_of, nest, wrapped, row, keep, is_tilde_or_caret, deactivates, deactivated, left_open, stand, Closes}
-use Rattle.cmark_grammar.specs.EmphasisModel.{closed, resolve, spans_of}
+use Rattle.cmark_inline_model.specs.EmphasisModel.{closed, resolve, spans_of}
 use Rattle.cmark_grammar.specs.Spans.{SpanKind, span_width, Spans, Nil, Single, Around, join, singles}
-use Rattle.cmark_grammar.proofs.EmphasisSound.{closed-closes}
+use Rattle.cmark_inline_model.proofs.EmphasisSound.{closed-closes}
 
 mark_of_pair : (o c : Run) → (pair_of o c).delimiter ≡ c.delimiter
 unfolding pair_of

@@ -2,16 +2,16 @@
 use Rattle.std.specs.Prelude.{zero, suc, ◌-◌, get_or, drop}
 use Rattle.std.proofs.Common.{◌≡◌, ◌⊎◌, inl, inr, ℕ, ◌+◌, ◌<◌, ◌≤◌, List, [], ◌∷◌, length, Option, Some, None, refl, sym, ap, subst, arith, ◌∙◌}
 use Rattle.cmark_grammar.specs.Emphasis.{places_taken}
-use Rattle.cmark_grammar.specs.EmphasisModel.{spans_of}
+use Rattle.cmark_inline_model.specs.EmphasisModel.{spans_of}
 use Rattle.cmark_grammar.specs.Items.{ItemKind, Delimiters, Autolink, Item}
 use Rattle.cmark_grammar.specs.Options.{Options}
 use Rattle.cmark_grammar.specs.Quotes.{quote_characters}
 use Rattle.cmark_grammar.specs.Siblings.{Inline, Nil, Single, Around, append, quotes_of, quote_as, with_characters, with_quotes, run_then, runs_from, bytes_then, run_bytes_then, run_bytes, put_gap, no_gaps, gap_then, gaps_of, no_item, element, dressed}
-use Rattle.cmark_grammar.specs.SiblingsModel.{dress}
+use Rattle.cmark_inline_model.specs.SiblingsModel.{dress}
 use Rattle.cmark_grammar.specs.Spans as spans
 use Rattle.cmark_grammar.specs.Spans.{span_tag, span_width, Spans, TakePlaces}
 use Rattle.cmark_grammar.specs.Tag.{Tag}
-use Rattle.cmark_grammar.proofs.SpanPlaces.{places}
+use Rattle.cmark_inline_model.proofs.SpanPlaces.{places}
 use Rattle.cmark_inline_model.specs.CutRanges.{IsLinkOrImage}
 use Rattle.cmark_inline_model.proofs.KindViews.{KindView, AQuote, ARun, AnAutolink, AText, kind-view}
 use Rattle.cmark_inline_model.proofs.SpanCosts.{runs-stand, takes-up, width-some}
@@ -131,10 +131,10 @@ module _ (Pipe : ℕ → Type 0) where
       go i _ (AText kind t) = ap length (t.bytes x.start (run_bytes after)) ∙ i n ∙ ap places_taken (sym (t.run n (runs_from after)))
 
   -- the end of the byte before the index, or `from`; and the start of the byte with the index, or `to`
-  abbrev behind : (from : ℕ) → List Item → ℕ → ℕ
-  behind from bytes zero = from
-  behind from [] (suc n) = from
-  behind from (b ∷ bytes) (suc n) = behind b.end bytes n
+  abbrev following : (from : ℕ) → List Item → ℕ → ℕ
+  following from bytes zero = from
+  following from [] (suc n) = from
+  following from (b ∷ bytes) (suc n) = following b.end bytes n
 
   abbrev until : (to : ℕ) → List Item → ℕ → ℕ
   until to [] n = to
@@ -145,7 +145,7 @@ module _ (Pipe : ℕ → Type 0) where
   until_end to [] = refl
   until_end to (b ∷ bytes) = until_end to bytes
 
-  gap_order : (from : ℕ) (gaps : List Inline) (bytes : List Item) (to n : ℕ) → Layout from gaps bytes to → n ≤ length bytes → InlineOrder (behind from bytes n) (get_or gaps n Nil) (until to bytes n)
+  gap_order : (from : ℕ) (gaps : List Inline) (bytes : List Item) (to n : ℕ) → Layout from gaps bytes to → n ≤ length bytes → InlineOrder (following from bytes n) (get_or gaps n Nil) (until to bytes n)
   gap_order from [] bytes to n h k = absurd h
   gap_order from (gap ∷ gaps) [] to zero h k = h
   gap_order from (gap ∷ gaps) [] to (suc n) h k = absurd (omega arith)
@@ -155,8 +155,8 @@ module _ (Pipe : ℕ → Type 0) where
   -- a byte reaches from the offset before it to the offset after it
   record IsByte (from : ℕ) (bytes : List Item) (to n : ℕ) : Type 0 where
     pub start : (get_or bytes n no_item).start ≡ until to bytes n
-    pub end : (get_or bytes n no_item).end ≡ behind from bytes (suc n)
-    pub order : until to bytes n ≤ behind from bytes (suc n)
+    pub end : (get_or bytes n no_item).end ≡ following from bytes (suc n)
+    pub order : until to bytes n ≤ following from bytes (suc n)
 
   byte_order : (from : ℕ) (gaps : List Inline) (bytes : List Item) (to n : ℕ) → Layout from gaps bytes to → n < length bytes → IsByte from bytes to n
   byte_order from [] bytes to n h k = absurd h
@@ -170,18 +170,18 @@ module _ (Pipe : ℕ → Type 0) where
   element_order None low first last to inner others e h k = (e, inline-up first inner last h, k)
 
   module _ (from : ℕ) (gaps : List Inline) (bytes : List Item) (to : ℕ) (h : Layout from gaps bytes to) where
-    next : (n : ℕ) → n < length bytes → behind from bytes n ≤ behind from bytes (suc n)
+    next : (n : ℕ) → n < length bytes → following from bytes n ≤ following from bytes (suc n)
     next n k =
-        let g = inline-up (behind from bytes n) (get_or gaps n Nil) (until to bytes n) (gap_order from gaps bytes to n h (omega arith)) in
+        let g = inline-up (following from bytes n) (get_or gaps n Nil) (until to bytes n) (gap_order from gaps bytes to n h (omega arith)) in
         let b = (byte_order from gaps bytes to n h k).order in
         omega arith
 
-    later : (n k : ℕ) → n + k ≤ length bytes → behind from bytes n ≤ behind from bytes (n + k)
-    later n zero w = let e : behind from bytes (n + 0) ≡ behind from bytes n = ap (behind from bytes) (let f : n + 0 ≡ n = omega arith in f) in omega arith
+    later : (n k : ℕ) → n + k ≤ length bytes → following from bytes n ≤ following from bytes (n + k)
+    later n zero w = let e : following from bytes (n + 0) ≡ following from bytes n = ap (following from bytes) (let f : n + 0 ≡ n = omega arith in f) in omega arith
     later n (suc k) w =
         let i = later n k (omega arith) in
         let j = next (n + k) (omega arith) in
-        let e : behind from bytes (n + suc k) ≡ behind from bytes (suc (n + k)) = ap (behind from bytes) (let f : n + suc k ≡ suc (n + k) = omega arith in f) in
+        let e : following from bytes (n + suc k) ≡ following from bytes (suc (n + k)) = ap (following from bytes) (let f : n + suc k ≡ suc (n + k) = omega arith in f) in
         omega arith
 
     module _ (options : Options) where
@@ -193,7 +193,7 @@ module _ (Pipe : ℕ → Type 0) where
           let s = b.start in let e = b.end in let o = b.order in
           let g = gap_order from gaps bytes to (suc n) h (omega arith) in
           let i = dressed_order after (suc n) m t.1 w in
-          let first = inline-wide (get_or bytes n no_item).end (behind from bytes (suc n)) (get_or gaps (suc n) Nil) (until to bytes (suc n)) (until to bytes (suc n)) (omega arith) (omega arith) g in
+          let first = inline-wide (get_or bytes n no_item).end (following from bytes (suc n)) (get_or gaps (suc n) Nil) (until to bytes (suc n)) (until to bytes (suc n)) (omega arith) (omega arith) g in
           subst (λ k. InlineOrder (until to bytes n) (Single (get_or bytes k no_item) (append (get_or gaps (suc k) Nil) (dressed options gaps bytes after))) (until to bytes m)) (sym t.0)
           (omega arith, omega arith, inline_append (get_or bytes n no_item).end (until to bytes (suc n)) (until to bytes m) (get_or gaps (suc n) Nil) (dressed options gaps bytes after) first i)
       dressed_order (spans.Around span inside after) n m t w =
@@ -206,19 +206,19 @@ module _ (Pipe : ℕ → Type 0) where
           let last = byte_order from gaps bytes to (span.end - 1) h (omega arith) in
           let middle = byte_order from gaps bytes to t.mid h (omega arith) in
           let fs = first.start in let fo = first.order in let le = last.end in let mo = middle.order in
-          let e1 : behind from bytes (suc n + (width - 1)) ≡ behind from bytes (n + width) = ap (behind from bytes) (let f : suc n + (width - 1) ≡ n + width = omega arith in f) in
-          let e2 : behind from bytes (suc t.mid + (width - 1)) ≡ behind from bytes span.end = ap (behind from bytes) (let f : suc t.mid + (width - 1) ≡ span.end = omega arith in f) in
-          let e3 : behind from bytes (suc (span.end - 1)) ≡ behind from bytes span.end = ap (behind from bytes) (let f : suc (span.end - 1) ≡ span.end = omega arith in f) in
+          let e1 : following from bytes (suc n + (width - 1)) ≡ following from bytes (n + width) = ap (following from bytes) (let f : suc n + (width - 1) ≡ n + width = omega arith in f) in
+          let e2 : following from bytes (suc t.mid + (width - 1)) ≡ following from bytes span.end = ap (following from bytes) (let f : suc t.mid + (width - 1) ≡ span.end = omega arith in f) in
+          let e3 : following from bytes (suc (span.end - 1)) ≡ following from bytes span.end = ap (following from bytes) (let f : suc (span.end - 1) ≡ span.end = omega arith in f) in
           let l1 = later (suc n) (width - 1) (omega arith) in
           let l2 = later (suc t.mid) (width - 1) (omega arith) in
           let inner =
           inline_append (get_or bytes n no_item).start (until to bytes (n + width)) (until to bytes t.mid) (get_or gaps (n + width) Nil) (dressed options gaps bytes inside)
-          (inline-wide (get_or bytes n no_item).start (behind from bytes (n + width)) (get_or gaps (n + width) Nil) (until to bytes (n + width)) (until to bytes (n + width)) (omega arith) (omega arith)
+          (inline-wide (get_or bytes n no_item).start (following from bytes (n + width)) (get_or gaps (n + width) Nil) (until to bytes (n + width)) (until to bytes (n + width)) (omega arith) (omega arith)
           (gap_order from gaps bytes to (n + width) h (omega arith)))
           (dressed_order inside (n + width) t.mid t.inside (omega arith)) in
           let others =
           inline_append (get_or bytes (span.end - 1) no_item).end (until to bytes span.end) (until to bytes m) (get_or gaps span.end Nil) (dressed options gaps bytes after)
-          (inline-wide (get_or bytes (span.end - 1) no_item).end (behind from bytes span.end) (get_or gaps span.end Nil) (until to bytes span.end) (until to bytes span.end) (omega arith) (omega arith)
+          (inline-wide (get_or bytes (span.end - 1) no_item).end (following from bytes span.end) (get_or gaps span.end Nil) (until to bytes span.end) (until to bytes span.end) (omega arith) (omega arith)
           (gap_order from gaps bytes to span.end h (omega arith)))
           (dressed_order after span.end m t.after w) in
           subst (λ k. InlineOrder (until to bytes n) (element (span_tag options span.kind) (get_or bytes k no_item).start (get_or bytes (span.end - 1) no_item).end

@@ -7,7 +7,7 @@ use Rattle.cmark_grammar.specs.Items.{Bracket}
 use Rattle.cmark_grammar.specs.Options.{Options}
 use Rattle.cmark_grammar.specs.Parts.{Formed, Parts, Nil as NoParts, Single as SinglePart, Form, Closing, Opening, Linking, Footnote, Wiki}
 use Rattle.cmark_grammar.specs.Siblings.{Inline, Nil, Single, Around, address_link, tag_by}
-use Rattle.cmark_grammar.specs.SiblingsModel.{spans_in}
+use Rattle.cmark_inline_model.specs.SiblingsModel.{spans_in}
 use Rattle.cmark_grammar.specs.Tag.{Tag, Linked}
 use Rattle.cmark_grammar.specs.TagEnd.{end_of}
 use Rattle.cmark_inline_model.specs.ReferenceExpansion.{cost, costs}

@@ -15,7 +15,7 @@ use Rattle.cmark_grammar.specs.LeafText.{Leaf}
 use Rattle.cmark_grammar.specs.Parts.{Parts, Nil, Single, Form, Closing, Opening, openings}
 use Rattle.cmark_grammar.specs.Questions.{Saying}
 use Rattle.cmark_grammar.specs.Readers.{Reader}
-use Rattle.cmark_grammar.specs.SiblingsModel.{spans_in}
+use Rattle.cmark_inline_model.specs.SiblingsModel.{spans_in}
 use Rattle.cmark_grammar.specs.SpanDocuments.{Segment, Given, Content, segments, ReadsAll, Profile, reader_of, at_start}
 use Rattle.cmark_inline_model.specs.ReferenceExpansion.{cost, costs, Spends, PaysBy, Pays}
 use Rattle.cmark_inline_model.specs.LinkRules.{AsksRightly}

@@ -14,8 +14,8 @@ use Rattle.cmark_grammar.specs.Columns.{is_blank_byte}
 use Rattle.cmark_grammar.specs.Dashes.{dashes_of, dash_text}
 use Rattle.cmark_grammar.specs.Emphasis.{Run}
 use Rattle.cmark_grammar.specs.Flanking.{flanking, is_run_delimiter}
-use Rattle.cmark_grammar.specs.Formulas.{is_dollar, Braces, no_braces, braces_behind, inline_in, display_in}
-use Rattle.cmark_grammar.specs.InlineHtml.{behind_markup, takes_lines}
+use Rattle.cmark_grammar.specs.Formulas.{is_dollar, Braces, no_braces, braces_after, inline_in, display_in}
+use Rattle.cmark_grammar.specs.InlineHtml.{after_markup, takes_lines}
 use Rattle.cmark_grammar.specs.InlineTokens.{as_in, item_at, bracket, is_plain, from, before, place_of, size_to, character_before, character_at, line_begins, read_on, break_or, code_or, escaped_backtick, escape_at, entity_or, autolink_or, tag_or_text, source_from, markup_or, less_than, run_at, formula_or, dollar, dots, hyphens, quote_at, smart_or, begins, begins_at, goes_on, plain_end, longest, token}
 use Rattle.cmark_grammar.specs.Items.{ItemKind, Plain, Own, Quoted, Code, Item, Written, InlineMath, DisplayMath, Delimiters, Autolink, Html, OwnedHtml, SoftBreak, HardBreak, Token, Stands, Opens, Closes, Ends}
 use Rattle.cmark_grammar.specs.LabelsOverLines.{piped}
@@ -23,20 +23,20 @@ use Rattle.cmark_grammar.specs.LeafText.{InTurn, Leaf, end_of}
 use Rattle.cmark_grammar.specs.Letters.{first_is, starts}
 use Rattle.cmark_grammar.specs.LineBreaks.{LineBreak, backslash_break_in, blank_break_in}
 use Rattle.cmark_grammar.specs.Lines.{is_content}
-use Rattle.cmark_grammar.specs.LinkDefinitions.{Parsed, behind_blanks}
+use Rattle.cmark_grammar.specs.LinkDefinitions.{Parsed, after_leading_blanks}
 use Rattle.cmark_grammar.specs.Options.{Options}
 use Rattle.cmark_grammar.specs.Quotes.{quote_beside}
 use Rattle.cmark_grammar.specs.Readers.{Reader}
-use Rattle.cmark_grammar.specs.Tags.{behind_tag, no_prefix}
+use Rattle.cmark_grammar.specs.Tags.{after_tag, no_prefix}
 use Rattle.cmark_grammar.specs.Tokens.{Entity, entity_in, is_punctuation, slice}
 use Rattle.cmark_inline_model.specs.PlacedTokens.{one_stretch, text_reader}
 use Rattle.cmark_inline_model.proofs.BreakRests.{BreakTaken, blank-taken, backslash-taken, blank_word}
-use Rattle.cmark_inline_model.proofs.FindRests.{IsBehind, ParsedBehind, behind-rest, autolink-behind, code-behind, display-behind, inline-behind, tag-behind}
-use Rattle.cmark_inline_model.proofs.LinkRests.{LeavesBehind, markup-behind}
+use Rattle.cmark_inline_model.proofs.FindRests.{IsAfter, ParsedAfter, following-rest, autolink-following, code-following, display-following, inline-following, tag-following}
+use Rattle.cmark_inline_model.proofs.LinkRests.{LeavesAfter, markup-following}
 use Rattle.cmark_inline_model.proofs.TokenLaws.{Onward, begins-at-onward}
 use Rattle.cmark_inline_model.proofs.WordBytes.{IsWord, EntityLeads, Leads, and-right, entity-leads, first-leads, leads-cons, or-either, prefix-leads, starts-leads, while-leads, word-is}
-use Rattle.cmark_grammar.proofs.RowEdges.{Front}
-use Rattle.cmark_grammar.proofs.ShorterRests.{prefix-some}
+use Rattle.cmark_block_model.proofs.RowEdges.{Front}
+use Rattle.cmark_inline_model.proofs.ShorterRests.{prefix-some}
 
 -- the byte before the last of some bytes that have this property
 pub leads-last : (Q : ℕ → Type 0) (m : ℕ) (l : List ℕ) → Leads Q (suc m) l → (m < length l) × Q (get_or l m 0)
@@ -77,8 +77,8 @@ module _ (options : Options) (lookup : Lookup) (is_cell : Bool) (text : List ℕ
   pub at-ascii : (i : ℕ) → Ascii i → Edge i
   at-ascii i a = IsCharBoundary-before_ascii text i a.0 a.1
 
-  pub behind-ascii : (i : ℕ) → Ascii i → Edge (suc i)
-  behind-ascii i a = subst Edge (let e : i + 1 ≡ suc i = omega arith in e) (IsCharBoundary-after_ascii text i utf8 a.0 a.1)
+  pub following-ascii : (i : ℕ) → Ascii i → Edge (suc i)
+  following-ascii i a = subst Edge (let e : i + 1 ≡ suc i = omega arith in e) (IsCharBoundary-after_ascii text i utf8 a.0 a.1)
 
   -- the bytes of a run, and the first and the last byte of an autolink
   abbrev pub Bytes : ItemKind → (start end : ℕ) → Type 0
@@ -121,7 +121,7 @@ module _ (options : Options) (lookup : Lookup) (is_cell : Bool) (text : List ℕ
     words-edge zero e h = subst Edge (let q : k ≡ k + 0 = omega arith in q) e
     words-edge (suc n) e h =
         let b = leads-last IsWord n l h in
-        subst Edge (let q : suc (k + n) ≡ k + suc n = omega arith in q) (behind-ascii (k + n) (ascii-at n b.0 b.1.ascii))
+        subst Edge (let q : suc (k + n) ≡ k + suc n = omega arith in q) (following-ascii (k + n) (ascii-at n b.0 b.1.ascii))
 
     word-at : (i : ℕ) → i < length l → IsWord (get_or l i 0) → Word (k + i)
     word-at i lt w = (fits i lt, subst IsWord (sym (byte-at i)) w)
@@ -137,12 +137,12 @@ module _ (options : Options) (lookup : Lookup) (is_cell : Bool) (text : List ℕ
         let d = length-drop k text in let m = ap length here in let r = ap length e in let s = length-drop n l in
         (let q : length text - length rest ≡ k + n = omega (arith, le, w, d, m, r, s) in q)
 
-    rest-edge : (rest : List ℕ) → IsBehind l rest → Edge (place_of one alone rest)
+    rest-edge : (rest : List ℕ) → IsAfter l rest → Edge (place_of one alone rest)
     rest-edge rest h =
         let i = h.inside in
-        subst Edge (sym (rest-place rest (suc h.place) (let f = fits h.place i in omega arith) h.rest i)) (subst Edge (let q : suc (k + h.place) ≡ k + suc h.place = omega arith in q) (behind-ascii (k + h.place) (ascii-at h.place i h.ascii)))
+        subst Edge (sym (rest-place rest (suc h.place) (let f = fits h.place i in omega arith) h.rest i)) (subst Edge (let q : suc (k + h.place) ≡ k + suc h.place = omega arith in q) (following-ascii (k + h.place) (ascii-at h.place i h.ascii)))
 
-    rest-some : (rest : List ℕ) → IsBehind l rest → 0 < place_of one alone rest
+    rest-some : (rest : List ℕ) → IsAfter l rest → 0 < place_of one alone rest
     rest-some rest h =
         let i = h.inside in
         let p = rest-place rest (suc h.place) (let f = fits h.place i in omega arith) h.rest i in
@@ -155,12 +155,12 @@ module _ (options : Options) (lookup : Lookup) (is_cell : Bool) (text : List ℕ
   pub read-on-edge : (x : ℕ) → Edge x → Edge (read_on one alone x)
   read-on-edge x e = go (line_begins one alone x)
     where
-      go : (b : Bool) → Edge (place_of one alone (if b then behind_blanks (from one alone x) else from one alone x))
+      go : (b : Bool) → Edge (place_of one alone (if b then after_leading_blanks (from one alone x) else from one alone x))
       go true =
           let n = length (take_while is_blank_byte (drop x text)) in
           let k = while-leads IsWord is_blank_byte blank_word (drop x text) in
-          let p : place_of one alone (behind_blanks (from one alone x)) ≡ x + n =
-          ap (λ l. place_of one alone (behind_blanks l)) (from-text x) ∙ rest-place x (drop x text) refl (behind_blanks (drop x text)) n e.0 refl k.fits in
+          let p : place_of one alone (after_leading_blanks (from one alone x)) ≡ x + n =
+          ap (λ l. place_of one alone (after_leading_blanks l)) (from-text x) ∙ rest-place x (drop x text) refl (after_leading_blanks (drop x text)) n e.0 refl k.fits in
           subst Edge (sym p) (words-edge x (drop x text) refl n e k)
       go false = subst Edge (sym (ap (place_of one alone) (from-text x) ∙ place-drop x e.0)) e
 
@@ -172,7 +172,7 @@ module _ (options : Options) (lookup : Lookup) (is_cell : Bool) (text : List ℕ
     first w = subst Ascii (let q : k + 0 ≡ k = omega arith in q) (ascii-at k (b ∷ bs) here 0 (omega arith) w.ascii)
 
     second : IsWord b → Edge (suc k)
-    second w = behind-ascii k (first w)
+    second w = following-ascii k (first w)
 
     -- an item over words, other than a longer text
     words-edged : (kind : ItemKind) (n : ℕ) → 0 < n → Leads IsWord n (b ∷ bs) → ((i : ℕ) → k ≤ i → i < k + n → Word i) → (((i : ℕ) → k ≤ i → i < k + n → Word i) → Bytes kind k (k + n)) → Edged (item_at kind k (k + n))
@@ -183,10 +183,10 @@ module _ (options : Options) (lookup : Lookup) (is_cell : Bool) (text : List ℕ
 
     break-edged : (found : Option LineBreak) (other : Token) → BreakTaken (b ∷ bs) found → (found ≡ None → Edged other) → Edged (break_or one alone k found other)
     break-edged None other t h = h refl
-    break-edged (Some found) other t h = (words-edge k (b ∷ bs) here found.before edge front, λ p. ((let z = size in let q : 0 < k + size_to one alone k found.behind = omega arith in q), ends, read-on-edge end ends, bytes found.is_hard))
+    break-edged (Some found) other t h = (words-edge k (b ∷ bs) here found.before edge front, λ p. ((let z = size in let q : 0 < k + size_to one alone k found.following = omega arith in q), ends, read-on-edge end ends, bytes found.is_hard))
       where
         end : ℕ
-        end = k + size_to one alone k found.behind
+        end = k + size_to one alone k found.following
 
         front : Leads IsWord found.before (b ∷ bs)
         front = fewer found.before t.blanks (b ∷ bs) t.begins t.leads
@@ -203,25 +203,25 @@ module _ (options : Options) (lookup : Lookup) (is_cell : Bool) (text : List ℕ
         last : ℕ
         last = t.blanks + t.more
 
-        size : size_to one alone k found.behind ≡ suc last
+        size : size_to one alone k found.following ≡ suc last
         size =
-            let f = t.fits in let e = ap length t.behind in let d = length-drop (t.blanks + suc t.more) (b ∷ bs) in
-            ap (λ l. length l - length found.behind) from-own ∙ (let q : length (b ∷ bs) - length found.behind ≡ suc last = omega arith in q)
+            let f = t.fits in let e = ap length t.following in let d = length-drop (t.blanks + suc t.more) (b ∷ bs) in
+            ap (λ l. length l - length found.following) from-own ∙ (let q : length (b ∷ bs) - length found.following ≡ suc last = omega arith in q)
 
         ends : Edge end
         ends =
             let f = t.fits in
-            subst Edge (ap (λ n. k + n) (sym size)) (subst Edge (let q : suc (k + last) ≡ k + suc last = omega arith in q) (behind-ascii (k + last) (ascii-at k (b ∷ bs) here last (omega arith) t.ascii)))
+            subst Edge (ap (λ n. k + n) (sym size)) (subst Edge (let q : suc (k + last) ≡ k + suc last = omega arith in q) (following-ascii (k + last) (ascii-at k (b ∷ bs) here last (omega arith) t.ascii)))
 
         bytes : (hard : Bool) → Bytes (if hard then HardBreak else SoftBreak) (k + found.before) end
         bytes true = tt
         bytes false = tt
 
-    rest-edged : (kind : ItemKind) (rest : List ℕ) → IsBehind (b ∷ bs) rest → Bytes kind k (place_of one alone rest) → Edged (item_at kind k (place_of one alone rest))
+    rest-edged : (kind : ItemKind) (rest : List ℕ) → IsAfter (b ∷ bs) rest → Bytes kind k (place_of one alone rest) → Edged (item_at kind k (place_of one alone rest))
     rest-edged kind rest h f = (edge, λ p. (let e = rest-edge k (b ∷ bs) here rest h in (rest-some k (b ∷ bs) here rest h, e, e, f)))
 
-    code-edged : (found : Option Parsed) → ParsedBehind (b ∷ bs) found → 0 < backticks (b ∷ bs) → Leads IsWord (backticks (b ∷ bs)) (b ∷ bs) → Edged (code_or one alone k (backticks (b ∷ bs)) found)
-    code-edged (Some found) h some w = rest-edged (Code (code_text (as_in is_cell found.bytes))) found.behind h tt
+    code-edged : (found : Option Parsed) → ParsedAfter (b ∷ bs) found → 0 < backticks (b ∷ bs) → Leads IsWord (backticks (b ∷ bs)) (b ∷ bs) → Edged (code_or one alone k (backticks (b ∷ bs)) found)
+    code-edged (Some found) h some w = rest-edged (Code (code_text (as_in is_cell found.bytes))) found.following h tt
     code-edged None h some w = words-edged Own (backticks (b ∷ bs)) some w (words-bytes k (b ∷ bs) here (backticks (b ∷ bs)) w) (λ a. tt)
 
     entity-edged : IsWord b → (entity : Option Entity) → EntityLeads bs entity → Edged (entity_or one alone k entity)
@@ -260,9 +260,9 @@ module _ (options : Options) (lookup : Lookup) (is_cell : Bool) (text : List ℕ
             let two = starts-leads IsWord piped bs (slash, (pipe, tt)) (and-right is_cell (starts piped bs) f) in
             let a = leads-each IsWord 2 bs two 0 (omega arith) in
             let fit = two.fits in
-            subst Edge (let q : suc (suc k + 0) ≡ k + 2 = omega arith in q) (behind-ascii (suc k + 0) (ascii-at (suc k) bs next 0 (omega arith) a.ascii))
+            subst Edge (let q : suc (suc k + 0) ≡ k + 2 = omega arith in q) (following-ascii (suc k + 0) (ascii-at (suc k) bs next 0 (omega arith) a.ascii))
 
-    tag-edged : IsWord b → (found : Option (List ℕ)) → ((rest : List ℕ) → found ≡ Some rest → IsBehind (b ∷ bs) rest) → Edged (tag_or_text one alone k found)
+    tag-edged : IsWord b → (found : Option (List ℕ)) → ((rest : List ℕ) → found ≡ Some rest → IsAfter (b ∷ bs) rest) → Edged (tag_or_text one alone k found)
     tag-edged w None h = one-edged Own w tt
     tag-edged w (Some rest) h = kind (takes_lines (take (size_to one alone k rest) (from one alone k)))
       where
@@ -271,21 +271,21 @@ module _ (options : Options) (lookup : Lookup) (is_cell : Bool) (text : List ℕ
         kind false = rest-edged Html rest (h rest refl) tt
 
     -- after `<`
-    autolink-edged : IsWord b → (found : Option Parsed) (other : Token) → ParsedBehind bs found → Edged other → Edged (autolink_or one alone k found other)
+    autolink-edged : IsWord b → (found : Option Parsed) (other : Token) → ParsedAfter bs found → Edged other → Edged (autolink_or one alone k found other)
     autolink-edged w None other h o = o
     autolink-edged w (Some found) other h o =
         let i = h.inside in
-        let p : place_of one alone found.behind ≡ suc k + suc h.place = rest-place (suc k) bs next found.behind (suc h.place) (second w).0 h.rest i in
+        let p : place_of one alone found.following ≡ suc k + suc h.place = rest-place (suc k) bs next found.following (suc h.place) (second w).0 h.rest i in
         let last : Ascii (suc k + h.place) = ascii-at (suc k) bs next h.place i h.ascii in
-        let e : Edge (place_of one alone found.behind) = rest-edge (suc k) bs next found.behind h in
-        (edge, λ n. (rest-some (suc k) bs next found.behind h, e, e, (first w, subst Ascii (let q : suc k + h.place ≡ place_of one alone found.behind - 1 = omega arith in q) last)))
+        let e : Edge (place_of one alone found.following) = rest-edge (suc k) bs next found.following h in
+        (edge, λ n. (rest-some (suc k) bs next found.following h, e, e, (first w, subst Ascii (let q : suc k + h.place ≡ place_of one alone found.following - 1 = omega arith in q) last)))
 
     source-own : source_from one alone k ≡ b ∷ bs
     source-own =
         (let d = length-drop k text in ap (λ n. take n (drop k text)) (let e : (length text - 0) - k ≡ length (drop k text) = omega arith in e))
         ∙ take-length (drop k text) ∙ here
 
-    markup-edged : (found : Option (List ℕ)) (other : Token) → LeavesBehind (b ∷ bs) found → Edged other → Edged (markup_or one alone k found other)
+    markup-edged : (found : Option (List ℕ)) (other : Token) → LeavesAfter (b ∷ bs) found → Edged other → Edged (markup_or one alone k found other)
     markup-edged None other h o = o
     markup-edged (Some rest) other h o =
         let i = h.inside in
@@ -293,35 +293,35 @@ module _ (options : Options) (lookup : Lookup) (is_cell : Bool) (text : List ℕ
         let r = ap length h.rest in
         let size : length (source_from one alone k) - length rest ≡ suc h.place = ap (λ l. length l - length rest) source-own ∙ (let q : length (b ∷ bs) - length rest ≡ suc h.place = omega (arith, i, d, r) in q) in
         let e : Edge (k + (length (source_from one alone k) - length rest)) =
-        subst (λ n. Edge (k + n)) (sym size) (subst Edge (let q : suc (k + h.place) ≡ k + suc h.place = omega arith in q) (behind-ascii (k + h.place) (ascii-at k (b ∷ bs) here h.place i h.ascii))) in
+        subst (λ n. Edge (k + n)) (sym size) (subst Edge (let q : suc (k + h.place) ≡ k + suc h.place = omega arith in q) (following-ascii (k + h.place) (ascii-at k (b ∷ bs) here h.place i h.ascii))) in
         (edge, λ n. ((let q : 0 < k + (length (source_from one alone k) - length rest) = omega arith in q), e, read-on-edge (k + (length (source_from one alone k) - length rest)) e, tt))
 
     less_than-edged : IsWord b → Edged (less_than one alone k bs)
     less_than-edged w =
-        let tag = tag_or_text one alone k (behind_tag no_prefix (from one alone k)) in
-        let others = markup_or one alone k (behind_markup (source_from one alone k)) tag in
+        let tag = tag_or_text one alone k (after_tag no_prefix (from one alone k)) in
+        let others = markup_or one alone k (after_markup (source_from one alone k)) tag in
         when (first_is (λ c. c == 92) bs) (item_at Plain k (suc k)) (autolink_or one alone k (autolink_in options.email_autolinks bs) others) (λ e. plain k (suc k) edge)
-        (λ e. autolink-edged w (autolink_in options.email_autolinks bs) others (autolink-behind options.email_autolinks bs)
-        (markup-edged (behind_markup (source_from one alone k)) tag (subst (λ l. LeavesBehind (b ∷ bs) (behind_markup l)) (sym source-own) (markup-behind (b ∷ bs)))
-        (tag-edged w (behind_tag no_prefix (from one alone k)) (λ rest f. tag-behind (b ∷ bs) rest (ap (behind_tag no_prefix) (sym from-own) ∙ f)))))
+        (λ e. autolink-edged w (autolink_in options.email_autolinks bs) others (autolink-following options.email_autolinks bs)
+        (markup-edged (after_markup (source_from one alone k)) tag (subst (λ l. LeavesAfter (b ∷ bs) (after_markup l)) (sym source-own) (markup-following (b ∷ bs)))
+        (tag-edged w (after_tag no_prefix (from one alone k)) (λ rest f. tag-following (b ∷ bs) rest (ap (after_tag no_prefix) (sym from-own) ∙ f)))))
 
-    formula-edged : IsWord b → (kind : List ℕ → ItemKind) → ((t : List ℕ) (s e : ℕ) → Bytes (kind t) s e) → (found : Option Parsed) → ParsedBehind (b ∷ bs) found → Edged (formula_or one alone kind k found)
-    formula-edged w kind f (Some found) h = rest-edged (kind _) found.behind h (f _ k (place_of one alone found.behind))
+    formula-edged : IsWord b → (kind : List ℕ → ItemKind) → ((t : List ℕ) (s e : ℕ) → Bytes (kind t) s e) → (found : Option Parsed) → ParsedAfter (b ∷ bs) found → Edged (formula_or one alone kind k found)
+    formula-edged w kind f (Some found) h = rest-edged (kind _) found.following h (f _ k (place_of one alone found.following))
     formula-edged w kind f None h = one-edged Own w tt
 
-    more-behind : (c : ℕ) (cs : List ℕ) (found : Option Parsed) → ParsedBehind cs found → ParsedBehind (c ∷ cs) found
-    more-behind c cs None h = tt
-    more-behind c cs (Some found) h = behind-rest (c ∷ cs) cs found.behind (1, refl) h
+    more-following : (c : ℕ) (cs : List ℕ) (found : Option Parsed) → ParsedAfter cs found → ParsedAfter (c ∷ cs) found
+    more-following c cs None h = tt
+    more-following c cs (Some found) h = following-rest (c ∷ cs) cs found.following (1, refl) h
 
-    twice-behind : (found : Option Parsed) → ParsedBehind (drop 1 bs) found → ParsedBehind (b ∷ bs) found
-    twice-behind None h = tt
-    twice-behind (Some found) h = behind-rest (b ∷ bs) (drop 1 bs) found.behind (2, refl) h
+    twice-following : (found : Option Parsed) → ParsedAfter (drop 1 bs) found → ParsedAfter (b ∷ bs) found
+    twice-following None h = tt
+    twice-following (Some found) h = following-rest (b ∷ bs) (drop 1 bs) found.following (2, refl) h
 
     dollar-edged : IsWord b → (braces : Braces) → Edged (dollar one alone k bs braces)
     dollar-edged w braces =
         when (first_is is_dollar bs) (formula_or one alone DisplayMath k (display_in braces (drop 1 bs))) (formula_or one alone InlineMath k (inline_in braces bs))
-        (λ e. formula-edged w DisplayMath (λ t s e. tt) (display_in braces (drop 1 bs)) (twice-behind (display_in braces (drop 1 bs)) (display-behind braces (drop 1 bs))))
-        (λ e. formula-edged w InlineMath (λ t s e. tt) (inline_in braces bs) (more-behind b bs (inline_in braces bs) (inline-behind braces bs)))
+        (λ e. formula-edged w DisplayMath (λ t s e. tt) (display_in braces (drop 1 bs)) (twice-following (display_in braces (drop 1 bs)) (display-following braces (drop 1 bs))))
+        (λ e. formula-edged w InlineMath (λ t s e. tt) (inline_in braces bs) (more-following b bs (inline_in braces bs) (inline-following braces bs)))
 
     -- a run
     run-word : (c : ℕ) → IsWord b → (c == b) ≡ true → IsWord c
@@ -398,7 +398,7 @@ module _ (options : Options) (lookup : Lookup) (is_cell : Bool) (text : List ℕ
     begins-edged =
         let text_item = item_at Plain k (suc k) in
         let c9 = if options.smart_punctuation then smart_or one alone k b else text_item in
-        let c8 = if options.math && is_dollar b then dollar one alone k bs (braces_behind false (before one alone k) no_braces) else c9 in
+        let c8 = if options.math && is_dollar b then dollar one alone k bs (braces_after false (before one alone k) no_braces) else c9 in
         let c7 = if is_run_delimiter b then run_at one alone k b (prefix_len (λ c. c == b) (b ∷ bs)) else c8 in
         let c6 = if b == 93 then Closes (bracket false k (suc k)) else c7 in
         let c5 = if b == 91 then Opens (bracket false k (suc k)) else c6 in
@@ -412,7 +412,7 @@ module _ (options : Options) (lookup : Lookup) (is_cell : Bool) (text : List ℕ
         (λ e0. when (b == 92) (break_or one alone k (backslash_break_in (b ∷ bs)) (escape_at one alone k bs)) c1
         (λ e. break-edged (backslash_break_in (b ∷ bs)) (escape_at one alone k bs) (backslash-taken (b ∷ bs)) (λ n. escape-edged (word-is b 92 refl (omega arith) e)))
         (λ e1. when (b == 38) (entity_or one alone k (entity_in lookup bs)) c2 (λ e. entity-edged (word-is b 38 refl (omega arith) e) (entity_in lookup bs) (entity-leads lookup bs))
-        (λ e2. when (b == 96) (code_or one alone k (backticks (b ∷ bs)) (code_in (b ∷ bs))) c3 (λ e. code-edged (code_in (b ∷ bs)) (code-behind (b ∷ bs)) (prefix-some is_backtick b bs e) (prefix-leads is_backtick IsWord backtick-word (b ∷ bs)))
+        (λ e2. when (b == 96) (code_or one alone k (backticks (b ∷ bs)) (code_in (b ∷ bs))) c3 (λ e. code-edged (code_in (b ∷ bs)) (code-following (b ∷ bs)) (prefix-some is_backtick b bs e) (prefix-leads is_backtick IsWord backtick-word (b ∷ bs)))
         (λ e3. when (b == 60) (less_than one alone k bs) c4 (λ e. less_than-edged (word-is b 60 refl (omega arith) e))
         (λ e4. when (b == 33) bang c5
         (λ e. when (first_is (λ c. c == 91) bs) (Opens (bracket true k (k + 2))) text_item
@@ -420,8 +420,8 @@ module _ (options : Options) (lookup : Lookup) (is_cell : Bool) (text : List ℕ
         (λ e5. when (b == 91) (Opens (bracket false k (suc k))) c6 (λ e. opener-one (word-is b 91 refl (omega arith) e))
         (λ e6. when (b == 93) (Closes (bracket false k (suc k))) c7 (λ e. (edge, second (word-is b 93 refl (omega arith) e)))
         (λ e7. when (is_run_delimiter b) (run_at one alone k b (prefix_len (λ c. c == b) (b ∷ bs))) c8 (λ e. run-edged (mark-word e))
-        (λ e8. when (options.math && is_dollar b) (dollar one alone k bs (braces_behind false (before one alone k) no_braces)) c9
-        (λ e. dollar-edged (word-is b 36 refl (omega arith) (and-right options.math (is_dollar b) e)) (braces_behind false (before one alone k) no_braces))
+        (λ e8. when (options.math && is_dollar b) (dollar one alone k bs (braces_after false (before one alone k) no_braces)) c9
+        (λ e. dollar-edged (word-is b 36 refl (omega arith) (and-right options.math (is_dollar b) e)) (braces_after false (before one alone k) no_braces))
         (λ e9. when options.smart_punctuation (smart_or one alone k b) text_item (λ e. smart-edged) (λ e. plain k (suc k) edge)))))))))))
 
   pub begins-at-edged : (k : ℕ) → Edge k → Edged (begins_at one alone k)
@@ -529,9 +529,9 @@ module _ (options : Options) (lookup : Lookup) (is_cell : Bool) (text : List ℕ
       go (Closes c) e ih = stop-edge k le (λ end later g. cc)
       go Ends e ih = stop-edge k le (λ end later g. cc)
 
-  plain-end-behind : (n k : ℕ) → k ≤ plain_end one alone n k
-  plain-end-behind zero k = omega arith
-  plain-end-behind (suc n) k = go (begins_at one alone k) refl (plain-end-behind n)
+  plain-end-following : (n k : ℕ) → k ≤ plain_end one alone n k
+  plain-end-following zero k = omega arith
+  plain-end-following (suc n) k = go (begins_at one alone k) refl (plain-end-following n)
     where
       go : (t : Token) → begins_at one alone k ≡ t → ((resume : ℕ) → resume ≤ plain_end one alone n resume) → k ≤ goes_on one alone t k (plain_end one alone n)
       go (Stands x resume) e ih = by (is_plain x.kind && (x.start == k))
@@ -574,5 +574,5 @@ module _ (options : Options) (lookup : Lookup) (is_cell : Bool) (text : List ℕ
               let n = length (from one alone resume) in
               let m : n ≡ length text - resume = ap length (from-text resume) ∙ length-drop resume text in
               let ends = plain-end-edge n resume (omega arith) (omega arith) in
-              let behind = plain-end-behind n resume in
+              let following = plain-end-following n resume in
               (h.0, omega arith, ends, ends, tt)

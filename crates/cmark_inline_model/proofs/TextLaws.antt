@@ -1,12 +1,13 @@
 -- Each text has a reading with the answers of a plan.
 use Rattle.std.proofs.Common.{ℕ, List, [], length, refl, arith}
-use Rattle.cmark_grammar.specs.BlocksModel.{blocks}
-use Rattle.cmark_grammar.specs.Derivation.{Derives, document}
+use Rattle.cmark_block_model.specs.BlocksModel.{blocks}
+use Rattle.cmark_grammar.specs.Derivation.{Derives}
+use Rattle.cmark_block_model.specs.DocumentModel.{document}
 use Rattle.cmark_grammar.specs.Event.{Ranged}
 use Rattle.cmark_grammar.specs.Questions.{Exchange, Plan}
 use Rattle.cmark_grammar.specs.SpanDocuments.{Profile, reader_of, segments, IsReading}
-use Rattle.cmark_grammar.proofs.BlocksSound.{blocks-body}
-use Rattle.cmark_grammar.proofs.RangeLaws.{derived-order}
+use Rattle.cmark_block_model.proofs.BlocksSound.{blocks-body}
+use Rattle.cmark_block_model.proofs.RangeLaws.{derived-order}
 use Rattle.cmark_inline_model.specs.PlannedAnswers.{AreByPlan}
 use Rattle.cmark_inline_model.proofs.DocumentLeaves.{segments-turn}
 use Rattle.cmark_inline_model.proofs.PlannedReadings.{left-planned}

@@ -2,13 +2,13 @@
 use Rattle.std.proofs.Common.{◌≡◌, ℕ, zero, suc, ◌+◌, ◌-◌, ◌<◌, ◌≤◌, Bool, true, false, nat_lt, if◌then◌else◌, List, [], ◌∷◌, ◌++◌, get_or, refl, sym, ap, ◌∙◌, subst, arith, map}
 use Rattle.cmark_grammar.specs.Emphasis.{Run, Pair, Sibling, Plain, Delimiter, Piece, Whole, Standing}
 use Rattle.cmark_grammar.specs.Emphasis.{paired_count, pair_of, rest_of_opener, rest_of_closer, kinds_of, nest, wrapped, row, keep, is_tilde_or_caret, deactivates, deactivated, left_open, stand, Closes}
-use Rattle.cmark_grammar.specs.EmphasisModel.{closed, resolve, spans_of}
+use Rattle.cmark_inline_model.specs.EmphasisModel.{closed, resolve, spans_of}
 use Rattle.cmark_grammar.specs.Items.{ItemKind, Delimiters, Item}
 use Rattle.cmark_grammar.specs.Siblings.{Inline, Nil as NoSiblings, Single as SingleItem, Around as Element, run_then, runs_from, put_gap, no_gaps, gap_then, gaps_of}
 use Rattle.cmark_grammar.specs.Spans.{SpanKind, span_width, Spans, Nil, Single, Around, join, singles}
 use Rattle.cmark_inline_model.specs.SlotRows.{AreTight}
-use Rattle.cmark_grammar.proofs.EmphasisSound.{closed-closes}
-use Rattle.cmark_grammar.proofs.SpanPlaces.{widths, widths-kinds, count-opener, count-closer}
+use Rattle.cmark_inline_model.proofs.EmphasisSound.{closed-closes}
+use Rattle.cmark_inline_model.proofs.SpanPlaces.{widths, widths-kinds, count-opener, count-closer}
 
 module _ (E : ℕ → Type 0) where
   abbrev pub TightRun : Run → Type 0
@@ -131,11 +131,11 @@ no-gaps-here zero i gaps h = absurd (omega (arith, h))
 no-gaps-here (suc n) zero gaps h = refl
 no-gaps-here (suc n) (suc i) gaps h = no-gaps-here n i gaps (omega (arith, h))
 
-no-gaps-behind : (n i : ℕ) (gaps : List Inline) → get_or (no_gaps n gaps) (n + i) NoSiblings ≡ get_or gaps i NoSiblings
-no-gaps-behind zero i gaps = let e : 0 + i ≡ i = omega arith in ap (λ j. get_or gaps j NoSiblings) e
-no-gaps-behind (suc n) i gaps =
+no-gaps-following : (n i : ℕ) (gaps : List Inline) → get_or (no_gaps n gaps) (n + i) NoSiblings ≡ get_or gaps i NoSiblings
+no-gaps-following zero i gaps = let e : 0 + i ≡ i = omega arith in ap (λ j. get_or gaps j NoSiblings) e
+no-gaps-following (suc n) i gaps =
     let e : suc n + i ≡ suc (n + i) = omega arith in
-    ap (λ j. get_or (NoSiblings ∷ no_gaps n gaps) j NoSiblings) e ∙ no-gaps-behind n i gaps
+    ap (λ j. get_or (NoSiblings ∷ no_gaps n gaps) j NoSiblings) e ∙ no-gaps-following n i gaps
 
 -- the gaps after the first byte that are empty are so from this index on
 abbrev Empties : (E : ℕ → Type 0) → ℕ → List Inline → Type 0
@@ -150,7 +150,7 @@ item-tight : (E : ℕ → Type 0) (kind : ItemKind) (x : Item) (after : Inline) 
 item-tight E (Delimiters run) x after n ih h =
     let own : TightRun E (record { delimiter = run.delimiter; run_length = run.run_length; at = n; left = run.run_length; opens = run.opens; closes = run.closes }) =
     λ i a b. let e : n + (i - n) ≡ i = omega (arith, a) in subst E e (h (i - n) (omega (arith, a)) (no-gaps-here run.run_length (i - n) (gaps_of after) (omega (arith, a, b)))) in
-    (own, ih (n + run.run_length) (λ j k e. let s : n + (run.run_length + j) ≡ (n + run.run_length) + j = omega arith in subst E s (h (run.run_length + j) (omega (arith, k)) (no-gaps-behind run.run_length j (gaps_of after) ∙ e))))
+    (own, ih (n + run.run_length) (λ j k e. let s : n + (run.run_length + j) ≡ (n + run.run_length) + j = omega arith in subst E s (h (run.run_length + j) (omega (arith, k)) (no-gaps-following run.run_length j (gaps_of after) ∙ e))))
 item-tight E kind x after n ih h = ih n (empties-put E n (SingleItem x) (gaps_of after) h)
 
 runs-tight : (E : ℕ → Type 0) (siblings : Inline) (n : ℕ) → Empties E n (gaps_of siblings) → TightSiblings E (runs_from siblings n)

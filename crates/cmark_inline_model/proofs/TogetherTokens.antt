@@ -11,8 +11,8 @@ use Rattle.cmark_grammar.specs.CodeSpans.{is_backtick, backticks, code_in}
 use Rattle.cmark_grammar.specs.Columns.{is_blank_byte}
 use Rattle.cmark_grammar.specs.Dashes.{dashes_of, dash_text}
 use Rattle.cmark_grammar.specs.Flanking.{Flanking, flanking, is_run_delimiter}
-use Rattle.cmark_grammar.specs.Formulas.{is_dollar, Braces, no_braces, braces_behind, inline_in, display_in}
-use Rattle.cmark_grammar.specs.InlineHtml.{behind_markup, takes_lines}
+use Rattle.cmark_grammar.specs.Formulas.{is_dollar, Braces, no_braces, braces_after, inline_in, display_in}
+use Rattle.cmark_grammar.specs.InlineHtml.{after_markup, takes_lines}
 use Rattle.cmark_grammar.specs.InlineTokens.{item_at, bracket, is_plain, from, before, place_of, size_to, character_before, character_at, break_or, code_or, escaped_backtick, escape_at, entity_or, autolink_or, tag_or_text, source_from, markup_or, less_than, run_or, run_at, formula_or, dollar, dots, hyphens, quote_at, smart_or, begins, begins_at, goes_on, plain_end, longest, token}
 use Rattle.cmark_grammar.specs.Items.{ItemKind, Plain, Written, InlineMath, DisplayMath, Delimiters, Html, OwnedHtml, SoftBreak, HardBreak, Item, Token, Stands, Opens, Closes, Ends}
 use Rattle.cmark_grammar.specs.LabelsOverLines.{piped}
@@ -22,11 +22,11 @@ use Rattle.cmark_grammar.specs.LineBreaks.{LineBreak, backslash_break_in, blank_
 use Rattle.cmark_grammar.specs.Lines.{is_content}
 use Rattle.cmark_grammar.specs.LinkDefinitions.{Parsed}
 use Rattle.cmark_grammar.specs.Readers.{Reader}
-use Rattle.cmark_grammar.specs.Tags.{behind_tag, no_prefix}
+use Rattle.cmark_grammar.specs.Tags.{after_tag, no_prefix}
 use Rattle.cmark_grammar.specs.Tokens.{Entity, entity_in, is_punctuation, slice}
-use Rattle.cmark_grammar.proofs.RowEdges.{Front, front-add}
+use Rattle.cmark_block_model.proofs.RowEdges.{Front, front-add}
 use Rattle.cmark_inline_model.specs.PlacedTokens.{AreLeafPlaces, one_stretch, text_reader, may_open_markup, is_as_written}
-use Rattle.cmark_inline_model.proofs.FindRests.{IsBehind, ParsedBehind, behind-rest, autolink-behind, tag-behind}
+use Rattle.cmark_inline_model.proofs.FindRests.{IsAfter, ParsedAfter, following-rest, autolink-following, tag-following}
 use Rattle.cmark_inline_model.proofs.PlacedTokens.{from-text, inside, fewer-steps, content-leads, no-own, no-break}
 use Rattle.cmark_inline_model.proofs.PlainTokens.{Shaped, NotPlain, begins-shaped, markup-not, goes-stop}
 use Rattle.cmark_inline_model.proofs.WordBytes.{IsWord, and-right, word-is, punctuation-word, Leads, prefix-leads, starts-leads, first-leads, leads-cons}
@@ -131,7 +131,7 @@ module _ (reader : Reader) (leaf : Leaf) (text : List ℕ) (place : ℕ → ℕ)
   break_joined at None other p = p refl
   break_joined at (Some found) other p = by found.is_hard
     where
-      by : (b : Bool) → is_as_written (if b then HardBreak else SoftBreak) ≡ true → Together (at + found.before) (at + size_to one alone at found.behind)
+      by : (b : Bool) → is_as_written (if b then HardBreak else SoftBreak) ≡ true → Together (at + found.before) (at + size_to one alone at found.following)
       by true e = not_written e
       by false e = not_written e
 
@@ -192,7 +192,7 @@ module _ (reader : Reader) (leaf : Leaf) (text : List ℕ) (place : ℕ → ℕ)
         both false false e f = refl
 
     -- up to the end of one of these bytes
-    rest_joined : (rest : List ℕ) → IsBehind (b ∷ bs) rest → Front (λ c. is_content c ≡ true) (length (b ∷ bs) - length rest) (b ∷ bs) → Together k (place_of one alone rest)
+    rest_joined : (rest : List ℕ) → IsAfter (b ∷ bs) rest → Front (λ c. is_content c ≡ true) (length (b ∷ bs) - length rest) (b ∷ bs) → Together k (place_of one alone rest)
     rest_joined rest x f =
         let n = length (b ∷ bs) - length rest in
         let i = x.inside in
@@ -202,7 +202,7 @@ module _ (reader : Reader) (leaf : Leaf) (text : List ℕ) (place : ℕ → ℕ)
         let w = length-drop k text in
         leads-together k 0 n (b ∷ bs) here (record { front = f; fits = omega arith }) (omega arith) k (length text - length rest) (omega arith) (omega arith)
 
-    tag_joined : is_content b ≡ true → (found : Option (List ℕ)) → behind_tag no_prefix (b ∷ bs) ≡ found → Joined (tag_or_text one alone k found)
+    tag_joined : is_content b ≡ true → (found : Option (List ℕ)) → after_tag no_prefix (b ∷ bs) ≡ found → Joined (tag_or_text one alone k found)
     tag_joined c None e = λ w. byte_joined c
     tag_joined c (Some rest) e = by (takes_lines (take (size_to one alone k rest) (from one alone k))) refl
       where
@@ -212,13 +212,13 @@ module _ (reader : Reader) (leaf : Leaf) (text : List ℕ) (place : ℕ → ℕ)
         by : (z : Bool) → takes_lines (take (size_to one alone k rest) (from one alone k)) ≡ z → is_as_written (if z then OwnedHtml (take (size_to one alone k rest) (from one alone k)) else Html) ≡ true → Together k (place_of one alone rest)
         by true f w = not_written w
         by false f w =
-            rest_joined rest (tag-behind (b ∷ bs) rest e)
+            rest_joined rest (tag-following (b ∷ bs) rest e)
             (no_lines (length (b ∷ bs) - length rest) (b ∷ bs) (sym (ap (λ l. takes_lines (take (length l - length rest) l)) from_here) ∙ f))
 
     -- the bytes of an autolink, including its `>`
     abbrev UriFront : Option Parsed → Type 0
     UriFront None = Unit {0}
-    UriFront (Some f) = Front (λ d. is_content d ≡ true) (length (b ∷ bs) - length f.behind) (b ∷ bs)
+    UriFront (Some f) = Front (λ d. is_content d ≡ true) (length (b ∷ bs) - length f.following) (b ∷ bs)
 
     uri_content : (d : ℕ) → is_uri_byte d ≡ true → is_content d ≡ true
     uri_content d e = go (nat_le d 32) ((d == 127) || ((d == 60) || (d == 62))) refl e
@@ -238,7 +238,7 @@ module _ (reader : Reader) (leaf : Leaf) (text : List ℕ) (place : ℕ → ℕ)
         n : ℕ
         n = prefix_len is_uri_byte bs
 
-        go : (z : Bool) → first_is (λ d. d == 62) (drop n bs) ≡ z → UriFront (if z then Some (record { bytes = take n bs; behind = drop (suc n) bs }) else None)
+        go : (z : Bool) → first_is (λ d. d == 62) (drop n bs) ≡ z → UriFront (if z then Some (record { bytes = take n bs; following = drop (suc n) bs }) else None)
         go false e = tt
         go true e =
             let f = prefix-leads is_uri_byte (λ d. is_content d ≡ true) uri_content bs in
@@ -257,18 +257,18 @@ module _ (reader : Reader) (leaf : Leaf) (text : List ℕ) (place : ℕ → ℕ)
 
     autolink_joined : is_content b ≡ true → (found : Option Parsed) (other : Token) → autolink_in reader.options.email_autolinks bs ≡ found → (found ≡ None → Joined other) → Joined (autolink_or one alone k found other)
     autolink_joined c None other e p = p refl
-    autolink_joined c (Some found) other e p = λ w. rest_joined found.behind (behind-rest (b ∷ bs) bs found.behind (1, refl) (subst (ParsedBehind bs) e (autolink-behind reader.options.email_autolinks bs))) (subst UriFront e (uri_front c))
+    autolink_joined c (Some found) other e p = λ w. rest_joined found.following (following-rest (b ∷ bs) bs found.following (1, refl) (subst (ParsedAfter bs) e (autolink-following reader.options.email_autolinks bs))) (subst UriFront e (uri_front c))
 
     module _ (none : may_open_markup reader.options.email_autolinks (b ∷ bs) ≡ false) where
       less_than_joined : (b == 60) ≡ true → Joined (less_than one alone k bs)
       less_than_joined e =
           let c = subst (λ x. is_content x ≡ true) (sym (eqb-true b 60 e)) refl in
-          let tag = tag_or_text one alone k (behind_tag no_prefix (from one alone k)) in
-          let others = markup_or one alone k (behind_markup (source_from one alone k)) tag in
+          let tag = tag_or_text one alone k (after_tag no_prefix (from one alone k)) in
+          let others = markup_or one alone k (after_markup (source_from one alone k)) tag in
           when (first_is (λ d. d == 92) bs) (item_at Plain k (suc k)) (autolink_or one alone k (autolink_in reader.options.email_autolinks bs) others) (λ f w. byte_joined c)
           (λ f. autolink_joined c (autolink_in reader.options.email_autolinks bs) others refl
           (λ g. subst (λ o. Joined (markup_or one alone k o tag)) (sym (no-own reader leaf text place h k b bs here none e g))
-          (tag_joined c (behind_tag no_prefix (from one alone k)) (ap (behind_tag no_prefix) (sym (from-text reader leaf text place h k ∙ here))))))
+          (tag_joined c (after_tag no_prefix (from one alone k)) (ap (after_tag no_prefix) (sym (from-text reader leaf text place h k ∙ here))))))
 
       run_joined : (n : ℕ) (beside : Flanking) → Leads (λ c. is_content c ≡ true) n (b ∷ bs) → 0 < n → Joined (run_or one alone k b n beside)
       run_joined n beside f some =
@@ -319,7 +319,7 @@ module _ (reader : Reader) (leaf : Leaf) (text : List ℕ) (place : ℕ → ℕ)
       begins_joined =
           let plain = item_at Plain k (suc k) in
           let c9 = if reader.options.smart_punctuation then smart_or one alone k b else plain in
-          let c8 = if reader.options.math && is_dollar b then dollar one alone k bs (braces_behind false (before one alone k) no_braces) else c9 in
+          let c8 = if reader.options.math && is_dollar b then dollar one alone k bs (braces_after false (before one alone k) no_braces) else c9 in
           let n = prefix_len (λ c. c == b) (b ∷ bs) in
           let c7 = if is_run_delimiter b then run_at one alone k b n else c8 in
           let c6 = if b == 93 then Closes (bracket false k (suc k)) else c7 in
@@ -347,7 +347,7 @@ module _ (reader : Reader) (leaf : Leaf) (text : List ℕ) (place : ℕ → ℕ)
           (λ e. run_joined n (flanking reader.options b n (character_before one alone k) (character_at one alone (k + n)))
           (prefix-leads (λ d. d == b) (λ d. is_content d ≡ true) (λ d q. subst (λ x. is_content x ≡ true) (sym (eqb-true d b q)) c) (b ∷ bs))
           (subst (λ z. 0 < (if z then 1 + prefix_len (λ c. c == b) bs else 0)) (sym (eq-eqb b b refl)) (omega arith)))
-          (λ e8. when (reader.options.math && is_dollar b) (dollar one alone k bs (braces_behind false (before one alone k) no_braces)) c9 (λ e. dollar_joined c (braces_behind false (before one alone k) no_braces))
+          (λ e8. when (reader.options.math && is_dollar b) (dollar one alone k bs (braces_after false (before one alone k) no_braces)) c9 (λ e. dollar_joined c (braces_after false (before one alone k) no_braces))
           (λ e9. when reader.options.smart_punctuation (smart_or one alone k b) plain (λ e. smart_joined c) (λ e w. byte_joined c))))))))))))
 
   pub begins-joined : (k : ℕ) → may_open_markup reader.options.email_autolinks (drop k text) ≡ false → Joined (begins_at one alone k)

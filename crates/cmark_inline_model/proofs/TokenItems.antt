@@ -11,8 +11,8 @@ use Rattle.cmark_grammar.specs.Columns.{is_blank_byte}
 use Rattle.cmark_grammar.specs.Dashes.{dashes_of, dash_text}
 use Rattle.cmark_grammar.specs.Emphasis.{Run}
 use Rattle.cmark_grammar.specs.Flanking.{is_delimiter_run, is_intraword, opens_beside, closes_beside, flanking, is_run_delimiter}
-use Rattle.cmark_grammar.specs.Formulas.{is_dollar, Braces, no_braces, braces_behind, inline_in, display_in}
-use Rattle.cmark_grammar.specs.InlineHtml.{behind_markup, takes_lines}
+use Rattle.cmark_grammar.specs.Formulas.{is_dollar, Braces, no_braces, braces_after, inline_in, display_in}
+use Rattle.cmark_grammar.specs.InlineHtml.{after_markup, takes_lines}
 use Rattle.cmark_grammar.specs.InlineTokens.{item_at, bracket, is_plain, from, before, character_before, character_at, break_or, code_or, escaped_backtick, escape_at, entity_or, autolink_or, tag_or_text, source_from, markup_or, less_than, run_at, formula_or, dollar, dots, hyphens, quote_at, smart_or, begins, begins_at, plain_end, longest, token, size_to, place_of}
 use Rattle.cmark_grammar.specs.Items.{ItemKind, Plain, Written, Html, OwnedHtml, Delimiters, InlineMath, DisplayMath, SoftBreak, HardBreak, Item, Bracket, Token, Stands, Opens, Closes, Ends, Own, Code, Autolink, Quoted}
 use Rattle.cmark_grammar.specs.LabelsOverLines.{piped}
@@ -25,7 +25,7 @@ use Rattle.cmark_grammar.specs.Parts.{Parts, Nil, Single, Form, Closing, Opening
 use Rattle.cmark_grammar.specs.Questions.{Saying}
 use Rattle.cmark_grammar.specs.Quotes.{Quote}
 use Rattle.cmark_grammar.specs.Readers.{Reader}
-use Rattle.cmark_grammar.specs.Tags.{behind_tag, no_prefix}
+use Rattle.cmark_grammar.specs.Tags.{after_tag, no_prefix}
 use Rattle.cmark_grammar.specs.Tokens.{Entity, entity_in, is_punctuation}
 
 module _ (reader : Reader) (leaf : Leaf) (Holds : ItemKind → (start end : ℕ) → Type 0) where
@@ -43,7 +43,7 @@ module _ (reader : Reader) (leaf : Leaf) (Holds : ItemKind → (start end : ℕ)
     pub inline_math : reader.options.math ≡ true → (text : List ℕ) (start end : ℕ) → Holds (InlineMath text) start end
     pub display_math : reader.options.math ≡ true → (text : List ℕ) (start end : ℕ) → Holds (DisplayMath text) start end
     pub run : (run : Run) (start : ℕ) → is_delimiter_run reader.options run.delimiter run.run_length ≡ true → Holds (Delimiters run) start (start + run.run_length)
-    pub autolink : (at b : ℕ) (bs : List ℕ) (found : Parsed) → from reader leaf at ≡ b ∷ bs → autolink_in reader.options.email_autolinks bs ≡ Some found → Holds (Autolink found.bytes) at (place_of reader leaf found.behind)
+    pub autolink : (at b : ℕ) (bs : List ℕ) (found : Parsed) → from reader leaf at ≡ b ∷ bs → autolink_in reader.options.email_autolinks bs ≡ Some found → Holds (Autolink found.bytes) at (place_of reader leaf found.following)
 
   abbrev pub HoldsOf : Token → Type 0
   HoldsOf (Stands item resume) = Holds item.kind item.start item.end
@@ -113,10 +113,10 @@ module _ (reader : Reader) (leaf : Leaf) (Holds : ItemKind → (start end : ℕ)
 
     less_than_holds : HoldsOf (less_than reader leaf at bs)
     less_than_holds =
-        let tag = tag_or_text reader leaf at (behind_tag no_prefix (from reader leaf at)) in
-        let others = markup_or reader leaf at (behind_markup (source_from reader leaf at)) tag in
+        let tag = tag_or_text reader leaf at (after_tag no_prefix (from reader leaf at)) in
+        let others = markup_or reader leaf at (after_markup (source_from reader leaf at)) tag in
         when (first_is (λ c. c == 92) bs) (item_at Plain at (suc at)) (autolink_or reader leaf at (autolink_in reader.options.email_autolinks bs) others) (λ e. holds.plain _ _)
-        (autolink_holds (autolink_in reader.options.email_autolinks bs) others refl (markup_holds (behind_markup (source_from reader leaf at)) tag (tag_holds (behind_tag no_prefix (from reader leaf at)))))
+        (autolink_holds (autolink_in reader.options.email_autolinks bs) others refl (markup_holds (after_markup (source_from reader leaf at)) tag (tag_holds (after_tag no_prefix (from reader leaf at)))))
 
     run_holds : (n : ℕ) → HoldsOf (run_at reader leaf at b n)
     run_holds n =
@@ -151,7 +151,7 @@ module _ (reader : Reader) (leaf : Leaf) (Holds : ItemKind → (start end : ℕ)
     begins_holds =
         let plain = item_at Plain at (suc at) in
         let c9 = if reader.options.smart_punctuation then smart_or reader leaf at b else plain in
-        let c8 = if reader.options.math && is_dollar b then dollar reader leaf at bs (braces_behind false (before reader leaf at) no_braces) else c9 in
+        let c8 = if reader.options.math && is_dollar b then dollar reader leaf at bs (braces_after false (before reader leaf at) no_braces) else c9 in
         let c7 = if is_run_delimiter b then run_at reader leaf at b (prefix_len (λ c. c == b) (b ∷ bs)) else c8 in
         let c6 = if b == 93 then Closes (bracket false at (suc at)) else c7 in
         let c5 = if b == 91 then Opens (bracket false at (suc at)) else c6 in
@@ -170,8 +170,8 @@ module _ (reader : Reader) (leaf : Leaf) (Holds : ItemKind → (start end : ℕ)
         (when (b == 91) (Opens (bracket false at (suc at))) c6 (λ e. tt)
         (when (b == 93) (Closes (bracket false at (suc at))) c7 (λ e. tt)
         (when (is_run_delimiter b) (run_at reader leaf at b (prefix_len (λ c. c == b) (b ∷ bs))) c8 (λ e. run_holds (prefix_len (λ c. c == b) (b ∷ bs)))
-        (when (reader.options.math && is_dollar b) (dollar reader leaf at bs (braces_behind false (before reader leaf at) no_braces)) c9
-        (λ e. dollar_holds (braces_behind false (before reader leaf at) no_braces) (and_left reader.options.math (is_dollar b) e))
+        (when (reader.options.math && is_dollar b) (dollar reader leaf at bs (braces_after false (before reader leaf at) no_braces)) c9
+        (λ e. dollar_holds (braces_after false (before reader leaf at) no_braces) (and_left reader.options.math (is_dollar b) e))
         (when reader.options.smart_punctuation (smart_or reader leaf at b) plain smart_holds (holds.plain _ _)))))))))))
 
   begins_at_holds : HoldsOfItems → (at : ℕ) (l : List ℕ) → from reader leaf at ≡ l → HoldsOf (begins reader leaf at l)

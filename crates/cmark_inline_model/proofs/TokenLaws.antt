@@ -10,8 +10,8 @@ use Rattle.cmark_grammar.specs.CodeSpans.{is_backtick, backticks, code_in, code_
 use Rattle.cmark_grammar.specs.Columns.{is_blank_byte}
 use Rattle.cmark_grammar.specs.Dashes.{dashes_of, dash_text}
 use Rattle.cmark_grammar.specs.Flanking.{Flanking, flanking, is_run_delimiter}
-use Rattle.cmark_grammar.specs.Formulas.{is_dollar, Braces, no_braces, braces_behind, inline_in, display_in}
-use Rattle.cmark_grammar.specs.InlineHtml.{behind_markup}
+use Rattle.cmark_grammar.specs.Formulas.{is_dollar, Braces, no_braces, braces_after, inline_in, display_in}
+use Rattle.cmark_grammar.specs.InlineHtml.{after_markup}
 use Rattle.cmark_grammar.specs.InlineTokens.{item_at, bracket, is_plain, as_in, from, before, place_of, size_to, character_before, character_at, line_begins, read_on, break_or, code_or, escaped_backtick, escape_at, entity_or, autolink_or, tag_kind, tag_or_text, source_from, markup_or, less_than, run_or, run_at, formula_or, dollar, dots, hyphens, quote_at, smart_or, begins, begins_at, goes_on, plain_end, longest, token}
 use Rattle.cmark_grammar.specs.Items.{ItemKind, Plain, Own, Written, Code, InlineMath, DisplayMath, Autolink, Quoted, Delimiters, Token, Stands, Opens, Closes, Ends}
 use Rattle.cmark_grammar.specs.LabelsOverLines.{piped}
@@ -19,18 +19,18 @@ use Rattle.cmark_grammar.specs.LeafText.{Leaf, end_of, InTurn}
 use Rattle.cmark_grammar.specs.Letters.{first_is, starts}
 use Rattle.cmark_grammar.specs.LineBreaks.{LineBreak, backslash_break_in, blank_break_in}
 use Rattle.cmark_grammar.specs.Lines.{is_content}
-use Rattle.cmark_grammar.specs.LinkDefinitions.{Parsed, behind_blanks}
+use Rattle.cmark_grammar.specs.LinkDefinitions.{Parsed, after_leading_blanks}
 use Rattle.cmark_grammar.specs.Quotes.{quote_beside}
 use Rattle.cmark_grammar.specs.Readers.{Reader}
-use Rattle.cmark_grammar.specs.Tags.{behind_tag, no_prefix}
+use Rattle.cmark_grammar.specs.Tags.{after_tag, no_prefix}
 use Rattle.cmark_grammar.specs.Tokens.{Entity, entity_in, is_punctuation}
-use Rattle.cmark_grammar.proofs.ShorterRests.{LeavesBelow, ParsedBelow, either, prefix-some, tag-shorter, code-shorter, autolink-within, inline-shorter, display-shorter, markup-shorter}
+use Rattle.cmark_inline_model.proofs.ShorterRests.{LeavesBelow, ParsedBelow, either, prefix-some, tag-shorter, code-shorter, autolink-within, inline-shorter, display-shorter, markup-shorter}
 use Rattle.cmark_inline_model.specs.PartRanges.{StandsFrom}
-use Rattle.cmark_inline_model.proofs.LeafPlaces.{none-behind, place-within, place-from, place-behind, some-fit}
+use Rattle.cmark_inline_model.proofs.LeafPlaces.{none-following, place-within, place-from, place-following, some-fit}
 use Rattle.cmark_inline_model.proofs.TokenSizes.{starts-size, first-size, EntityWithin, entity-within, BreakWithin, backslash-within, blank-within}
 
-pub length-blanks : (bs : List ℕ) → length (behind_blanks bs) ≤ length bs
-length-blanks bs = let e = length-drop (length bs - length (behind_blanks bs)) bs in dropped _ bs
+pub length-blanks : (bs : List ℕ) → length (after_leading_blanks bs) ≤ length bs
+length-blanks bs = let e = length-drop (length bs - length (after_leading_blanks bs)) bs in dropped _ bs
   where
     dropped : (k : ℕ) (l : List ℕ) → length (drop k l) ≤ length l
     dropped k l = let e = length-drop k l in omega arith
@@ -70,31 +70,31 @@ module _ (reader : Reader) (leaf : Leaf) (size : ℕ) (turn : InTurn 0 leaf.stre
     rest_onward : (kind : ItemKind) (rest : List ℕ) → length rest < suc (length bs) → Onward at (item_at kind at (place_of reader leaf rest))
     rest_onward kind rest h =
         let e = size_here in
-        let p = place-behind reader.source leaf.stretches size turn (length rest) at (omega arith) in
+        let p = place-following reader.source leaf.stretches size turn (length rest) at (omega arith) in
         let q = place-within reader.source leaf.stretches size turn (length rest) in
         item_onward at at (place_of reader leaf rest) kind (omega arith) (omega arith) p q
 
-    read_on_behind : (x : ℕ) → x ≤ end → (x ≤ read_on reader leaf x) × (read_on reader leaf x ≤ end)
-    read_on_behind x h = (place-from reader.source leaf.stretches size turn (length rest) x within h, place-within reader.source leaf.stretches size turn (length rest))
+    read_on_after : (x : ℕ) → x ≤ end → (x ≤ read_on reader leaf x) × (read_on reader leaf x ≤ end)
+    read_on_after x h = (place-from reader.source leaf.stretches size turn (length rest) x within h, place-within reader.source leaf.stretches size turn (length rest))
       where
         rest : List ℕ
-        rest = if line_begins reader leaf x then behind_blanks (from reader leaf x) else from reader leaf x
+        rest = if line_begins reader leaf x then after_leading_blanks (from reader leaf x) else from reader leaf x
 
         within : length rest ≤ length (from reader leaf x)
         within =
-            either (λ (l : List ℕ). length l ≤ length (from reader leaf x)) (line_begins reader leaf x) (behind_blanks (from reader leaf x)) (from reader leaf x) (length-blanks (from reader leaf x)) (omega arith)
+            either (λ (l : List ℕ). length l ≤ length (from reader leaf x)) (line_begins reader leaf x) (after_leading_blanks (from reader leaf x)) (from reader leaf x) (length-blanks (from reader leaf x)) (omega arith)
 
     break_onward : (found : Option LineBreak) (other : Token) → BreakWithin (suc (length bs)) found → Onward at other → Onward at (break_or reader leaf at found other)
     break_onward None other h k = k
     break_onward (Some found) other h k =
         let e = size_here in let f = fits in
-        let item_end = at + size_to reader leaf at found.behind in
-        let r = read_on_behind item_end (omega arith) in
+        let item_end = at + size_to reader leaf at found.following in
+        let r = read_on_after item_end (omega arith) in
         let a = r.0 in let c = r.1 in
         (record { begins = omega arith; ordered = omega arith; ends = a }, omega arith, c)
 
     code_onward : (n : ℕ) (found : Option Parsed) → 0 < n → n ≤ suc (length bs) → ParsedBelow (suc (length bs)) found → Onward at (code_or reader leaf at n found)
-    code_onward n (Some found) h k f = rest_onward (Code (code_text (as_in leaf.is_cell found.bytes))) found.behind f
+    code_onward n (Some found) h k f = rest_onward (Code (code_text (as_in leaf.is_cell found.bytes))) found.following f
     code_onward n None h k f = bytes_onward at n Own (omega arith) (omega arith) k
 
     entity_onward : (entity : Option Entity) → EntityWithin (suc (length bs)) entity → Onward at (entity_or reader leaf at entity)
@@ -136,7 +136,7 @@ module _ (reader : Reader) (leaf : Leaf) (size : ℕ) (turn : InTurn 0 leaf.stre
         let s = length-take (end - at) (drop at reader.source) in
         let f = fits in
         let item_end = at + (length (source_from reader leaf at) - length rest) in
-        let r = read_on_behind item_end (omega arith) in
+        let r = read_on_after item_end (omega arith) in
         let a = r.0 in let c = r.1 in
         (record { begins = omega arith; ordered = omega arith; ends = a }, omega arith, c)
 
@@ -146,15 +146,15 @@ module _ (reader : Reader) (leaf : Leaf) (size : ℕ) (turn : InTurn 0 leaf.stre
 
     autolink_onward : (found : Option Parsed) (other : Token) → ParsedBelow (suc (length bs)) found → Onward at other → Onward at (autolink_or reader leaf at found other)
     autolink_onward None other h k = k
-    autolink_onward (Some found) other h k = rest_onward (Autolink found.bytes) found.behind h
+    autolink_onward (Some found) other h k = rest_onward (Autolink found.bytes) found.following h
 
     less_than_onward : Onward at (less_than reader leaf at bs)
     less_than_onward =
-        let others = markup_or reader leaf at (behind_markup (source_from reader leaf at)) (tag_or_text reader leaf at (behind_tag no_prefix (from reader leaf at))) in
+        let others = markup_or reader leaf at (after_markup (source_from reader leaf at)) (tag_or_text reader leaf at (after_tag no_prefix (from reader leaf at))) in
         when at (first_is (λ c. c == 92) bs) (item_at Plain at (suc at)) (autolink_or reader leaf at (autolink_in reader.options.email_autolinks bs) others) (λ e. byte_onward Plain)
         (autolink_onward (autolink_in reader.options.email_autolinks bs) others (autolink-within reader.options.email_autolinks bs)
-        (markup_onward (behind_markup (source_from reader leaf at)) (tag_or_text reader leaf at (behind_tag no_prefix (from reader leaf at))) (markup-shorter (source_from reader leaf at))
-        (tag_onward (behind_tag no_prefix (from reader leaf at)) (tag-shorter no_prefix (from reader leaf at)))))
+        (markup_onward (after_markup (source_from reader leaf at)) (tag_or_text reader leaf at (after_tag no_prefix (from reader leaf at))) (markup-shorter (source_from reader leaf at))
+        (tag_onward (after_tag no_prefix (from reader leaf at)) (tag-shorter no_prefix (from reader leaf at)))))
 
     run_onward : (delimiter n : ℕ) (beside : Flanking) → 0 < n → n ≤ suc (length bs) → Onward at (run_or reader leaf at delimiter n beside)
     run_onward delimiter n beside h k =
@@ -162,7 +162,7 @@ module _ (reader : Reader) (leaf : Leaf) (size : ℕ) (turn : InTurn 0 leaf.stre
         (λ e. bytes_onward at n (Delimiters (record { delimiter = delimiter; run_length = n; at = 0; left = n; opens = beside.opens; closes = beside.closes })) (omega arith) (omega arith) k) (bytes_onward at n Plain (omega arith) (omega arith) k)
 
     formula_onward : (kind : List ℕ → ItemKind) (found : Option Parsed) → ParsedBelow (suc (length bs)) found → Onward at (formula_or reader leaf kind at found)
-    formula_onward kind (Some found) h = rest_onward (kind (as_in leaf.is_cell found.bytes)) found.behind h
+    formula_onward kind (Some found) h = rest_onward (kind (as_in leaf.is_cell found.bytes)) found.following h
     formula_onward kind None h = byte_onward Own
 
     more_found : (n m : ℕ) (found : Option Parsed) → n ≤ m → ParsedBelow n found → ParsedBelow m found
@@ -211,7 +211,7 @@ module _ (reader : Reader) (leaf : Leaf) (size : ℕ) (turn : InTurn 0 leaf.stre
         let f = fits in
         let plain = item_at Plain at (suc at) in
         let c9 = if reader.options.smart_punctuation then smart_or reader leaf at b else plain in
-        let c8 = if reader.options.math && is_dollar b then dollar reader leaf at bs (braces_behind false (before reader leaf at) no_braces) else c9 in
+        let c8 = if reader.options.math && is_dollar b then dollar reader leaf at bs (braces_after false (before reader leaf at) no_braces) else c9 in
         let c7 = if is_run_delimiter b then run_at reader leaf at b (prefix_len (λ c. c == b) (b ∷ bs)) else c8 in
         let c6 = if b == 93 then Closes (bracket false at (suc at)) else c7 in
         let c5 = if b == 91 then Opens (bracket false at (suc at)) else c6 in
@@ -233,7 +233,7 @@ module _ (reader : Reader) (leaf : Leaf) (size : ℕ) (turn : InTurn 0 leaf.stre
         (when at (b == 93) (Closes (bracket false at (suc at))) c7 (λ e. (refl, refl, omega arith))
         (when at (is_run_delimiter b) (run_at reader leaf at b (prefix_len (λ c. c == b) (b ∷ bs))) c8
         (λ e. (let r = run_size b refl in (let n = prefix_len (λ c. c == b) (b ∷ bs) in run_onward b n (flanking reader.options b n (character_before reader leaf at) (character_at reader leaf (at + n))) r.0 r.1)))
-        (when at (reader.options.math && is_dollar b) (dollar reader leaf at bs (braces_behind false (before reader leaf at) no_braces)) c9 (λ e. dollar_onward (braces_behind false (before reader leaf at) no_braces))
+        (when at (reader.options.math && is_dollar b) (dollar reader leaf at bs (braces_after false (before reader leaf at) no_braces)) c9 (λ e. dollar_onward (braces_after false (before reader leaf at) no_braces))
         (when at reader.options.smart_punctuation (smart_or reader leaf at b) plain (λ e. smart_onward) (byte_onward Plain)))))))))))
 
   pub begins-at-onward : (at : ℕ) → Onward at (begins_at reader leaf at)
@@ -274,7 +274,7 @@ module _ (reader : Reader) (leaf : Leaf) (size : ℕ) (turn : InTurn 0 leaf.stre
 
   pub token-ends : (at : ℕ) → end ≤ at → token reader leaf at ≡ Ends
   unfolding token
-  token-ends at h = go (from reader leaf at) (none-behind reader.source leaf.stretches size turn at h)
+  token-ends at h = go (from reader leaf at) (none-following reader.source leaf.stretches size turn at h)
     where
       go : (l : List ℕ) → length l ≡ 0 → longest reader leaf (begins reader leaf at l) ≡ Ends
       go [] e = refl

@@ -8,8 +8,8 @@ use Rattle.cmark_grammar.specs.CodeSpans.{is_backtick, backticks, code_in}
 use Rattle.cmark_grammar.specs.Columns.{is_blank_byte}
 use Rattle.cmark_grammar.specs.Dashes.{dashes_of, dash_text}
 use Rattle.cmark_grammar.specs.Flanking.{flanking, is_run_delimiter}
-use Rattle.cmark_grammar.specs.Formulas.{is_dollar, Braces, no_braces, braces_behind, inline_in, display_in}
-use Rattle.cmark_grammar.specs.InlineHtml.{behind_markup, takes_lines}
+use Rattle.cmark_grammar.specs.Formulas.{is_dollar, Braces, no_braces, braces_after, inline_in, display_in}
+use Rattle.cmark_grammar.specs.InlineHtml.{after_markup, takes_lines}
 use Rattle.cmark_grammar.specs.InlineTokens.{item_at, bracket, is_plain, from, before, place_of, size_to, character_before, character_at, line_begins, read_on, break_or, code_or, escaped_backtick, escape_at, entity_or, autolink_or, tag_or_text, source_from, markup_or, less_than, run_at, formula_or, dollar, dots, hyphens, quote_at, smart_or, begins, begins_at, goes_on, plain_end, longest, token}
 use Rattle.cmark_grammar.specs.Items.{ItemKind, Plain, Own, Quoted, Item, Written, InlineMath, DisplayMath, Delimiters, Html, OwnedHtml, SoftBreak, HardBreak, Token, Stands, Opens, Closes, Ends}
 use Rattle.cmark_grammar.specs.LabelsOverLines.{piped}
@@ -17,12 +17,12 @@ use Rattle.cmark_grammar.specs.LeafText.{Leaf, size_of, end_of, InTurn}
 use Rattle.cmark_grammar.specs.Letters.{first_is, starts}
 use Rattle.cmark_grammar.specs.LineBreaks.{LineBreak, backslash_break_in, blank_break_in}
 use Rattle.cmark_grammar.specs.Lines.{is_content}
-use Rattle.cmark_grammar.specs.LinkDefinitions.{Parsed, behind_blanks}
+use Rattle.cmark_grammar.specs.LinkDefinitions.{Parsed, after_leading_blanks}
 use Rattle.cmark_grammar.specs.Readers.{Reader}
-use Rattle.cmark_grammar.specs.Tags.{behind_tag, no_prefix}
+use Rattle.cmark_grammar.specs.Tags.{after_tag, no_prefix}
 use Rattle.cmark_grammar.specs.Tokens.{Entity, entity_in, is_punctuation}
-use Rattle.cmark_grammar.proofs.RowEdges.{Front}
-use Rattle.cmark_grammar.proofs.ShorterRests.{LeavesBelow, ParsedBelow, either, tag-shorter, code-shorter, autolink-within, inline-shorter, display-shorter}
+use Rattle.cmark_block_model.proofs.RowEdges.{Front}
+use Rattle.cmark_inline_model.proofs.ShorterRests.{LeavesBelow, ParsedBelow, either, tag-shorter, code-shorter, autolink-within, inline-shorter, display-shorter}
 use Rattle.cmark_inline_model.specs.LeafModel.{HaveLineEnds}
 use Rattle.cmark_inline_model.proofs.LeafPlaces.{bytes-size}
 use Rattle.cmark_inline_model.proofs.LeafSteps.{IsAt, at-size, at-next}
@@ -138,12 +138,12 @@ module _ (reader : Reader) (leaf : Leaf) (size : ℕ) (turn : InTurn 0 leaf.stre
   read-on-place x = (length rest, (fits, refl))
     where
       rest : List ℕ
-      rest = if line_begins reader leaf x then behind_blanks (from reader leaf x) else from reader leaf x
+      rest = if line_begins reader leaf x then after_leading_blanks (from reader leaf x) else from reader leaf x
 
       fits : length rest ≤ size_of leaf.stretches
       fits =
           let w = bytes-size reader.source leaf.stretches x in let l = length-blanks (from reader leaf x) in
-          either (λ (l : List ℕ). length l ≤ size_of leaf.stretches) (line_begins reader leaf x) (behind_blanks (from reader leaf x)) (from reader leaf x) (omega arith) w
+          either (λ (l : List ℕ). length l ≤ size_of leaf.stretches) (line_begins reader leaf x) (after_leading_blanks (from reader leaf x)) (from reader leaf x) (omega arith) w
 
   module _ (at b : ℕ) (bs : List ℕ) (there : IsPlace at) (here : from reader leaf at ≡ b ∷ bs) where
     content_next : is_content b ≡ true → IsPlace (suc at)
@@ -161,14 +161,14 @@ module _ (reader : Reader) (leaf : Leaf) (size : ℕ) (turn : InTurn 0 leaf.stre
 
     break_sits : (found : Option LineBreak) (other : Token) → (found ≡ None → Sits other) → Sits (break_or reader leaf at found other)
     break_sits None other h = h refl
-    break_sits (Some found) other h = (read-on-place (at + size_to reader leaf at found.behind), hard found.is_hard)
+    break_sits (Some found) other h = (read-on-place (at + size_to reader leaf at found.following), hard found.is_hard)
       where
-        hard : (x : Bool) → Uncut (if x then HardBreak else SoftBreak) (at + found.before) (at + size_to reader leaf at found.behind)
+        hard : (x : Bool) → Uncut (if x then HardBreak else SoftBreak) (at + found.before) (at + size_to reader leaf at found.following)
         hard true = tt
         hard false = tt
 
     code_sits : (found : Option Parsed) → ParsedBelow (suc (length bs)) found → Leads IsWord (backticks (b ∷ bs)) (b ∷ bs) → Sits (code_or reader leaf at (backticks (b ∷ bs)) found)
-    code_sits (Some found) h k = (rest_there found.behind (omega arith), tt)
+    code_sits (Some found) h k = (rest_there found.following (omega arith), tt)
     code_sits None h k = words_text (backticks (b ∷ bs)) at (b ∷ bs) there here k
 
     no_pipe : (c : ℕ) → IsName c → IsWord c × ((c == 124) ≡ false)
@@ -224,15 +224,15 @@ module _ (reader : Reader) (leaf : Leaf) (size : ℕ) (turn : InTurn 0 leaf.stre
 
     autolink_sits : (found : Option Parsed) (other : Token) → ParsedBelow (suc (length bs)) found → Sits other → Sits (autolink_or reader leaf at found other)
     autolink_sits None other h k = k
-    autolink_sits (Some found) other h k = (rest_there found.behind (omega arith), tt)
+    autolink_sits (Some found) other h k = (rest_there found.following (omega arith), tt)
 
     less_than_sits : IsWord b → Sits (less_than reader leaf at bs)
     less_than_sits w =
-        let tag = tag_or_text reader leaf at (behind_tag no_prefix (from reader leaf at)) in
-        let others = markup_or reader leaf at (behind_markup (source_from reader leaf at)) tag in
+        let tag = tag_or_text reader leaf at (after_tag no_prefix (from reader leaf at)) in
+        let others = markup_or reader leaf at (after_markup (source_from reader leaf at)) tag in
         when (first_is (λ c. c == 92) bs) (item_at Plain at (suc at)) (autolink_or reader leaf at (autolink_in reader.options.email_autolinks bs) others) (λ e. word_next w)
         (λ e. autolink_sits (autolink_in reader.options.email_autolinks bs) others (autolink-within reader.options.email_autolinks bs)
-        (markup_sits (behind_markup (source_from reader leaf at)) tag (tag_sits w (behind_tag no_prefix (from reader leaf at)) (tag-shorter no_prefix (from reader leaf at)))))
+        (markup_sits (after_markup (source_from reader leaf at)) tag (tag_sits w (after_tag no_prefix (from reader leaf at)) (tag-shorter no_prefix (from reader leaf at)))))
 
     same_byte : (c : ℕ) → IsWord b → (c == b) ≡ true → (is_content c ≡ true) × ((c == b) ≡ true)
     same_byte c w e = (subst (λ x. is_content x ≡ true) (sym (eqb-true c b e)) w.content, e)
@@ -250,7 +250,7 @@ module _ (reader : Reader) (leaf : Leaf) (size : ℕ) (turn : InTurn 0 leaf.stre
 
     formula_sits : IsWord b → (kind : List ℕ → ItemKind) (found : Option Parsed) → ((text : List ℕ) (start end : ℕ) → Uncut (kind text) start end) → ParsedBelow (suc (length bs)) found
         → Sits (formula_or reader leaf kind at found)
-    formula_sits w kind (Some found) u h = (rest_there found.behind (omega arith), u _ at (place_of reader leaf found.behind))
+    formula_sits w kind (Some found) u h = (rest_there found.following (omega arith), u _ at (place_of reader leaf found.following))
     formula_sits w kind None u h = word_next w
 
     more_found : (n m : ℕ) (found : Option Parsed) → n ≤ m → ParsedBelow n found → ParsedBelow m found
@@ -332,7 +332,7 @@ module _ (reader : Reader) (leaf : Leaf) (size : ℕ) (turn : InTurn 0 leaf.stre
     begins_sits =
         let plain = item_at Plain at (suc at) in
         let c9 = if reader.options.smart_punctuation then smart_or reader leaf at b else plain in
-        let c8 = if reader.options.math && is_dollar b then dollar reader leaf at bs (braces_behind false (before reader leaf at) no_braces) else c9 in
+        let c8 = if reader.options.math && is_dollar b then dollar reader leaf at bs (braces_after false (before reader leaf at) no_braces) else c9 in
         let c7 = if is_run_delimiter b then run_at reader leaf at b (prefix_len (λ c. c == b) (b ∷ bs)) else c8 in
         let c6 = if b == 93 then Closes (bracket false at (suc at)) else c7 in
         let c5 = if b == 91 then Opens (bracket false at (suc at)) else c6 in
@@ -354,8 +354,8 @@ module _ (reader : Reader) (leaf : Leaf) (size : ℕ) (turn : InTurn 0 leaf.stre
         (λ e5. when (b == 91) (Opens (bracket false at (suc at))) c6 (λ e. text_next c)
         (λ e6. when (b == 93) (Closes (bracket false at (suc at))) c7 (λ e. text_next c)
         (λ e7. when (is_run_delimiter b) (run_at reader leaf at b (prefix_len (λ c. c == b) (b ∷ bs))) c8 (λ e. (let m = mark_word e in run_sits m.0 m.1))
-        (λ e8. when (reader.options.math && is_dollar b) (dollar reader leaf at bs (braces_behind false (before reader leaf at) no_braces)) c9
-        (λ e. dollar_sits (word-is b 36 refl (omega arith) (and-right reader.options.math (is_dollar b) e)) (braces_behind false (before reader leaf at) no_braces))
+        (λ e8. when (reader.options.math && is_dollar b) (dollar reader leaf at bs (braces_after false (before reader leaf at) no_braces)) c9
+        (λ e. dollar_sits (word-is b 36 refl (omega arith) (and-right reader.options.math (is_dollar b) e)) (braces_after false (before reader leaf at) no_braces))
         (λ e9. when reader.options.smart_punctuation (smart_or reader leaf at b) plain (λ e. smart_sits c) (λ e. text_next c))))))))))))
 
   pub begins-at-sits : (at : ℕ) → IsPlace at → Sits (begins_at reader leaf at)

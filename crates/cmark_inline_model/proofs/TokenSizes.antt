@@ -8,10 +8,10 @@ use Rattle.cmark_grammar.specs.Columns.{is_blank_byte}
 use Rattle.cmark_grammar.specs.Leaves.{is_empty}
 use Rattle.cmark_grammar.specs.Letters.{is_alphanumeric, is_number, first_is, starts}
 use Rattle.cmark_grammar.specs.LineBreaks.{LineBreak, hard_break, blank_break, backslash_break_in, blank_break_in, ends_with_two_spaces}
-use Rattle.cmark_grammar.specs.LinkDefinitions.{behind_blanks}
-use Rattle.cmark_grammar.specs.Tags.{behind_ending}
+use Rattle.cmark_grammar.specs.LinkDefinitions.{after_leading_blanks}
+use Rattle.cmark_grammar.specs.Tags.{after_ending}
 use Rattle.cmark_grammar.specs.Tokens.{Entity, entity_if, is_hexadecimal, character, value_of, numeric, hexadecimal_in, decimal_in, numeric_in, named, entity_in}
-use Rattle.cmark_grammar.proofs.ShorterRests.{LeavesBelow, BreakBelow, either, ending-shorter, backslash_break-shorter}
+use Rattle.cmark_inline_model.proofs.ShorterRests.{LeavesBelow, BreakBelow, either, ending-shorter, backslash_break-shorter}
 
 pub starts-size : (prefix bs : List ℕ) → starts prefix bs ≡ true → length prefix ≤ length bs
 starts-size prefix bs e =
@@ -38,8 +38,8 @@ when : {A : Type 0} (P : A → Type 0) (b : Bool) (x y : A) → (b ≡ true → 
 when P true x y h k = h refl
 when P false x y h k = k
 
-behind_closed : (n : ℕ) (bs : List ℕ) → first_is (λ b. b == 59) (drop n bs) ≡ true → n < length bs
-behind_closed n bs e = let s = first-size (λ b. b == 59) (drop n bs) e in let l = length-drop n bs in omega arith
+after_closed : (n : ℕ) (bs : List ℕ) → first_is (λ b. b == 59) (drop n bs) ≡ true → n < length bs
+after_closed n bs e = let s = first-size (λ b. b == 59) (drop n bs) e in let l = length-drop n bs in omega arith
 
 numeric_within : (base most size n : ℕ) (digits rest : List ℕ) → 0 < size → (first_is (λ b. b == 59) rest ≡ true → length digits + size ≤ n) → EntityWithin n (numeric base most size digits rest)
 numeric_within base most size n digits rest p h =
@@ -53,8 +53,8 @@ numeric_in_within bs =
     let dec : List ℕ = take_while is_number bs in
     when (EntityWithin (length bs + 2)) (first_is (λ b. (b == 120) || (b == 88)) bs) (hexadecimal_in rest) (decimal_in bs)
     (λ e. numeric_within 16 6 4 (length bs + 2) hex (drop (length hex) rest) (omega arith)
-    (λ f. (let s = first-size (λ b. (b == 120) || (b == 88)) bs e in let c = behind_closed (length hex) rest f in let l = length-drop 1 bs in omega arith)))
-    (numeric_within 10 7 3 (length bs + 2) dec (drop (length dec) bs) (omega arith) (λ f. (let c = behind_closed (length dec) bs f in omega arith)))
+    (λ f. (let s = first-size (λ b. (b == 120) || (b == 88)) bs e in let c = after_closed (length hex) rest f in let l = length-drop 1 bs in omega arith)))
+    (numeric_within 10 7 3 (length bs + 2) dec (drop (length dec) bs) (omega arith) (λ f. (let c = after_closed (length dec) bs f in omega arith)))
 
 entity_if_within : (n size : ℕ) (o : Option (List ℕ)) → 0 < size → size ≤ n → EntityWithin n (entity_if o size)
 entity_if_within n size None h k = tt
@@ -65,11 +65,11 @@ entity-within lookup bs =
     let n = suc (length bs) in
     let rest : List ℕ = drop 1 bs in
     let name : List ℕ = take_while is_alphanumeric bs in
-    let behind : List ℕ = drop (length name) bs in
-    when (EntityWithin n) (first_is (λ b. b == 35) bs) (numeric_in rest) (named lookup name behind)
+    let following : List ℕ = drop (length name) bs in
+    when (EntityWithin n) (first_is (λ b. b == 35) bs) (numeric_in rest) (named lookup name following)
     (λ e. (let s = first-size (λ b. b == 35) bs e in let l = length-drop 1 bs in larger (length rest + 2) n (numeric_in rest) (omega arith) (numeric_in_within rest)))
-    (when (EntityWithin n) (not (is_empty name) && first_is (λ b. b == 59) behind) (entity_if (lookup name) (length name + 2)) None
-    (λ e. (let c = behind_closed (length name) bs (and_right (not (is_empty name)) (first_is (λ b. b == 59) behind) e) in entity_if_within n (length name + 2) (lookup name) (omega arith) (omega arith))) tt)
+    (when (EntityWithin n) (not (is_empty name) && first_is (λ b. b == 59) following) (entity_if (lookup name) (length name + 2)) None
+    (λ e. (let c = after_closed (length name) bs (and_right (not (is_empty name)) (first_is (λ b. b == 59) following) e) in entity_if_within n (length name + 2) (lookup name) (omega arith) (omega arith))) tt)
   where
     larger : (a b : ℕ) (o : Option Entity) → a ≤ b → EntityWithin a o → EntityWithin b o
     larger a b None h k = tt
@@ -78,7 +78,7 @@ entity-within lookup bs =
 -- the text before a break, and the text after it
 abbrev pub BreakWithin : ℕ → Option LineBreak → Type 0
 BreakWithin n None = Unit {0}
-BreakWithin n (Some found) = (found.before + length found.behind < n)
+BreakWithin n (Some found) = (found.before + length found.following < n)
 
 pub backslash-within : (bs : List ℕ) → BreakWithin (length bs) (backslash_break_in bs)
 backslash-within bs = go (backslash_break_in bs) (backslash_break-shorter bs) (no_before bs)
@@ -99,14 +99,14 @@ backslash-within bs = go (backslash_break_in bs) (backslash_break-shorter bs) (n
     go (Some found) h k = omega arith
 
 pub blank-within : (bs : List ℕ) → BreakWithin (length bs) (blank_break_in bs)
-blank-within bs = go (behind_ending (behind_blanks bs)) (ending-shorter (behind_blanks bs))
+blank-within bs = go (after_ending (after_leading_blanks bs)) (ending-shorter (after_leading_blanks bs))
   where
     blanks : List ℕ
     blanks = take_while is_blank_byte bs
 
-    go : (o : Option (List ℕ)) → LeavesBelow (length (behind_blanks bs)) o → BreakWithin (length bs) (option_map (blank_break blanks) o)
+    go : (o : Option (List ℕ)) → LeavesBelow (length (after_leading_blanks bs)) o → BreakWithin (length bs) (option_map (blank_break blanks) o)
     go None h = tt
     go (Some rest) h =
         let l = length-drop (length blanks) bs in
-        either (λ (x : LineBreak). x.before + length x.behind < length bs) (ends_with_two_spaces blanks) (hard_break rest) (record { is_hard = false; before = length blanks; behind = rest })
+        either (λ (x : LineBreak). x.before + length x.following < length bs) (ends_with_two_spaces blanks) (hard_break rest) (record { is_hard = false; before = length blanks; following = rest })
         (omega arith) (omega arith)

@@ -7,8 +7,8 @@ use Rattle.cmark_grammar.specs.CodeSpans.{is_backtick, backticks, code_in}
 use Rattle.cmark_grammar.specs.Columns.{is_blank_byte}
 use Rattle.cmark_grammar.specs.Dashes.{dashes_of, dash_text}
 use Rattle.cmark_grammar.specs.Flanking.{Flanking, flanking, is_run_delimiter}
-use Rattle.cmark_grammar.specs.Formulas.{is_dollar, Braces, no_braces, braces_behind, inline_in, display_in}
-use Rattle.cmark_grammar.specs.InlineHtml.{behind_markup}
+use Rattle.cmark_grammar.specs.Formulas.{is_dollar, Braces, no_braces, braces_after, inline_in, display_in}
+use Rattle.cmark_grammar.specs.InlineHtml.{after_markup}
 use Rattle.cmark_grammar.specs.InlineTokens.{item_at, bracket, is_plain, from, before, character_before, character_at, break_or, code_or, escaped_backtick, escape_at, entity_or, autolink_or, tag_or_text, source_from, markup_or, less_than, run_or, run_at, formula_or, dollar, dots, hyphens, quote_at, smart_or, begins, plain_end, longest, token}
 use Rattle.cmark_grammar.specs.Items.{ItemKind, Plain, Written, InlineMath, DisplayMath, Delimiters, Token, Stands, Opens, Closes, Ends}
 use Rattle.cmark_grammar.specs.LabelsOverLines.{piped}
@@ -18,7 +18,7 @@ use Rattle.cmark_grammar.specs.LineBreaks.{LineBreak, backslash_break_in, blank_
 use Rattle.cmark_grammar.specs.Lines.{is_content}
 use Rattle.cmark_grammar.specs.LinkDefinitions.{Parsed}
 use Rattle.cmark_grammar.specs.Readers.{Reader}
-use Rattle.cmark_grammar.specs.Tags.{behind_tag, no_prefix}
+use Rattle.cmark_grammar.specs.Tags.{after_tag, no_prefix}
 use Rattle.cmark_grammar.specs.Tokens.{Entity, entity_in, is_punctuation}
 
 -- an item or a bracket
@@ -75,10 +75,10 @@ module _ (reader : Reader) (leaf : Leaf) where
 
   less_than_some : (at : ℕ) (bs : List ℕ) → IsSome (less_than reader leaf at bs)
   less_than_some at bs =
-      let tag = tag_or_text reader leaf at (behind_tag no_prefix (from reader leaf at)) in
-      let others = markup_or reader leaf at (behind_markup (source_from reader leaf at)) tag in
+      let tag = tag_or_text reader leaf at (after_tag no_prefix (from reader leaf at)) in
+      let others = markup_or reader leaf at (after_markup (source_from reader leaf at)) tag in
       when (first_is (λ c. c == 92) bs) (item_at Plain at (suc at)) (autolink_or reader leaf at (autolink_in reader.options.email_autolinks bs) others) tt
-      (autolink_some at (autolink_in reader.options.email_autolinks bs) others (markup_some at (behind_markup (source_from reader leaf at)) tag (tag_some at (behind_tag no_prefix (from reader leaf at)))))
+      (autolink_some at (autolink_in reader.options.email_autolinks bs) others (markup_some at (after_markup (source_from reader leaf at)) tag (tag_some at (after_tag no_prefix (from reader leaf at)))))
 
   run_some : (at delimiter size : ℕ) (beside : Flanking) → IsSome (run_or reader leaf at delimiter size beside)
   run_some at delimiter size beside =
@@ -103,7 +103,7 @@ module _ (reader : Reader) (leaf : Leaf) where
   begins_some at b bs =
       let plain = item_at Plain at (suc at) in
       let c9 = if reader.options.smart_punctuation then smart_or reader leaf at b else plain in
-      let c8 = if reader.options.math && is_dollar b then dollar reader leaf at bs (braces_behind false (before reader leaf at) no_braces) else c9 in
+      let c8 = if reader.options.math && is_dollar b then dollar reader leaf at bs (braces_after false (before reader leaf at) no_braces) else c9 in
       let n = prefix_len (λ c. c == b) (b ∷ bs) in
       let c7 = if is_run_delimiter b then run_at reader leaf at b n else c8 in
       let c6 = if b == 93 then Closes (bracket false at (suc at)) else c7 in
@@ -124,7 +124,7 @@ module _ (reader : Reader) (leaf : Leaf) where
       (when (b == 93) (Closes (bracket false at (suc at))) c7 tt
       (when (is_run_delimiter b) (run_at reader leaf at b n) c8
       (run_some at b n (flanking reader.options b n (character_before reader leaf at) (character_at reader leaf (at + n))))
-      (when (reader.options.math && is_dollar b) (dollar reader leaf at bs (braces_behind false (before reader leaf at) no_braces)) c9 (dollar_some at bs (braces_behind false (before reader leaf at) no_braces))
+      (when (reader.options.math && is_dollar b) (dollar reader leaf at bs (braces_after false (before reader leaf at) no_braces)) c9 (dollar_some at bs (braces_after false (before reader leaf at) no_braces))
       (when reader.options.smart_punctuation (smart_or reader leaf at b) plain (smart_some at b) tt))))))))))
 
   longest_some : (t : Token) → IsSome t → IsSome (longest reader leaf t)
@@ -134,9 +134,9 @@ module _ (reader : Reader) (leaf : Leaf) where
   longest_some Ends h = h
 
   -- the text ends exactly if no byte is left
-  pub ends-behind-bytes : (at : ℕ) → from reader leaf at ≡ [] → token reader leaf at ≡ Ends
+  pub ends-following-bytes : (at : ℕ) → from reader leaf at ≡ [] → token reader leaf at ≡ Ends
   unfolding token
-  ends-behind-bytes at e = go (from reader leaf at) e
+  ends-following-bytes at e = go (from reader leaf at) e
     where
       go : (l : List ℕ) → l ≡ [] → longest reader leaf (begins reader leaf at l) ≡ Ends
       go [] e = refl

@@ -4,20 +4,20 @@ use Rattle.std.specs.Prelude.{IsUtf8, IsCharBoundary}
 use Rattle.std.proofs.Common.{◌≡◌, ℕ, List, [], ◌∷◌, ◌++◌, refl, sym, ap, subst, ◌∙◌, zero, suc}
 use Rattle.std.proofs.lemmas.List.{append_assoc}
 use Rattle.cmark_grammar.specs.Answers.{Lookup}
-use Rattle.cmark_grammar.specs.Balance.{IsSingle}
+use Rattle.cmark_block_model.specs.Balance.{IsSingle}
 use Rattle.cmark_grammar.specs.BlockDocument.{BlockKind, Paragraph, TightParagraph, Heading, ThematicBreak, IndentedCode, FencedCode, HtmlBlock, LinkDefinition, MetadataBlock, BlockQuote, BlockList, ListItem, TaskMarker, FootnoteDefinition, DefinitionList, DefinitionListTitle, DefinitionListDefinition, Text, OwnedText, Html, BlockNode, BlockDocument, Nil, Node, Table, TableHead, TableRow, TableCell}
 use Rattle.cmark_grammar.specs.BlockReading.{Reads, Around, Inside, Alone, First, Silent, first_event, read_as, over, starts_before}
 use Rattle.cmark_grammar.specs.Derivation.{Derives}
 use Rattle.cmark_grammar.specs.Event.{Event, Start, End, Text as TextEvent, Code, InlineHtml, SoftBreak, HardBreak, Ranged}
 use Rattle.cmark_grammar.specs.Event as event
-use Rattle.cmark_grammar.specs.LeafSpans.{IsInline, Nested, Nothing, Single, Element, AreGiven}
+use Rattle.cmark_inline_model.specs.LeafSpans.{IsInline, Nested, Nothing, Single, Element, AreGiven}
 use Rattle.cmark_grammar.specs.LeafText.{Leaf}
 use Rattle.cmark_grammar.specs.Options.{Options}
-use Rattle.cmark_grammar.specs.Ranges.{AllAt}
+use Rattle.cmark_block_model.specs.Ranges.{AllAt}
 use Rattle.cmark_grammar.specs.SpanDocuments.{Segment, Given, Content, inside_of, node_segments, first_of_segments, with_first_segment, segments}
 use Rattle.cmark_grammar.specs.TagEnd.{end_of}
-use Rattle.cmark_grammar.proofs.BalanceLaws.{IsFit, fit}
-use Rattle.cmark_grammar.proofs.BoundaryLaws.{derived-boundaries}
+use Rattle.cmark_block_model.proofs.BalanceLaws.{IsFit, fit}
+use Rattle.cmark_block_model.proofs.BoundaryLaws.{derived-boundaries}
 use Rattle.cmark_inline_model.specs.CharacterRanges.{CutNoCharacter}
 use Rattle.cmark_inline_model.specs.ReadingRanges.{ranged, Matched, NoMore, Alone as AloneEvent, Pair}
 use Rattle.cmark_inline_model.proofs.ReadingBalanced.{matched-put, matched-append}

@@ -11,7 +11,7 @@ use Rattle.cmark_grammar.specs.Parts.{Parts, Nil, Single, Form, Closing, Opening
 use Rattle.cmark_grammar.specs.Questions.{Exchange, Saying, IsNext}
 use Rattle.cmark_grammar.specs.Readers.{Reader}
 use Rattle.cmark_grammar.specs.SpanDocuments.{Segment, Given, Content, Profile, ReadsAll, IsReading, segments, reader_of, at_start}
-use Rattle.cmark_grammar.proofs.RangeLaws.{derived-order}
+use Rattle.cmark_block_model.proofs.RangeLaws.{derived-order}
 use Rattle.cmark_inline_model.specs.LeafModel.{AreLeavesInTurn, AreLeavesOfLines, HaveLineEnds}
 use Rattle.cmark_inline_model.specs.OptionRules.{IsRead, AllItems}
 use Rattle.cmark_inline_model.specs.WithoutHighlight.{token_without, ReadsLeafWithout, ReadsAllWithout, IsReadingWithout}

@@ -6,7 +6,7 @@ use Rattle.std.proofs.lemmas.Bool.{eq-eqb, ltb-true, ltb-false}
 use Rattle.cmark_grammar.specs.CodeSpans.{backticks, code_in}
 use Rattle.cmark_grammar.specs.Columns.{is_blank_byte}
 use Rattle.cmark_grammar.specs.Flanking.{Flanking, flanking, is_run_delimiter, is_delimiter_run, is_intraword, opens_beside, closes_beside}
-use Rattle.cmark_grammar.specs.Formulas.{is_dollar, no_braces, braces_behind}
+use Rattle.cmark_grammar.specs.Formulas.{is_dollar, no_braces, braces_after}
 use Rattle.cmark_grammar.specs.InlineTokens.{item_at, bracket, is_plain, from, before, character_before, character_at, break_or, code_or, escape_at, entity_or, less_than, run_or, run_at, dollar, smart_or, begins, begins_at, goes_on, plain_end, longest, token}
 use Rattle.cmark_grammar.specs.Items.{Plain, Token, Stands, Opens, Closes, Ends}
 use Rattle.cmark_grammar.specs.LeafText.{Leaf, InTurn, end_of}
@@ -15,7 +15,7 @@ use Rattle.cmark_grammar.specs.LineBreaks.{backslash_break_in, blank_break_in}
 use Rattle.cmark_grammar.specs.Lines.{is_content}
 use Rattle.cmark_grammar.specs.Options.{Options}
 use Rattle.cmark_grammar.specs.Readers.{Reader}
-use Rattle.cmark_grammar.specs.SpecialBytes.{is_one_of, is_always_special, is_special}
+use Rattle.cmark_inline_model.specs.SpecialBytes.{is_one_of, is_always_special, is_special}
 use Rattle.cmark_grammar.specs.Tokens.{entity_in}
 use Rattle.cmark_inline_model.specs.LeafModel.{HaveLineEnds}
 use Rattle.cmark_inline_model.specs.WithoutHighlight.{is_special_without, is_run_delimiter_without, is_delimiter_run_without, flanking_without, run_at_without, begins_without, begins_at_without, plain_end_without, longest_without, token_without}
@@ -74,7 +74,7 @@ module _ (reader : Reader) (leaf : Leaf) (off : reader.options.highlight ≡ fal
           else if b == 91 then Opens (bracket false at (suc at))
           else if b == 93 then Closes (bracket false at (suc at))
           else if z then run
-          else if reader.options.math && is_dollar b then dollar reader leaf at bs (braces_behind false (before reader leaf at) no_braces)
+          else if reader.options.math && is_dollar b then dollar reader leaf at bs (braces_after false (before reader leaf at) no_braces)
           else if reader.options.smart_punctuation then smart_or reader leaf at b
           else item_at Plain at (suc at)
 
@@ -101,7 +101,7 @@ module _ (reader : Reader) (leaf : Leaf) (off : reader.options.highlight ≡ fal
   equals_without : (at : ℕ) (bs : List ℕ) → begins_without reader leaf at (61 ∷ bs) ≡ item_at Plain at (suc at)
   equals_without at bs = go reader.options.math reader.options.smart_punctuation
     where
-      go : (x y : Bool) → (if x && is_dollar 61 then dollar reader leaf at bs (braces_behind false (before reader leaf at) no_braces) else if y then smart_or reader leaf at 61 else item_at Plain at (suc at)) ≡ item_at Plain at (suc at)
+      go : (x y : Bool) → (if x && is_dollar 61 then dollar reader leaf at bs (braces_after false (before reader leaf at) no_braces) else if y then smart_or reader leaf at 61 else item_at Plain at (suc at)) ≡ item_at Plain at (suc at)
       go true true = refl
       go true false = refl
       go false true = refl
@@ -263,9 +263,9 @@ module _ (reader : Reader) (leaf : Leaf) (off : reader.options.highlight ≡ fal
                 let k = next-place reader leaf size turn within lines at b bs h e (ap is_content byte) in
                 let rest = length (from reader leaf (suc at)) in
                 let q = equals_at at b bs (suc rest) h e f (let r = ap length k.1 in omega arith) in
-                let behind = length (from reader leaf (at + q.count)) in
-                let ends_same : plain_end reader leaf behind (at + q.count) ≡ plain_end_without reader leaf rest (suc at) =
-                plain_same behind q.bytes (at + q.count) q.place (omega arith) q.left
+                let following = length (from reader leaf (at + q.count)) in
+                let ends_same : plain_end reader leaf following (at + q.count) ≡ plain_end_without reader leaf rest (suc at) =
+                plain_same following q.bytes (at + q.count) q.place (omega arith) q.left
                 ∙ sym q.passed
                 ∙ ap (λ x. goes_on reader leaf x at (plain_end_without reader leaf rest)) t
                 ∙ ap (λ x. if x then plain_end_without reader leaf rest (suc at) else at) (eq-eqb at at refl) in

@@ -10,7 +10,7 @@ use Rattle.cmark_grammar.specs.Leaves.{is_empty}
 use Rattle.cmark_grammar.specs.Letters.{lower, is_letter, is_number, is_alphanumeric, first_is, starts}
 use Rattle.cmark_grammar.specs.Lines.{is_content}
 use Rattle.cmark_grammar.specs.Tokens.{Entity, entity_if, is_hexadecimal, character, value_of, numeric, hexadecimal_in, decimal_in, numeric_in, named, entity_in, is_punctuation}
-use Rattle.cmark_grammar.proofs.RowEdges.{Front, front-add, prefix-front}
+use Rattle.cmark_block_model.proofs.RowEdges.{Front, front-add, prefix-front}
 
 -- ## Bytes
 

@@ -1,6 +1,6 @@
 -- The ranges of the events of a text, and the effect of a wikilink's pipe on them (this profile's own).
 use Rattle.std.specs.Prelude.{◌≡◌, ◌⊎◌, ℕ, ◌-◌, ◌≤◌, ◌<◌, true, List, [], ◌∷◌, ◌++◌, get_or}
-use Rattle.cmark_grammar.specs.Balance.{IsSingle}
+use Rattle.cmark_block_model.specs.Balance.{IsSingle}
 use Rattle.cmark_grammar.specs.Event.{Event, Start, End, TaskListMarker, Ranged}
 use Rattle.cmark_grammar.specs.Options.{Options}
 use Rattle.cmark_grammar.specs.Tag.{Tag, Link, Image, DefinitionListTitle}
@@ -8,7 +8,7 @@ use Rattle.cmark_grammar.specs.TagEnd.{end_of}
 use Rattle.cmark_inline_model.specs.ReadingRanges.{ranged}
 
 -- wikilinks are enabled, and a pipe is directly before this offset
-pub record IsBehindPipe (options : Options) (text : List ℕ) (at : ℕ) : Type 0 where
+pub record IsAfterPipe (options : Options) (text : List ℕ) (at : ℕ) : Type 0 where
   pub wikilinks : options.wikilinks ≡ true
   pub some : 0 < at
   pub pipe : get_or text (at - 1) 0 ≡ 124
@@ -36,7 +36,7 @@ HasNoTasks (r ∷ others) = (IsTask r.event → ⊥) × HasNoTasks others
 -- A paragraph, a heading, a title, or the definition list of that title begins after its task marker (GFM 5.3)
 abbrev pub BeginsAt : Options → (text : List ℕ) → Tag → List Ranged → (written start : ℕ) → Type 0
 BeginsAt options text tag inside written start =
-    (start ≡ written) ⊎ ((IsLinkOrImage tag × (written < start) × IsBehindPipe options text start) ⊎ ((written ≤ start) × BeginsWithTask inside))
+    (start ≡ written) ⊎ ((IsLinkOrImage tag × (written < start) × IsAfterPipe options text start) ⊎ ((written ≤ start) × BeginsWithTask inside))
 
 -- the events between two offsets are in order, and each element contains the events inside it, except for cuts by a pipe and for task
 -- markers. In these cases the content of the element begins where the element is written to begin, which is after all events before it, or

@@ -51,13 +51,13 @@ display_slots from place close slots = take from slots ++ (shown_from place (dro
 pub record LeavesRuns (first left at : ℕ) (runs : List Run) (bytes : List ℕ) : Type 0 where
   pub order : first ≤ left
   pub before : (k : ℕ) → first ≤ k → k < left → k < length runs → get_or bytes (bytes_in (take k runs)) 0 < at
-  pub behind : left < length runs → at ≤ get_or bytes (bytes_in (take left runs)) 0
+  pub following : left < length runs → at ≤ get_or bytes (bytes_in (take left runs)) 0
 
--- the same for quotes, by the indices of their slots
+-- of the quotes from `first` on, by the indices of their slots, those from `left` on remain
 pub record LeavesQuotes (first left at : ℕ) (quotes : List ℕ) : Type 0 where
   pub order : first ≤ left
   pub before : (k : ℕ) → first ≤ k → k < left → k < length quotes → get_or quotes k 0 < at
-  pub behind : left < length quotes → at ≤ get_or quotes left 0
+  pub following : left < length quotes → at ≤ get_or quotes left 0
 
 -- ## The slot that is cut
 
@@ -92,7 +92,7 @@ CanBeCut source place (BeginSlot tag start end) = Unit {0}
 CanBeCut source place EndSlot = ⊥
 CanBeCut source place NothingSlot = ⊥
 
--- the same for a row from an index on, if it has such a slot
+-- a row from an index on can be cut at its first slot that ends after the offset, if it has such a slot
 abbrev pub IsCutThere : (source : List ℕ) → (from place : ℕ) → List Slot → Type 0
 IsCutThere source from place row =
     hidden_by place (drop from row) < length (drop from row) → CanBeCut source place (get_or (drop from row) (hidden_by place (drop from row)) NothingSlot)

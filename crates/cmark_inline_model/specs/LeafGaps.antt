@@ -18,7 +18,7 @@ HasPrefixesBetween reader leaf = (k x : ℕ) → suc k < length (text_of reader 
 abbrev pub HasNoPipesBetween : Reader → Leaf → Type 0
 HasNoPipesBetween reader leaf = (k x : ℕ) → suc k < length (text_of reader leaf) → place_in reader leaf k < x → x < place_in reader leaf (suc k) → (get_or reader.source x 0 == 124) ≡ false
 
--- the same for each leaf
+-- each leaf has only prefixes between its bytes
 abbrev pub HavePrefixesBetween : Reader → List Segment → Type 0
 HavePrefixesBetween reader [] = Unit {0}
 HavePrefixesBetween reader (Given r ∷ others) = HavePrefixesBetween reader others

@@ -11,7 +11,7 @@ use Rattle.cmark_grammar.specs.Lines.{is_content}
 use Rattle.cmark_grammar.specs.Parts.{Parts}
 use Rattle.cmark_grammar.specs.Questions.{Plan}
 use Rattle.cmark_grammar.specs.Readers.{Reader}
-use Rattle.cmark_grammar.specs.SiblingsModel.{spans_in}
+use Rattle.cmark_inline_model.specs.SiblingsModel.{spans_in}
 use Rattle.cmark_grammar.specs.SpanDocuments.{Segment, Given, Content}
 use Rattle.cmark_inline_model.specs.BracketPass.{parts_by, end_by}
 

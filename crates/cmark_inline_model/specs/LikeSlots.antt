@@ -1,4 +1,4 @@
--- Slots that give the same events, whatever the kinds of their items are: a text is the same text, as plain bytes and as a text of its own.
+-- Slots that give the same events, whatever the kinds of their items are: a text may be plain bytes or a text of its own.
 use Rattle.std.specs.Prelude.{◌≡◌, ℕ, Bool, true, false, List, [], ◌∷◌}
 use Rattle.cmark_grammar.specs.InlineHtml.{takes_lines}
 use Rattle.cmark_grammar.specs.InlineReading.{event_of}

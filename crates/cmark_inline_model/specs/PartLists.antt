@@ -17,15 +17,15 @@ pub record Cut : Type 0 where
   pub opener : Bracket
   pub inside : Parts
 
-abbrev pub behind : Parts → Option Cut → Option Cut
-behind piece None = None
-behind piece (Some cut) = Some (record { before = join piece cut.before; opener = cut.opener; inside = cut.inside })
+abbrev pub following : Parts → Option Cut → Option Cut
+following piece None = None
+following piece (Some cut) = Some (record { before = join piece cut.before; opener = cut.opener; inside = cut.inside })
 
 -- cut at the opening bracket after which there are `nearer` others
 abbrev pub cut_at : (nearer : ℕ) → Parts → Option Cut
 cut_at nearer Nil = None
-cut_at nearer (Single item after) = behind (Single item Nil) (cut_at nearer after)
-cut_at nearer (Form opener inside closer formed after) = behind (Form opener inside closer formed Nil) (cut_at nearer after)
-cut_at nearer (Closing closer after) = behind (Closing closer Nil) (cut_at nearer after)
+cut_at nearer (Single item after) = following (Single item Nil) (cut_at nearer after)
+cut_at nearer (Form opener inside closer formed after) = following (Form opener inside closer formed Nil) (cut_at nearer after)
+cut_at nearer (Closing closer after) = following (Closing closer Nil) (cut_at nearer after)
 cut_at nearer (Opening opener after) =
-    if openings after == nearer then Some (record { before = Nil; opener = opener; inside = after }) else behind (Opening opener Nil) (cut_at nearer after)
+    if openings after == nearer then Some (record { before = Nil; opener = opener; inside = after }) else following (Opening opener Nil) (cut_at nearer after)

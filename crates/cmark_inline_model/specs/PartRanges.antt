@@ -33,7 +33,7 @@ ReachesBy from (Forms nearer formed) to = (from ≤ end_of formed) × (end_of fo
 
 -- reading continues after the closing bracket, and after the construct that it forms
 pub record Reaches (from size : ℕ) (o : Outcome) : Type 0 where
-  pub behind : ReachesBy from o.result o.after.at
+  pub following : ReachesBy from o.result o.after.at
   pub within : o.after.at ≤ size
 
 pub record KeepsRanges (token : ℕ → Token) (decide : State → (closer : Bracket) → Decision) (size : ℕ) : Type 0 where

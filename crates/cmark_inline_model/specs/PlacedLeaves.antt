@@ -18,7 +18,7 @@ pub record IsPlaced (reader : Reader) (leaf : Leaf) : Type 0 where
   pub lines : HaveLineEnds reader.source leaf.stretches
   pub places : AreLeafPlaces reader leaf (text_of reader leaf) (place_in reader leaf)
 
--- the same for each leaf
+-- each leaf is placed
 abbrev pub AreLeavesPlaced : Reader → List Segment → Type 0
 AreLeavesPlaced reader [] = Unit {0}
 AreLeavesPlaced reader (Given r ∷ others) = AreLeavesPlaced reader others

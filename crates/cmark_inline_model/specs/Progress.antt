@@ -37,14 +37,14 @@ Keeps asked (Asks question answered) = (answer : Option Destination) → (answer
 pub record IsRecorded (decide : State → (closer : Bracket) → Decision) : Type 0 where
   pub keeps : (s : State) (closer : Bracket) → Keeps s.asked (decide s closer)
 
--- the same state after other questions
-abbrev pub asked_behind : List Exchange → State → State
-asked_behind h s = record { at = s.at; expansion_left = s.expansion_left; label_close = s.label_close; asked = h ++ s.asked; openers = s.openers }
+-- the state after other questions
+abbrev pub asked_after : List Exchange → State → State
+asked_after h s = record { at = s.at; expansion_left = s.expansion_left; label_close = s.label_close; asked = h ++ s.asked; openers = s.openers }
 
-abbrev pub outcome_behind : List Exchange → Outcome → Outcome
-outcome_behind h o = record { result = o.result; after = asked_behind h o.after }
+abbrev pub outcome_after : List Exchange → Outcome → Outcome
+outcome_after h o = record { result = o.result; after = asked_after h o.after }
 
 -- a decision does not depend on the questions that were put before
 pub record IsShifted (decide : State → (closer : Bracket) → Decision) : Type 0 where
   pub comes : (h all : List Exchange) (s : State) (closer : Bracket) (o : Outcome) → Comes (IsNext all) s.asked (decide s closer) o
-      → Comes (IsNext (h ++ all)) (h ++ s.asked) (decide (asked_behind h s) closer) (outcome_behind h o)
+      → Comes (IsNext (h ++ all)) (h ++ s.asked) (decide (asked_after h s) closer) (outcome_after h o)

@@ -1,6 +1,6 @@
 -- The ranges of the events of a text.
 use Rattle.std.specs.Prelude.{◌≡◌, ◌⊎◌, ℕ, ◌≤◌, false, ◌==◌, List, [], ◌∷◌, ◌++◌}
-use Rattle.cmark_grammar.specs.Balance.{IsSingle}
+use Rattle.cmark_block_model.specs.Balance.{IsSingle}
 use Rattle.cmark_grammar.specs.Event.{Event, Start, End, Ranged}
 use Rattle.cmark_grammar.specs.Options.{Options}
 use Rattle.cmark_grammar.specs.Tag.{Tag}
@@ -9,7 +9,7 @@ use Rattle.cmark_grammar.specs.TagEnd.{end_of}
 abbrev pub ranged : Event → (start end : ℕ) → Ranged
 ranged event start end = record { event = event; start = start; end = end }
 
--- each start has its end, with the same tag and the same range, and the events between are matched too
+-- each start has its end, with its tag and its range, and the events between are matched too
 pub data Matched : List Ranged → Type 0 where
   NoMore : Matched []
   Alone : (r : Ranged) (after : List Ranged) → IsSingle r.event → Matched after → Matched (r ∷ after)

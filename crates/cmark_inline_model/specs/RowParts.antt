@@ -6,7 +6,7 @@ use Rattle.cmark_grammar.specs.Options.{Options}
 use Rattle.cmark_grammar.specs.Parts.{Parts, Opening, openings}
 use Rattle.cmark_grammar.specs.Quotes.{Quote}
 use Rattle.cmark_grammar.specs.Siblings.{Inline, Nil, Single, Around, item, quotes_of}
-use Rattle.cmark_grammar.specs.SiblingsModel.{siblings_of}
+use Rattle.cmark_inline_model.specs.SiblingsModel.{siblings_of}
 use Rattle.cmark_inline_model.specs.PartLists.{join, Cut, cut_at}
 use Rattle.cmark_inline_model.specs.SlotRows.{Slot, ItemSlot, LaysOut}
 
@@ -54,19 +54,19 @@ module _ (options : Options) where
     pub parts_are : parts ≡ join before (Opening opener inside)
     pub none : openings inside ≡ 0
     pub front : List Slot
-    pub behind : List Slot
-    pub slots_are : slots ≡ front ++ (text_slot opener ∷ behind)
+    pub following : List Slot
+    pub slots_are : slots ≡ front ++ (text_slot opener ∷ following)
     pub slot_is : b.slot ≡ length front
     pub runs_is : b.runs ≡ length (runs_in (siblings_of options before))
     pub quotes_is : b.quotes ≡ length (quotes_of (siblings_of options before))
     pub front_bytes : List ℕ
-    pub behind_bytes : List ℕ
-    pub bytes_are : bytes ≡ front_bytes ++ behind_bytes
+    pub after_bytes : List ℕ
+    pub bytes_are : bytes ≡ front_bytes ++ after_bytes
     pub front_quotes : List ℕ
-    pub behind_quotes : List ℕ
-    pub quotes_are : quotes ≡ front_quotes ++ behind_quotes
+    pub after_quotes : List ℕ
+    pub quotes_are : quotes ≡ front_quotes ++ after_quotes
     pub laid_before : Before before front front_bytes front_quotes
-    pub laid_behind : LaysOut (suc (length front)) (siblings_of options inside) behind behind_bytes behind_quotes
+    pub laid_after : LaysOut (suc (length front)) (siblings_of options inside) following after_bytes after_quotes
 
   -- parts laid out as a row, with the records of their opening brackets that are texts, the nearest first
   abbrev pub LaysParts : List BracketPlace → Parts → List Slot → (bytes quotes : List ℕ) → Type 0
@@ -87,18 +87,18 @@ module _ (options : Options) where
     pub place_is : drop nearer bs ≡ place ∷ drop (suc nearer) bs
     pub opener_is : place.bracket ≡ cut.opener
     pub front : List Slot
-    pub behind : List Slot
-    pub slots_are : slots ≡ front ++ (text_slot cut.opener ∷ behind)
+    pub following : List Slot
+    pub slots_are : slots ≡ front ++ (text_slot cut.opener ∷ following)
     pub slot_is : place.slot ≡ length front
     pub front_bytes : List ℕ
-    pub behind_bytes : List ℕ
-    pub bytes_are : bytes ≡ front_bytes ++ behind_bytes
+    pub after_bytes : List ℕ
+    pub bytes_are : bytes ≡ front_bytes ++ after_bytes
     pub bytes_count : length front_bytes ≡ bytes_in (take place.runs runs)
     pub front_quotes : List ℕ
-    pub behind_quotes : List ℕ
-    pub quotes_are : quotes ≡ front_quotes ++ behind_quotes
+    pub after_quotes : List ℕ
+    pub quotes_are : quotes ≡ front_quotes ++ after_quotes
     pub quotes_count : length front_quotes ≡ place.quotes
     pub before : IsRow (drop (suc nearer) bs) cut.before front front_bytes front_quotes (take place.runs runs) (take place.quotes quoted)
-    pub laid_behind : LaysOut (suc (length front)) (siblings_of options cut.inside) behind behind_bytes behind_quotes
-    pub runs_behind : runs_in (siblings_of options cut.inside) ≡ drop place.runs runs
-    pub quoted_behind : quotes_of (siblings_of options cut.inside) ≡ drop place.quotes quoted
+    pub laid_after : LaysOut (suc (length front)) (siblings_of options cut.inside) following after_bytes after_quotes
+    pub runs_after : runs_in (siblings_of options cut.inside) ≡ drop place.runs runs
+    pub quoted_after : quotes_of (siblings_of options cut.inside) ≡ drop place.quotes quoted

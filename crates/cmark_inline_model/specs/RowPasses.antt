@@ -13,7 +13,7 @@ use Rattle.cmark_grammar.specs.Questions.{AnyAnswer}
 use Rattle.cmark_grammar.specs.Quotes.{Quote, quote_characters}
 use Rattle.cmark_grammar.specs.Readers.{Reader}
 use Rattle.cmark_grammar.specs.Siblings.{tag_by}
-use Rattle.cmark_grammar.specs.SiblingsModel.{siblings_of}
+use Rattle.cmark_inline_model.specs.SiblingsModel.{siblings_of}
 use Rattle.cmark_inline_model.specs.BracketPass.{Pass}
 use Rattle.cmark_inline_model.specs.LikeSlots.{AreLike}
 use Rattle.cmark_inline_model.specs.RowParts.{BracketPlace, IsRow, bytes_in}
@@ -37,8 +37,8 @@ abbrev pub bytes_before : BracketPlace → List Run → ℕ
 bytes_before place runs = bytes_in (take place.runs runs)
 
 -- the slots after the quotes after the bracket became characters and the pairs of the runs there have written their marks
-abbrev pub dressed_behind : Options → BracketPlace → List Pair → List Slot → (bytes quotes : List ℕ) → List Run → List Quote → List Slot
-dressed_behind options place pairs slots bytes quotes runs quotes_are =
+abbrev pub dressed_after : Options → BracketPlace → List Pair → List Slot → (bytes quotes : List ℕ) → List Run → List Quote → List Slot
+dressed_after options place pairs slots bytes quotes runs quotes_are =
     marked options (drop (bytes_before place runs) bytes) (marks_by (length (drop (bytes_before place runs) bytes)) pairs) (quoted (drop place.quotes quotes) (quote_characters [] (drop place.quotes quotes_are)) slots) []
 
 -- the slots at the end, after all quotes became characters and all pairs have written their marks

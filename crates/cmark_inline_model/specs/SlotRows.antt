@@ -7,7 +7,7 @@ use Rattle.cmark_grammar.specs.InlineReading.{event_of, over}
 use Rattle.cmark_grammar.specs.Items.{ItemKind, Own, Written, Quoted, Delimiters, FootnoteReference, Item}
 use Rattle.cmark_grammar.specs.Options.{Options}
 use Rattle.cmark_grammar.specs.Siblings.{Inline, Nil, Single, Around, item}
-use Rattle.cmark_grammar.specs.SpanEntries.{stays, entries_of, mark_pairs}
+use Rattle.cmark_inline_model.specs.SpanEntries.{stays, entries_of, mark_pairs}
 use Rattle.cmark_grammar.specs.Spans as spans
 use Rattle.cmark_grammar.specs.Spans.{SpanKind, Emphasis, Strong, SingleTilde, DoubleTilde, Caret, DoubleEquals, span_tag, span_width, Spans}
 use Rattle.cmark_grammar.specs.Tag.{Tag}
@@ -182,8 +182,8 @@ marked options (at ∷ bytes) (Ends kind ∷ marks) slots [] = marked options by
 marked options (at ∷ bytes) (Ends kind ∷ marks) slots (first ∷ begun) = marked options bytes marks (spanned (span_tag options kind) first at slots) begun
 marked options (at ∷ bytes) (Blank ∷ marks) slots begun = marked options bytes marks (slice_set slots at NothingSlot) begun
 
--- the earlier slots are unchanged, and after them the same number of slots as before holds these spans
-pub record StandBehind (before slots : List Slot) (result : Inline) (now : List Slot) : Type 0 where
+-- the earlier slots are unchanged, and after them as many slots as before hold these spans
+pub record StandAfter (before slots : List Slot) (result : Inline) (now : List Slot) : Type 0 where
   pub own : List Slot
   pub cut : now ≡ before ++ own
   pub as_many : length own ≡ length slots

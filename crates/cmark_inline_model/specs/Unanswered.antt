@@ -17,6 +17,6 @@ silent reader = record { source = reader.source; options = reader.options; looku
 abbrev pub without_callback : Profile → Profile
 without_callback profile = record { options = profile.options; lookup = profile.lookup; reference_expansion_limit = profile.reference_expansion_limit; has_callback = false }
 
--- the same state, without questions
+-- the state without its questions
 abbrev pub unasked : State → State
 unasked s = record { at = s.at; expansion_left = s.expansion_left; label_close = s.label_close; asked = []; openers = s.openers }

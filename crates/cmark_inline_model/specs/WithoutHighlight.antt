@@ -12,7 +12,7 @@ use Rattle.cmark_grammar.specs.Derivation.{Derives}
 use Rattle.cmark_grammar.specs.Emphasis.{Run, Pair, Sibling, Plain as PlainSibling, Delimiter, Piece, Whole, Standing, keeps_rule_of_three, pair_of, rest_of_opener, rest_of_closer, emphasis_kinds, tilde_kinds, caret_kinds, nest, row, keep, left_open, stand}
 use Rattle.cmark_grammar.specs.Event.{Ranged}
 use Rattle.cmark_grammar.specs.Flanking.{Flanking, is_intraword, opens_beside, closes_beside}
-use Rattle.cmark_grammar.specs.Formulas.{is_dollar, no_braces, braces_behind}
+use Rattle.cmark_grammar.specs.Formulas.{is_dollar, no_braces, braces_after}
 use Rattle.cmark_grammar.specs.InlineReading.{inline_events}
 use Rattle.cmark_grammar.specs.InlineTokens.{item_at, bracket, is_plain, from, before, character_before, character_at, break_or, code_or, escape_at, entity_or, less_than, run_or, dollar, smart_or, goes_on}
 use Rattle.cmark_grammar.specs.Items.{Plain, Token, Stands, Opens, Closes as ClosesBracket, Ends}
@@ -29,7 +29,7 @@ use Rattle.cmark_grammar.specs.Siblings.{Inline, Nil, Around, with_quotes, runs_
 use Rattle.cmark_grammar.specs.SpanDocuments.{Segment, Given, Content, Profile, segments, reader_of, at_start}
 use Rattle.cmark_grammar.specs.Spans.{SpanKind, Spans}
 use Rattle.cmark_grammar.specs.Spans as spans
-use Rattle.cmark_grammar.specs.SpecialBytes.{is_one_of, is_always_special}
+use Rattle.cmark_inline_model.specs.SpecialBytes.{is_one_of, is_always_special}
 use Rattle.cmark_grammar.specs.Tokens.{entity_in}
 
 -- ## Bytes and delimiter runs
@@ -77,7 +77,7 @@ module _ (reader : Reader) (leaf : Leaf) where
       else if b == 91 then Opens (bracket false at (suc at))
       else if b == 93 then ClosesBracket (bracket false at (suc at))
       else if is_run_delimiter_without b then run_at_without at b (prefix_len (λ c. c == b) (b ∷ bs))
-      else if reader.options.math && is_dollar b then dollar reader leaf at bs (braces_behind false (before reader leaf at) no_braces)
+      else if reader.options.math && is_dollar b then dollar reader leaf at bs (braces_after false (before reader leaf at) no_braces)
       else if reader.options.smart_punctuation then smart_or reader leaf at b
       else item_at Plain at (suc at)
 

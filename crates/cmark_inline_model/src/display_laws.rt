@@ -16,7 +16,7 @@ ghost use Rattle.cmark_grammar.specs.Quotes.{Quote};
 ghost use Rattle.cmark_grammar.specs.Readers.{Reader};
 ghost use Rattle.cmark_grammar.specs.Spans.{Spans};
 ghost use Rattle.cmark_inline_model.specs.BracketPass.{Pass, closed_by};
-ghost use Rattle.cmark_inline_model.specs.CutRanges.{IsBehindPipe};
+ghost use Rattle.cmark_inline_model.specs.CutRanges.{IsAfterPipe};
 ghost use Rattle.cmark_inline_model.specs.Displays.{IsCutThere, LeavesQuotes, LeavesRuns, ShowsLike, display_dressed, display_target};
 ghost use Rattle.cmark_inline_model.specs.LeafModel.{HaveLineEnds};
 ghost use Rattle.cmark_inline_model.specs.LikeSlots.{AreLike};
@@ -36,7 +36,7 @@ pub fn what_a_wikilink_shows_takes_the_place_of_its_slots()
         → (closer : Bracket) (nearer : ℕ) (name : List ℕ) (display end : ℕ) (next : State) (place : BracketPlace) → drop nearer bs ≡ place ∷ drop (suc nearer) bs → token reader leaf p.state.at ≡ Closes closer
         → Comes AnyAnswer p.state.asked (decide reader leaf p.state closer) (record { result = Forms nearer (Wiki name (Some display) end); after = next })
         → (left_runs left_quotes at : ℕ) (now : List Slot) → LeavesRuns place.runs left_runs at runs bytes → LeavesQuotes place.quotes left_quotes at quotes
-        → ((row : List Slot) → AreLike reader.source slots row → IsCutThere reader.source (suc place.slot) display row → IsBehindPipe reader.options reader.source display → display ≤ closer.start
+        → ((row : List Slot) → AreLike reader.source slots row → IsCutThere reader.source (suc place.slot) display row → IsAfterPipe reader.options reader.source display → display ≤ closer.start
         → ShowsLike reader.source (suc place.slot) display closer.start at row now)
         → (pairs : List Pair) (spans : Spans) → IsEmphasis (counted 0 (drop left_runs runs)) pairs spans
         → IsReached reader leaf before (closed_by p closer (record { result = Forms nearer (Wiki name (Some display) end); after = next })) (drop (suc nearer) bs)

@@ -2,7 +2,7 @@
 
 ghost use Rattle.std.specs.Prelude.{◌≡◌, ℕ, ◌+◌, ◌<◌, ◌≤◌, List, [], ◌∷◌, ◌++◌, length, map, sum};
 ghost use Rattle.cmark_grammar.specs.Answers.{Lookup};
-ghost use Rattle.cmark_grammar.specs.Balance.{Balanced};
+ghost use Rattle.cmark_block_model.specs.Balance.{Balanced};
 ghost use Rattle.cmark_grammar.specs.BlockDocument.{BlockDocument};
 ghost use Rattle.cmark_grammar.specs.BracketDecisions.{decide};
 ghost use Rattle.cmark_grammar.specs.Derivation.{Derives};
@@ -15,7 +15,7 @@ ghost use Rattle.cmark_grammar.specs.Options.{Options};
 ghost use Rattle.cmark_grammar.specs.Readers.{Reader};
 ghost use Rattle.cmark_grammar.specs.References.{first_with, references};
 ghost use Rattle.cmark_grammar.specs.Siblings.{AreSpans, Inline};
-ghost use Rattle.cmark_grammar.specs.SiblingsModel.{spans_in};
+ghost use Rattle.cmark_inline_model.specs.SiblingsModel.{spans_in};
 ghost use Rattle.cmark_grammar.specs.SpanDocuments.{Content, Given, IsReading, Left, Profile, Segment, reader_of, segments};
 ghost use Rattle.cmark_inline_model.specs.LeafExtents.{extent, extents};
 ghost use Rattle.cmark_inline_model.specs.LeafModel.{AreLeavesInTurn, AreLeavesOfLines, HaveLineEnds};
@@ -35,7 +35,7 @@ ghost use Rattle.cmark_inline_model.specs.PlannedAnswers.{AreByPlan};
 ghost use Rattle.cmark_inline_model.specs.PassSteps.{Steps};
 ghost use Rattle.cmark_inline_model.specs.ReadingRanges.{Matched};
 ghost use Rattle.cmark_inline_model.specs.Unanswered.{AreUnanswered, without_callback};
-ghost use Rattle.cmark_inline_model.specs.Progress.{IsForward, IsRecorded, IsShifted, asked_behind};
+ghost use Rattle.cmark_inline_model.specs.Progress.{IsForward, IsRecorded, IsShifted, asked_after};
 
 /// For each plan of answers a text is read as some parts, which are those of the pass.
 pub fn a_text_has_parts()
@@ -75,7 +75,7 @@ pub fn answers_become_a_list()
 pub fn earlier_questions_are_not_seen()
     ensures { (token : ℕ → Token) (decide : State → Bracket → Decision) → IsShifted decide
         → (h all : List Exchange) (s : State) (parts : Parts) (t : State) → Reads token decide (IsNext all) s parts t
-        → Reads token decide (IsNext (h ++ all)) (asked_behind h s) parts (asked_behind h t) }
+        → Reads token decide (IsNext (h ++ all)) (asked_after h s) parts (asked_after h t) }
 {}
 
 /// No link of a leaf contains another (CommonMark 6.3).
@@ -118,7 +118,7 @@ pub fn parts_stand_in_their_leaf()
         → StandBetween s.at parts t.at × (t.at ≤ end_of leaf.stretches) }
 {}
 
-/// The events of a reading are balanced: each start is followed by its end, with the same tag and the same range.
+/// The events of a reading are balanced: each start is followed by its end, with its tag and its range.
 pub fn events_are_balanced()
     ensures matched { (text : List ℕ) (profile : Profile) (exchanges : List Exchange) (events : List Ranged)
         → IsReading text profile exchanges events → Matched events }
@@ -198,7 +198,7 @@ pub fn what_is_left_grows_backwards()
         → Left reader others between.expansion_left rest later → Left reader (Content leaf ∷ others) expansion_left (taken ++ rest) (spans ++ later) }
 {}
 
-/// A callback that always answers `None`, and no callback, differ only in the questions: the events are the same.
+/// A callback that always returns `None`, and no callback, differ only in the questions: the events are equal.
 pub fn no_answers_are_no_callback()
     ensures { (text : List ℕ) (profile : Profile) (exchanges : List Exchange) (events : List Ranged)
         → AreUnanswered exchanges → IsReading text profile exchanges events → IsReading text (without_callback profile) [] events }

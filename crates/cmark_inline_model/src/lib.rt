@@ -1,5 +1,5 @@
-//! The spans of a leaf by one pass, and the theorems about them: a text has a reading for each plan of answers, and only one for each list
-//! of answers. The theorems are contracts of functions that do nothing.
+//! The spans of a leaf by one pass, and the theorems about them. A text has a reading for each plan of answers, and only one reading for
+//! each list of answers. The theorems are contracts of functions that do nothing.
 //!
 //! - [`laws`]: the inline grammar.
 //! - [`reading_laws`]: readings of whole texts.

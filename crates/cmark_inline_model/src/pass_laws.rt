@@ -15,14 +15,14 @@ ghost use Rattle.cmark_grammar.specs.Questions.{AnyAnswer, Exchange, IsNext};
 ghost use Rattle.cmark_grammar.specs.Quotes.{Quote};
 ghost use Rattle.cmark_grammar.specs.Readers.{Reader};
 ghost use Rattle.cmark_grammar.specs.Siblings.{item, quotes_of, address_link};
-ghost use Rattle.cmark_grammar.specs.SiblingsModel.{siblings_of};
+ghost use Rattle.cmark_inline_model.specs.SiblingsModel.{siblings_of};
 ghost use Rattle.cmark_grammar.specs.Spans.{Spans};
 ghost use Rattle.cmark_grammar.specs.Tag.{Link};
 ghost use Rattle.cmark_inline_model.specs.BracketPass.{Pass, closed_by, pass};
 ghost use Rattle.cmark_inline_model.specs.LikeSlots.{AreLike, IsLike};
 ghost use Rattle.cmark_inline_model.specs.PartLists.{Cut, cut_at, join};
 ghost use Rattle.cmark_inline_model.specs.RowParts.{BracketPlace, counted, runs_in, text_slot};
-ghost use Rattle.cmark_inline_model.specs.RowPasses.{IsReached, StandsFor, bytes_before, dressed_behind, dressed_slots, has_own_slot, linked_slots};
+ghost use Rattle.cmark_inline_model.specs.RowPasses.{IsReached, StandsFor, bytes_before, dressed_after, dressed_slots, has_own_slot, linked_slots};
 ghost use Rattle.cmark_inline_model.specs.SlotRows.{BeginSlot, EndSlot, ItemSlot, Slot, run_places, run_slots, slot_events};
 
 /// A pass begins with no slots (`first`). An item adds its slots, runs and quotes (`item`). An opening bracket adds one slot, whose index
@@ -87,7 +87,7 @@ pub fn what_is_formed_takes_the_place_of_its_slots()
         → Comes AnyAnswer p.state.asked (decide reader leaf p.state closer) (record { result = Forms nearer (Linking target); after = next })
         → (pairs : List Pair) (spans : Spans) → IsEmphasis (counted 0 (drop place.runs runs)) pairs spans
         → IsReached reader leaf before (closed_by p closer (record { result = Forms nearer (Linking target); after = next })) (drop (suc nearer) bs)
-        (linked_slots place target (dressed_behind reader.options place pairs slots bytes quotes runs quoted))
+        (linked_slots place target (dressed_after reader.options place pairs slots bytes quotes runs quoted))
         (take (bytes_before place runs) bytes) (take place.quotes quotes) (take place.runs runs) (take place.quotes quoted) }
 {}
 

@@ -15,10 +15,10 @@ ghost use Rattle.cmark_grammar.specs.LeafText.{Leaf};
 ghost use Rattle.cmark_grammar.specs.Options.{Options};
 ghost use Rattle.cmark_grammar.specs.Parts.{Parts};
 ghost use Rattle.cmark_grammar.specs.Questions.{AnyAnswer, Exchange, IsNext};
-ghost use Rattle.cmark_grammar.specs.Ranges.{count_tables};
+ghost use Rattle.cmark_block_model.specs.Ranges.{count_tables};
 ghost use Rattle.cmark_grammar.specs.Readers.{Reader};
 ghost use Rattle.cmark_grammar.specs.SpanDocuments.{IsReading, Profile, ReadsAll, Segment, at_start, reader_of, segments};
-ghost use Rattle.cmark_grammar.specs.SpecialBytes.{is_special};
+ghost use Rattle.cmark_inline_model.specs.SpecialBytes.{is_special};
 ghost use Rattle.cmark_inline_model.specs.CharacterRanges.{CutNoCharacter};
 ghost use Rattle.cmark_inline_model.specs.CutRanges.{InPlaceButCut, HasNoTasks};
 ghost use Rattle.cmark_inline_model.specs.LinkRules.{IsQuestion};
@@ -40,12 +40,12 @@ pub fn links_lead_by_definitions_and_answers()
         → Derives text profile.options profile.lookup document → IsReading text profile exchanges events → AreLed (reader_of text profile document) exchanges events }
 {}
 
-/// A reference is formed only while the reference expansion limit is not used up: the destinations and titles of all earlier references, in
-/// all leaves of the text, have fewer bytes than the limit. Earlier references are those that end earlier. So the destinations and titles
-/// of all references but the last have fewer bytes than the limit.
+/// A reference is formed only while the reference expansion limit is not used up. Until then the destinations and titles of all earlier
+/// references, in all leaves of the text, have fewer bytes than the limit. Earlier references are those that end earlier. So the
+/// destinations and titles of all references but the last have fewer bytes than the limit.
 pub fn references_stay_below_the_limit()
-    ensures { (text : List ℕ) (profile : Profile) (exchanges : List Exchange) (events : List Ranged) (front behind : List ℕ) (own : ℕ)
-        → IsReading text profile exchanges events → reference_costs [] events ≡ front ++ (own ∷ behind) → sum front < profile.reference_expansion_limit }
+    ensures { (text : List ℕ) (profile : Profile) (exchanges : List Exchange) (events : List Ranged) (front following : List ℕ) (own : ℕ)
+        → IsReading text profile exchanges events → reference_costs [] events ≡ front ++ (own ∷ following) → sum front < profile.reference_expansion_limit }
 {}
 
 /// A question is put only while the reference expansion limit is not used up. Each question has a closing bracket of its own in its range,

@@ -8,11 +8,11 @@ ghost use Rattle.cmark_grammar.specs.Options.{Options};
 ghost use Rattle.cmark_grammar.specs.Parts.{Nil, Opening, Parts, openings};
 ghost use Rattle.cmark_grammar.specs.Quotes.{Quote, quote_characters};
 ghost use Rattle.cmark_grammar.specs.Siblings.{quotes_of};
-ghost use Rattle.cmark_grammar.specs.SiblingsModel.{dress, siblings_of};
+ghost use Rattle.cmark_inline_model.specs.SiblingsModel.{dress, siblings_of};
 ghost use Rattle.cmark_grammar.specs.Spans.{Spans};
 ghost use Rattle.cmark_inline_model.specs.PartLists.{join};
 ghost use Rattle.cmark_inline_model.specs.RowParts.{BracketPlace, CutsRow, IsRow, counted, runs_in, text_slot};
-ghost use Rattle.cmark_inline_model.specs.SlotRows.{LaysOut, Slot, StandBehind, marked, marks_by, quoted};
+ghost use Rattle.cmark_inline_model.specs.SlotRows.{LaysOut, Slot, StandAfter, marked, marks_by, quoted};
 
 /// A row is one list of siblings laid out as slots (`whole`). Further parts without opening brackets add their slots, runs and quotes
 /// (`grows`). An opening bracket adds one slot, whose index is recorded (`opens`).
@@ -36,11 +36,11 @@ pub fn rows_are_cut_where_their_parts_are()
 
 /// After the cut, writing the characters of the quotes and the marks of the pairs of runs gives the slots of the spans of the parts there.
 /// The slots up to the bracket's own are unchanged.
-pub fn what_stands_behind_a_bracket_becomes_spans()
+pub fn what_stands_after_a_bracket_becomes_spans()
     ensures { (options : Options) (nearer : ℕ) (bs : List BracketPlace) (parts : Parts) (slots : List Slot) (bytes quotes : List ℕ) (runs : List Run) (quotes_are : List Quote)
         → (c : CutsRow options nearer bs parts slots bytes quotes runs quotes_are) → (pairs : List Pair) (spans : Spans) → IsEmphasis (counted 0 (drop c.place.runs runs)) pairs spans
-        → StandBehind (c.front ++ (text_slot c.cut.opener ∷ [])) c.behind (dress options (siblings_of options c.cut.inside))
-        (marked options c.behind_bytes (marks_by (length c.behind_bytes) pairs) (quoted c.behind_quotes (quote_characters [] (drop c.place.quotes quotes_are)) slots) []) }
+        → StandAfter (c.front ++ (text_slot c.cut.opener ∷ [])) c.following (dress options (siblings_of options c.cut.inside))
+        (marked options c.after_bytes (marks_by (length c.after_bytes) pairs) (quoted c.after_quotes (quote_characters [] (drop c.place.quotes quotes_are)) slots) []) }
 {}
 
 /// A construct that brackets form, without runs and quotes of its own, replaces the opening bracket and all slots after it. Earlier opening

@@ -15,7 +15,7 @@ ghost use Rattle.cmark_grammar.specs.Readers.{Reader};
 ghost use Rattle.cmark_grammar.specs.Siblings.{Inline, IsDressed, Nil, dressed_all, gaps_of, quotes_of, runs_from, with_characters};
 ghost use Rattle.cmark_grammar.specs.Spans.{Spans};
 ghost use Rattle.cmark_inline_model.specs.LikeSlots.{AreLike};
-ghost use Rattle.cmark_inline_model.specs.SlotRows.{AreTight, LaysOut, Mark, Slot, StandBehind, byte_places, marked, marks_by, marks_of, quote_places, quoted, row_of, seen, slot_events, slots_of};
+ghost use Rattle.cmark_inline_model.specs.SlotRows.{AreTight, LaysOut, Mark, Slot, StandAfter, byte_places, marked, marks_by, marks_of, quote_places, quoted, row_of, seen, slot_events, slots_of};
 
 /// Siblings can be laid out as slots, from any index of a row on.
 pub fn siblings_have_slots()
@@ -47,7 +47,7 @@ pub fn pairs_write_the_marks()
 pub fn marks_make_the_spans()
     ensures { (options : Options) (siblings : Inline) (pairs : List Pair) (spans : Spans) → IsEmphasis (runs_from siblings 0) pairs spans
         → (before slots : List Slot) (bytes quotes : List ℕ) → LaysOut (length before) siblings slots bytes quotes
-        → StandBehind before slots (dressed_all options siblings spans) (marked options bytes (marks_of spans) (before ++ slots) []) }
+        → StandAfter before slots (dressed_all options siblings spans) (marked options bytes (marks_of spans) (before ++ slots) []) }
 {}
 
 /// The slots of spans give the events of these spans, followed by the events of the later slots.
@@ -64,7 +64,7 @@ pub fn events_are_read_off_the_slots()
         → slot_events source (marked options bytes (marks_by (length bytes) dressed.pairs) (quoted quotes (quote_characters [] (quotes_of siblings)) slots) []) [] ≡ inline_events source result }
 {}
 
-/// The events of a leaf are read from the slots of the outermost siblings of its parts, after the same writing.
+/// The events of a leaf are read from the slots of the outermost siblings of its parts, after this writing.
 pub fn events_of_a_leaf_are_read_off_its_slots()
     ensures { (reader : Reader) (exchanges : List Exchange) (leaf : Leaf) (before after : Between) (events : List Ranged) (reads : ReadsLeaf reader (IsNext exchanges) leaf before events after)
         → (slots : List Slot) (bytes quotes : List ℕ) → LaysOut 0 reads.are.siblings slots bytes quotes

@@ -3,17 +3,17 @@
 
 ghost use Rattle.std.specs.Prelude.{ℕ, List, IsUtf8, map};
 ghost use Rattle.cmark_grammar.specs.Answers.{Lookup};
-ghost use Rattle.cmark_grammar.specs.Balance.{Balanced};
+ghost use Rattle.cmark_block_model.specs.Balance.{Balanced};
 ghost use Rattle.cmark_grammar.specs.BlockDocument.{BlockDocument};
 ghost use Rattle.cmark_grammar.specs.Derivation.{Derives};
 ghost use Rattle.cmark_grammar.specs.Event.{Ranged};
-ghost use Rattle.cmark_grammar.specs.LeafSpans.{AreGiven};
+ghost use Rattle.cmark_inline_model.specs.LeafSpans.{AreGiven};
 ghost use Rattle.cmark_grammar.specs.Options.{Options};
 ghost use Rattle.cmark_grammar.specs.SpanDocuments.{segments};
 ghost use Rattle.cmark_inline_model.specs.CharacterRanges.{CutNoCharacter, HaveRanges};
 ghost use Rattle.cmark_inline_model.specs.ReadingRanges.{Matched};
 
-/// The events of a walk that ends are balanced: each start is followed by its end, with the same tag and the same range.
+/// The events of a walk that ends are balanced: each start is followed by its end, with its tag and its range.
 pub fn walks_are_balanced()
     ensures matched { (text : List ℕ) (document : BlockDocument) (events : List Ranged) → AreGiven text (segments document) events → Matched events }
     ensures balanced { (text : List ℕ) (document : BlockDocument) (events : List Ranged)

@@ -5,8 +5,8 @@ use Rattle.std.specs.List.{take_while}
 use Rattle.std.specs.Prelude.{get_or, if◌then◌else◌}
 use Rattle.std.proofs.lemmas.Bool.Decides.{nat_tests}
 use Rattle.std.proofs.lemmas.List.Sums.{take_while-cons}
-use Rattle.cmark_grammar.specs.Attributes.{Attributes, is_no_equals, put_byte, words, value_behind, attribute_of, with_word}
-use Rattle.cmark_items.specs.Headings.{is_in_word, words_behind}
+use Rattle.cmark_grammar.specs.Attributes.{Attributes, is_no_equals, put_byte, words, value_after, attribute_of, with_word}
+use Rattle.cmark_items.specs.Headings.{is_in_word, words_after}
 
 -- how much is left
 abbrev pub left_size : Option (List ℕ) → ℕ
@@ -14,7 +14,7 @@ left_size None = 0
 left_size (Some bs) = suc (length bs)
 
 -- the first word, and the words after the white space that ends it
-pub words-cut : (bs : List ℕ) → words bs ≡ take (length (take_while is_in_word bs)) bs ∷ words_behind (value_behind (drop (length (take_while is_in_word bs)) bs))
+pub words-cut : (bs : List ℕ) → words bs ≡ take (length (take_while is_in_word bs)) bs ∷ words_after (value_after (drop (length (take_while is_in_word bs)) bs))
 words-cut [] = refl
 words-cut (b ∷ bs) = go (is_ascii_whitespace b) refl (words-cut bs)
   where
@@ -24,17 +24,17 @@ words-cut (b ∷ bs) = go (is_ascii_whitespace b) refl (words-cut bs)
     at : (z : Bool) → is_ascii_whitespace b ≡ z → length (take_while is_in_word (b ∷ bs)) ≡ length (cond (not z) (b ∷ take_while is_in_word bs) [])
     at z e = ap length (take_while-cons is_in_word b bs) ∙ ap (λ y. length (cond (not y) (b ∷ take_while is_in_word bs) [])) e
 
-    go : (z : Bool) → is_ascii_whitespace b ≡ z → words bs ≡ take n bs ∷ words_behind (value_behind (drop n bs)) →
-        put_byte (is_ascii_whitespace b) b (words bs) ≡ take (length (take_while is_in_word (b ∷ bs))) (b ∷ bs) ∷ words_behind (value_behind (drop (length (take_while is_in_word (b ∷ bs))) (b ∷ bs)))
-    go true e ih = ap (λ y. put_byte y b (words bs)) e ∙ sym (ap (λ k. take k (b ∷ bs) ∷ words_behind (value_behind (drop k (b ∷ bs)))) (at true e))
+    go : (z : Bool) → is_ascii_whitespace b ≡ z → words bs ≡ take n bs ∷ words_after (value_after (drop n bs)) →
+        put_byte (is_ascii_whitespace b) b (words bs) ≡ take (length (take_while is_in_word (b ∷ bs))) (b ∷ bs) ∷ words_after (value_after (drop (length (take_while is_in_word (b ∷ bs))) (b ∷ bs)))
+    go true e ih = ap (λ y. put_byte y b (words bs)) e ∙ sym (ap (λ k. take k (b ∷ bs) ∷ words_after (value_after (drop k (b ∷ bs)))) (at true e))
     go false e ih =
         ap (λ y. put_byte y b (words bs)) e ∙ ap (put_byte false b) ih
-        ∙ sym (ap (λ k. take k (b ∷ bs) ∷ words_behind (value_behind (drop k (b ∷ bs)))) (at false e))
+        ∙ sym (ap (λ k. take k (b ∷ bs) ∷ words_after (value_after (drop k (b ∷ bs)))) (at false e))
 
 -- after the bytes that pass comes a byte that does not
-pub behind-fails : (p : ℕ → Bool) (bs : List ℕ) → length (take_while p bs) < length bs → p (get_or bs (length (take_while p bs)) 0) ≡ false
-behind-fails p [] l = absurd (omega (arith, l))
-behind-fails p (b ∷ bs) l = go (p b) refl (behind-fails p bs)
+pub following-fails : (p : ℕ → Bool) (bs : List ℕ) → length (take_while p bs) < length bs → p (get_or bs (length (take_while p bs)) 0) ≡ false
+following-fails p [] l = absurd (omega (arith, l))
+following-fails p (b ∷ bs) l = go (p b) refl (following-fails p bs)
   where
     at : (z : Bool) → p b ≡ z → length (take_while p (b ∷ bs)) ≡ length (cond z (b ∷ take_while p bs) [])
     at z e = ap length (take_while-cons p b bs) ∙ ap (λ y. length (cond y (b ∷ take_while p bs) [])) e

@@ -3,7 +3,7 @@ use Rattle.std.specs.Prelude.{ℕ, Bool, not, List, [], Option, Some, None}
 use Rattle.std.specs.Borrow.{Bor}
 use Rattle.std.specs.Char.{is_ascii_whitespace}
 use Rattle.cmark_grammar.specs.Attributes.{Attributes, words}
-use Rattle.cmark_text_parts.specs.Shown.{shown_attributes}
+use Rattle.cmark_values.specs.Shown.{shown_attributes}
 use Rattle.cmark_items.specs.declared.heading.HeadingAttributes.{HeadingAttributes}
 
 abbrev pub shown_heading : HeadingAttributes → Attributes
@@ -16,6 +16,6 @@ abbrev pub str_bytes : Bor (List ℕ) → List ℕ
 str_bytes text = text.now
 
 -- the words that are left after the first word
-abbrev pub words_behind : Option (List ℕ) → List (List ℕ)
-words_behind None = []
-words_behind (Some bs) = words bs
+abbrev pub words_after : Option (List ℕ) → List (List ℕ)
+words_after None = []
+words_after (Some bs) = words bs

@@ -1,7 +1,7 @@
 -- The items of a document's blocks as nodes of the grammar's documents.
 use Rattle.std.specs.Char.{encode_utf8}
 use Rattle.std.specs.Prelude.{ℕ, ◌%◌, Bool, ◌==◌, if◌then◌else◌, List, [], Option, Some, None, option_map, slice_get}
-use Rattle.cmark_text_parts.specs.Shown.{text_bytes, level_number, shown_block_quote_kind, shown_metadata_block_kind}
+use Rattle.cmark_values.specs.Shown.{text_bytes, level_number, shown_block_quote_kind, shown_metadata_block_kind}
 use Rattle.cmark_tree.specs.Forest as forest
 use Rattle.cmark_tree.specs.Forest.{Forest}
 use Rattle.cmark_grammar.specs.Alignment.{Alignment}
@@ -15,7 +15,7 @@ use Rattle.cmark_items.specs.declared.item.Item.{Item}
 use Rattle.cmark_items.specs.declared.item.ItemBody.{ItemBody}
 use Rattle.cmark_items.specs.declared.item.ItemBody.TheVariants as body
 use Rattle.cmark_items.specs.declared.list_flags.ListFlags.{ListFlags}
-use Rattle.cmark_text_parts.specs.declared.text.CowStr.{CowStr}
+use Rattle.cmark_values.specs.declared.text.CowStr.{CowStr}
 
 -- the text at an index
 abbrev pub text_at : List CowStr → ℕ → Option (List ℕ)
@@ -122,7 +122,7 @@ module _ (text : List ℕ) (texts : List CowStr) where
   shown_forest forest.Nil = forest.Nil
   shown_forest (forest.Node item inside after) = forest.Node (shown_item item) (shown_inside text item.start (shape item.body) (shown_forest inside)) (shown_forest after)
 
--- the nodes of a document, in the same form
+-- the nodes of a document, in this form
 abbrev pub nodes_of : BlockDocument → Forest (Option BlockNode)
 nodes_of document.Nil = forest.Nil
 nodes_of (document.Node node inside after) = forest.Node (Some node) (nodes_of inside) (nodes_of after)

@@ -6,7 +6,7 @@ ghost use Rattle.cmark_references.specs.Footnotes.{footnote};
 ghost use Rattle.cmark_items.specs.Tables.{with_text, with_link, with_alignments, LeavesNoText, LeavesNoLink, without_alignments};
 
 use cmark_references::{FootnoteDefs, Link, RefDefs};
-use cmark_text_parts::{Alignment, CowStr, LinkType};
+use cmark_values::{Alignment, CowStr, LinkType};
 use std::alloc::{AllocError, Global};
 use std::marker::Model;
 use std::mem;

@@ -2,11 +2,11 @@
 
 ghost use Rattle.std.specs.Prelude.{◌≡◌, ◌<◌, ◌≤◌, ℕ, ◌∷◌, [], ◌++◌, length, take, drop, map, IfOk, OnOk, IfSome, option_map, get_or};
 ghost use Rattle.std.specs.List.{take_while};
-ghost use Rattle.cmark_grammar.specs.Attributes.{is_no_equals, words, value_behind, attribute_of, attributes_of, with_word, no_attributes};
-ghost use Rattle.cmark_text_parts.specs.Shown.{text_bytes, shown_attribute};
-ghost use Rattle.cmark_items.specs.Headings.{shown_heading, is_in_word, str_bytes, words_behind};
+ghost use Rattle.cmark_grammar.specs.Attributes.{is_no_equals, words, value_after, attribute_of, attributes_of, with_word, no_attributes};
+ghost use Rattle.cmark_values.specs.Shown.{text_bytes, shown_attribute};
+ghost use Rattle.cmark_items.specs.Headings.{shown_heading, is_in_word, str_bytes, words_after};
 
-use cmark_text_parts::CowStr;
+use cmark_values::CowStr;
 use std::alloc::{AllocError, Global};
 
 /// The attributes of a heading, from the braces on its line.
@@ -45,8 +45,8 @@ fn cut(text: &str, at: usize) -> (&str, Option<&str>)
     requires within { at ≤ length text.now }
     requires ascii { at < length text.now → get_or text.now at 0 < 128 }
     ensures before { result.0.now ≡ take at text.now }
-    ensures behind { option_map str_bytes result.1 ≡ value_behind (drop at text.now) }
-    ensures shorter { IfSome result.1 (λ behind. length behind.now < length text.now) }
+    ensures following { option_map str_bytes result.1 ≡ value_after (drop at text.now) }
+    ensures shorter { IfSome result.1 (λ following. length following.now < length text.now) }
 {
     if at < text.len() {
         (&text[..at], Some(&text[at + 1..]))
@@ -57,8 +57,8 @@ fn cut(text: &str, at: usize) -> (&str, Option<&str>)
 
 /// The first word, and the text after the white space that ends it.
 fn cut_word(text: &str) -> (&str, Option<&str>)
-    ensures words { words text.now ≡ result.0.now ∷ words_behind (option_map str_bytes result.1) }
-    ensures shorter { IfSome result.1 (λ behind. length behind.now < length text.now) }
+    ensures words { words text.now ≡ result.0.now ∷ words_after (option_map str_bytes result.1) }
+    ensures shorter { IfSome result.1 (λ following. length following.now < length text.now) }
 {
     cut(text, count_word(text.as_bytes()))
 }
@@ -139,9 +139,9 @@ impl<'a> HeadingAttributes<'a> {
         let mut read = HeadingAttributes::none(alloc);
         let mut rest = Some(words);
         while let Some(left) = rest {
-            let (word, behind) = cut_word(left);
+            let (word, following) = cut_word(left);
             read.add(alloc, word)?;
-            rest = behind;
+            rest = following;
         }
         Ok(read)
     }

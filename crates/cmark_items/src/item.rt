@@ -4,8 +4,8 @@ ghost use Rattle.cmark_items.specs.Spans.{spans};
 
 use crate::allocations::{CowIndex, HeadingIndex, LinkIndex};
 use crate::list_flags::ListFlags;
-use cmark_text_parts::{BlockQuoteKind, HeadingLevel, MetadataBlockKind};
 use cmark_tree::TreeSpan;
+use cmark_values::{BlockQuoteKind, HeadingLevel, MetadataBlockKind};
 
 /// A node of the tree: its body, and its range in the text, from byte offset `start` up to `end`.
 #[derive(Clone, Copy, PartialEq, Eq)]

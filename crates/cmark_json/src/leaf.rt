@@ -1,7 +1,7 @@
 //! The contents of tags and events as JSON.
 
 ghost use Rattle.std.specs.Prelude.{◌≡◌, ◌∷◌, [], ◌++◌, map, option_map, IfOk, OnOk};
-ghost use Rattle.cmark_text_parts.specs.Shown.{shown_attribute, shown_alignment, shown_block_quote_kind, shown_code_block_kind, shown_link_type, shown_metadata_block_kind, text_bytes};
+ghost use Rattle.cmark_values.specs.Shown.{shown_attribute, shown_alignment, shown_block_quote_kind, shown_code_block_kind, shown_link_type, shown_metadata_block_kind, text_bytes};
 ghost use Rattle.cmark_json.specs.EventData.{alone, with_one, text_or_null, number_or_null, attribute_data, alignment_data, alignment_name, quote_kind_data, code_kind_data, metadata_kind_name, link_type_data};
 ghost use Rattle.serde_json.specs.Data.{array, string};
 ghost use Rattle.serde_json.specs.View.{items_of, view};
@@ -33,7 +33,8 @@ pub fn with_text(alloc: Global, name: &str, text: &str) -> Result<Value, AllocEr
 
 /// Appends a value to the elements of an array.
 pub fn push(values: &mut Vec<Value>, value: Value) -> Result<(), AllocError>
-    ensures { OnOk result (map view values.new.items ≡ map view values.old.items ++ (view value ∷ [])) }
+    ensures { OnOk result
+        (map view values.new.items ≡ map view values.old.items ++ (view value ∷ [])) }
 {
     values.push(value)?;
     Ok(())
@@ -41,7 +42,8 @@ pub fn push(values: &mut Vec<Value>, value: Value) -> Result<(), AllocError>
 
 /// Appends a text to the elements of an array.
 pub fn push_text(values: &mut Vec<Value>, alloc: Global, text: &str) -> Result<(), AllocError>
-    ensures { OnOk result (map view values.new.items ≡ map view values.old.items ++ (string text.now ∷ [])) }
+    ensures { OnOk result
+        (map view values.new.items ≡ map view values.old.items ++ (string text.now ∷ [])) }
 {
     push(values, Value::try_from_str(alloc, text)?)
 }
@@ -82,7 +84,8 @@ pub fn attributes(
     alloc: Global,
     attributes: &[(CowStr<'_>, Option<CowStr<'_>>)],
 ) -> Result<Value, AllocError>
-    ensures { IfOk result (λ v. view v ≡ array (items_of (map attribute_data (map shown_attribute attributes.now)))) }
+    ensures { IfOk result
+        (λ v. view v ≡ array (items_of (map attribute_data (map shown_attribute attributes.now)))) }
 {
     let mut values = Vec::new(alloc);
     for attribute in attributes {
@@ -106,7 +109,8 @@ fn attribute_value(
 
 /// The alignments of a table's columns in an array.
 pub fn alignments(alloc: Global, columns: &[Alignment]) -> Result<Value, AllocError>
-    ensures { IfOk result (λ v. view v ≡ array (items_of (map alignment_data (map shown_alignment columns.now)))) }
+    ensures { IfOk result
+        (λ v. view v ≡ array (items_of (map alignment_data (map shown_alignment columns.now)))) }
 {
     let mut values = Vec::new(alloc);
     for column in columns {

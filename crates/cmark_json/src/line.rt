@@ -42,7 +42,8 @@ fn append_line(
 
 /// Appends the line: the JSON of an event, inside the object with its range.
 fn append_around(out: &mut String, range: &Range<usize>, json: &str) -> Result<(), AllocError>
-    ensures { OnOk result (string_bytes out.new ≡ string_bytes out.old ++ line_around range.now.start range.now.end json.now) }
+    ensures { OnOk result (string_bytes out.new ≡ string_bytes out.old
+        ++ line_around range.now.start range.now.end json.now) }
 {
     out.push_str("{\"range\":[")?;
     append_number(out, range.start)?;

@@ -3,7 +3,7 @@
 ghost use Rattle.std.specs.Prelude.{◌≡◌, IfOk, codes, option_map};
 ghost use Rattle.cmark_text.specs.Short.{shown_plain};
 ghost use Rattle.cmark_text.specs.Shown.{shown_end, shown_tag};
-ghost use Rattle.cmark_text_parts.specs.Shown.{level_number, shown_attributes, shown_block_quote_kind, shown_code_block_kind, shown_linked};
+ghost use Rattle.cmark_values.specs.Shown.{level_number, shown_attributes, shown_block_quote_kind, shown_code_block_kind, shown_linked};
 ghost use Rattle.cmark_json.specs.EventData.{code_kind_data, end_data, heading, linked, named, quote_kind_data, tag_data, with_one};
 ghost use Rattle.serde_json.specs.View.{view};
 
@@ -84,7 +84,8 @@ fn plain_value(alloc: Global, tag: PlainTag) -> Result<Value, AllocError>
 
 /// The tag of a block quote, or its end.
 fn block_quote_value(alloc: Global, kind: Option<BlockQuoteKind>) -> Result<Value, AllocError>
-    ensures { IfOk result (λ v. view v ≡ with_one (codes "BlockQuote") (quote_kind_data (option_map shown_block_quote_kind kind))) }
+    ensures { let quote = quote_kind_data (option_map shown_block_quote_kind kind) in
+        IfOk result (λ v. view v ≡ with_one (codes "BlockQuote") quote) }
 {
     let kind = leaf::quote_kind(alloc, kind)?;
     leaf::with_one(alloc, "BlockQuote", kind)
@@ -92,7 +93,8 @@ fn block_quote_value(alloc: Global, kind: Option<BlockQuoteKind>) -> Result<Valu
 
 /// The tag of a code block.
 fn code_block_value(alloc: Global, kind: &CodeBlockKind<'_>) -> Result<Value, AllocError>
-    ensures { IfOk result (λ v. view v ≡ with_one (codes "CodeBlock") (code_kind_data (shown_code_block_kind kind.now))) }
+    ensures { let code = code_kind_data (shown_code_block_kind kind.now) in
+        IfOk result (λ v. view v ≡ with_one (codes "CodeBlock") code) }
 {
     let kind = leaf::code_kind(alloc, kind)?;
     leaf::with_one(alloc, "CodeBlock", kind)
@@ -106,7 +108,9 @@ fn heading_value(
     classes: &[CowStr<'_>],
     attrs: &[(CowStr<'_>, Option<CowStr<'_>>)],
 ) -> Result<Value, AllocError>
-    ensures { IfOk result (λ v. view v ≡ named (codes "Heading") (heading (level_number level) (shown_attributes id.now classes.now attrs.now))) }
+    ensures { let attributes = shown_attributes id.now classes.now attrs.now in
+        IfOk result (λ v. view v
+        ≡ named (codes "Heading") (heading (level_number level) attributes)) }
 {
     // Each part is pushed as soon as it is made, so that only one value has to be dropped if memory is refused.
     let mut parts = Vec::new(alloc);
@@ -141,7 +145,8 @@ fn linked_value(
     title: &CowStr<'_>,
     id: &CowStr<'_>,
 ) -> Result<Value, AllocError>
-    ensures { IfOk result (λ v. view v ≡ named name.now (linked (shown_linked link_type dest_url.now title.now id.now))) }
+    ensures { IfOk result (λ v. view v
+        ≡ named name.now (linked (shown_linked link_type dest_url.now title.now id.now))) }
 {
     let mut parts = Vec::new(alloc);
     leaf::push_text(&mut parts, alloc, name)?;

@@ -16,14 +16,14 @@ module _ (source : List ℕ) where
   place-far first from (x ∷ ss) at all le lt = go (λ l m. place-far (first + size_of x) x.end ss at all.1 l m) (nat_lt at (x.at + size_of x)) refl
     where
       go : (first + size_of x ≤ at → at < (first + size_of x) + length (joined source ss) → x.end + (at - (first + size_of x)) ≤ place_in ss at) → (z : Bool) → nat_lt at (x.at + size_of x) ≡ z → from + (at - first) ≤ (if z then x.start + (at - x.at) else place_in ss at)
-      go behind true e = let b = all.0.behind in let p = all.0.place in omega (arith, b, p)
-      go behind false e =
+      go following true e = let b = all.0.following in let p = all.0.place in omega (arith, b, p)
+      go following false e =
           let g = ltb-false at (x.at + size_of x) e in
           let p = all.0.place in
-          let b = all.0.behind in
+          let b = all.0.following in
           let o = all.0.ordered in
           let n = size-joined source x ss all.0.within in
-          let r = behind (let q : first + size_of x ≤ at = omega (arith, p, g) in q) (let q : at < (first + size_of x) + length (joined source ss) = omega (arith, lt, n) in q) in
+          let r = following (let q : first + size_of x ≤ at = omega (arith, p, g) in q) (let q : at < (first + size_of x) + length (joined source ss) = omega (arith, lt, n) in q) in
           omega (arith, b, o, r, p, g)
 
   -- two bytes are at least as far apart in the source as in the text
@@ -38,20 +38,20 @@ module _ (source : List ℕ) where
       n = size-joined source x ss all.0.within
 
       go : (first + size_of x ≤ a → b < (first + size_of x) + length (joined source ss) → place_in ss a + (b - a) ≤ place_in ss b) → (y z : Bool) → nat_lt a (x.at + size_of x) ≡ y → nat_lt b (x.at + size_of x) ≡ z → (if y then x.start + (a - x.at) else place_in ss a) + (b - a) ≤ (if z then x.start + (b - x.at) else place_in ss b)
-      go behind true true d e = omega (arith, ab, p, le)
-      go behind true false d e =
+      go following true true d e = omega (arith, ab, p, le)
+      go following true false d e =
           let l = ltb-true a (x.at + size_of x) d in
           let g = ltb-false b (x.at + size_of x) e in
           let o = all.0.ordered in
           let r = place-far (first + size_of x) x.end ss b all.1 (let q : first + size_of x ≤ b = omega (arith, p, g) in q) (let q : b < (first + size_of x) + length (joined source ss) = omega (arith, lt, n) in q) in
           omega (arith, l, g, r, o, p, le, ab)
-      go behind false true d e =
+      go following false true d e =
           let g = ltb-false a (x.at + size_of x) d in
           let l = ltb-true b (x.at + size_of x) e in
           absurd (omega (arith, g, l, ab))
-      go behind false false d e =
+      go following false false d e =
           let g = ltb-false a (x.at + size_of x) d in
-          behind (let q : first + size_of x ≤ a = omega (arith, p, g) in q) (let q : b < (first + size_of x) + length (joined source ss) = omega (arith, lt, n) in q)
+          following (let q : first + size_of x ≤ a = omega (arith, p, g) in q) (let q : b < (first + size_of x) + length (joined source ss) = omega (arith, lt, n) in q)
 
   -- if the ends are as far apart in the source as in the text, the bytes are the same
   pub same-bytes : (ss : List Stretch) (from to : ℕ) → AreStretches source 0 0 ss → IsPart (joined source ss) from to

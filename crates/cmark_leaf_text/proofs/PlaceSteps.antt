@@ -43,12 +43,12 @@ module _ (source : List ℕ) where
     where
       go : (at + size_of x ≤ k → k < (at + size_of x) + size ss → place_in (ss ++ (s ∷ [])) k ≡ place_in ss k) → (z : Bool) → nat_lt k (x.at + size_of x) ≡ z
           → (if z then x.start + (k - x.at) else place_in (ss ++ (s ∷ [])) k) ≡ (if z then x.start + (k - x.at) else place_in ss k)
-      go behind true e = refl
-      go behind false e =
+      go following true e = refl
+      go following false e =
           let g = ltb-false k (x.at + size_of x) e in
           let p = all.0.place in
           let n = size-joined source x ss all.0.within in
-          behind (let q : at + size_of x ≤ k = omega (arith, g, p) in q) (let q : k < (at + size_of x) + size ss = omega (arith, lt, n) in q)
+          following (let q : at + size_of x ≤ k = omega (arith, g, p) in q) (let q : k < (at + size_of x) + size ss = omega (arith, lt, n) in q)
 
   -- the bytes of the last stretch
   last-place : (at from : ℕ) (ss : List Stretch) (s : Stretch) (k : ℕ) → AreStretches source at from (ss ++ (s ∷ [])) → at + size ss ≤ k → k < s.at + size_of s → place_in (ss ++ (s ∷ [])) k ≡ s.start + (k - s.at)
@@ -117,7 +117,7 @@ module _ (source : List ℕ) where
   -- the bytes of these stretches have the offsets of the lines that were pushed, and the bytes of the remaining lines follow
   pub record StandSoFar (lines rest : List LeafLine) (ss : List Stretch) : Type 0 where
     pub so_far : StandAs source lines ss
-    pub behind : (k : ℕ) → place_on lines (length (joined source ss) + k) ≡ place_on rest k
+    pub following : (k : ℕ) → place_on lines (length (joined source ss) + k) ≡ place_on rest k
 
   none-joined : (place : ℕ) → joined source (record { at = 0; start = place; end = place } ∷ []) ≡ []
   none-joined place = joined-one source (record { at = 0; start = place; end = place }) ∙ slice-none source place
@@ -140,13 +140,13 @@ module _ (source : List ℕ) where
         are = from_start source 0 line others h;
         now = first-open source 0 line others h;
         text = ap (λ b. b ++ leaf_bytes source lines) n;
-        places = record { so_far = λ k lt. absurd (omega (arith, no, lt)); behind = λ k. ap (place_on lines) (let q : size (record { at = 0; start = line.start; end = line.start } ∷ []) + k ≡ k = omega (arith, no) in q) };
+        places = record { so_far = λ k lt. absurd (omega (arith, no, lt)); following = λ k. ap (place_on lines) (let q : size (record { at = 0; start = line.start; end = line.start } ∷ []) + k ≡ k = omega (arith, no) in q) };
       })
 
   -- one more line
   pub stand-more : (lines rest others : List LeafLine) (line : LeafLine) (old new : List Stretch) → rest ≡ line ∷ others → StandSoFar lines rest old → PlacesMore source old line.start (end_in_leaf line others - line.start) new
       → size new ≡ size old + (end_in_leaf line others - line.start) → StandSoFar lines others new
-  stand-more lines rest others line old new is h more grows = record { so_far = so_far; behind = behind }
+  stand-more lines rest others line old new is h more grows = record { so_far = so_far; following = following }
     where
       m : ℕ
       m = end_in_leaf line others - line.start
@@ -168,9 +168,9 @@ module _ (source : List ℕ) where
               let j : ℕ = k - size old in
               let less : j < m = omega (arith, l, n, lt) in
               let here : k ≡ size old + j = omega (arith, l) in
-              ap (place_in new) here ∙ more.more j less ∙ sym (at-line j less) ∙ ap (λ r. place_on r j) (sym is) ∙ sym (h.behind j) ∙ ap (place_on lines) (sym here)
+              ap (place_in new) here ∙ more.more j less ∙ sym (at-line j less) ∙ ap (λ r. place_on r j) (sym is) ∙ sym (h.following j) ∙ ap (place_on lines) (sym here)
 
-      behind : (k : ℕ) → place_on lines (size new + k) ≡ place_on others k
-      behind k =
+      following : (k : ℕ) → place_on lines (size new + k) ≡ place_on others k
+      following k =
           let n = grows in
-          ap (place_on lines) (let q : size new + k ≡ size old + (m + k) = omega (arith, n) in q) ∙ h.behind (m + k) ∙ ap (λ r. place_on r (m + k)) is ∙ line_end-line k
+          ap (place_on lines) (let q : size new + k ≡ size old + (m + k) = omega (arith, n) in q) ∙ h.following (m + k) ∙ ap (λ r. place_on r (m + k)) is ∙ line_end-line k

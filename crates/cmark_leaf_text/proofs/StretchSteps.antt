@@ -39,7 +39,7 @@ module _ (source : List ℕ) where
       → s.end ≤ end → end ≤ length source → IsCharBoundary source end → AreStretches source at from (ss ++ (record { at = s.at; start = s.start; end = end } ∷ []))
   grows at from [] s end all le within ends =
       let o = all.0.ordered in
-      (record { place = all.0.place; behind = all.0.behind; ordered = let n : s.start ≤ end = omega (arith, o, le) in n; within = within; starts = all.0.starts; ends = ends }, tt)
+      (record { place = all.0.place; following = all.0.following; ordered = let n : s.start ≤ end = omega (arith, o, le) in n; within = within; starts = all.0.starts; ends = ends }, tt)
   grows at from (x ∷ ss) s end all le within ends = (all.0, grows (at + size_of x) x.end ss s end all.1 le within ends)
 
   ordered-last : (at from : ℕ) (ss : List Stretch) (s : Stretch) → AreStretches source at from (ss ++ (s ∷ [])) → s.start ≤ s.end
@@ -68,7 +68,7 @@ module _ (source : List ℕ) where
   adds at from [] s t all new =
       let p = all.0.place in
       let q = new.place in
-      (all.0, (record { place = let e : t.at ≡ at + size_of s = omega (arith, p, q) in e; behind = new.behind; ordered = new.ordered; within = new.within; starts = new.starts; ends = new.ends }, tt))
+      (all.0, (record { place = let e : t.at ≡ at + size_of s = omega (arith, p, q) in e; following = new.following; ordered = new.ordered; within = new.within; starts = new.starts; ends = new.ends }, tt))
   adds at from (x ∷ ss) s t all new = (all.0, adds (at + size_of x) x.end ss s t all.1 new)
 
   pub added : (ss : List Stretch) (s t : Stretch) → IsOpen source ss s → IsStretch source (s.at + size_of s) s.end t → IsOpen source (ss ++ (s ∷ [])) t
@@ -76,7 +76,7 @@ module _ (source : List ℕ) where
       let o = ordered-open ss s h in
       let p = h.place in
       let q = new.place in
-      let b = new.behind in
+      let b = new.following in
       record { all = adds 0 0 ss s t h.all new; place = let e : t.at ≤ t.start = omega (arith, o, p, q, b) in e }
 
   pub added-text : (ss : List Stretch) (s t : Stretch) → joined source ((ss ++ (s ∷ [])) ++ (t ∷ [])) ≡ joined source (ss ++ (s ∷ [])) ++ slice source t.start t.end
@@ -93,14 +93,14 @@ module _ (source : List ℕ) where
     where
       first : Some x ≡ Some s → (at ≤ s.at) × IsStretch source s.at from s
       first q = subst (λ t. (at ≤ t.at) × IsStretch source t.at from t) (let z : x ≡ s = cc in z)
-          (let p = all.0.place in ((let l : at ≤ x.at = omega (arith, p) in l), record { place = refl; behind = all.0.behind; ordered = all.0.ordered; within = all.0.within; starts = all.0.starts; ends = all.0.ends }))
+          (let p = all.0.place in ((let l : at ≤ x.at = omega (arith, p) in l), record { place = refl; following = all.0.following; ordered = all.0.ordered; within = all.0.within; starts = all.0.starts; ends = all.0.ends }))
   stretch-there at from (x ∷ ss) (suc i) s all e =
       let r = stretch-there (at + size_of x) x.end ss i s all.1 e in
-      let b = r.1.behind in
+      let b = r.1.following in
       let o = all.0.ordered in
-      let f = all.0.behind in
+      let f = all.0.following in
       let l = r.0 in
-      ((let m : at ≤ s.at = omega (arith, l) in m), record { place = refl; behind = (let m : from ≤ s.start = omega (arith, b, o, f) in m); ordered = r.1.ordered; within = r.1.within; starts = r.1.starts; ends = r.1.ends })
+      ((let m : at ≤ s.at = omega (arith, l) in m), record { place = refl; following = (let m : from ≤ s.start = omega (arith, b, o, f) in m); ordered = r.1.ordered; within = r.1.within; starts = r.1.starts; ends = r.1.ends })
 
   pub size-joined : (x : Stretch) (ss : List Stretch) → x.end ≤ length source → length (joined source (x ∷ ss)) ≡ size_of x + length (joined source ss)
   size-joined x ss le = length-append (slice source x.start x.end) (joined source ss) ∙ ap (λ n. n + length (joined source ss)) (slice-length x.start x.end le)
@@ -148,7 +148,7 @@ module _ (source : List ℕ) where
 
   -- the lines of a leaf
   pub from_start : (from : ℕ) (line : LeafLine) (lines : List LeafLine) → AreLines source from (line ∷ lines) → AreLines source line.start (line ∷ lines)
-  from_start from line lines h = (record { behind = let l : line.start ≤ line.start = omega arith in l; content = h.0.content; ending = h.0.ending; within = h.0.within; starts = h.0.starts; stops = h.0.stops; ends = h.0.ends }, h.1)
+  from_start from line lines h = (record { following = let l : line.start ≤ line.start = omega arith in l; content = h.0.content; ending = h.0.ending; within = h.0.within; starts = h.0.starts; stops = h.0.stops; ends = h.0.ends }, h.1)
 
   pub first-open : (from : ℕ) (line : LeafLine) (lines : List LeafLine) → AreLines source from (line ∷ lines) → IsOpen source [] (record { at = 0; start = line.start; end = line.start })
   first-open from line lines h =
@@ -156,7 +156,7 @@ module _ (source : List ℕ) where
       let e = h.0.ending in
       let w = h.0.within in
       record {
-        all = (record { place = refl; behind = (let l : 0 ≤ line.start = omega arith in l); ordered = (let l : line.start ≤ line.start = omega arith in l); within = (let l : line.start ≤ length source = omega (arith, c, e, w) in l); starts = h.0.starts; ends = h.0.starts }, tt);
+        all = (record { place = refl; following = (let l : 0 ≤ line.start = omega arith in l); ordered = (let l : line.start ≤ line.start = omega arith in l); within = (let l : line.start ≤ length source = omega (arith, c, e, w) in l); starts = h.0.starts; ends = h.0.starts }, tt);
         place = let l : 0 ≤ line.start = omega arith in l;
       }
 
@@ -171,15 +171,15 @@ module _ (source : List ℕ) where
       let c = h.0.content in
       let e = h.0.ending in
       let w = h.0.within in
-      record { behind = h.0.behind; content = c; ending = (let l : line.content_end ≤ line.content_end = omega arith in l); within = (let l : line.content_end ≤ length source = omega (arith, e, w) in l); starts = h.0.starts; stops = h.0.stops; ends = h.0.stops }
+      record { following = h.0.following; content = c; ending = (let l : line.content_end ≤ line.content_end = omega arith in l); within = (let l : line.content_end ≤ length source = omega (arith, e, w) in l); starts = h.0.starts; stops = h.0.stops; ends = h.0.stops }
   line-part from line (next ∷ others) h =
       let c = h.0.content in
       let e = h.0.ending in
-      record { behind = h.0.behind; content = (let l : line.start ≤ line.line_end = omega (arith, c, e) in l); ending = (let l : line.line_end ≤ line.line_end = omega arith in l); within = h.0.within; starts = h.0.starts; stops = h.0.ends; ends = h.0.ends }
+      record { following = h.0.following; content = (let l : line.start ≤ line.line_end = omega (arith, c, e) in l); ending = (let l : line.line_end ≤ line.line_end = omega arith in l); within = h.0.within; starts = h.0.starts; stops = h.0.ends; ends = h.0.ends }
 
-  pub lines-behind : (from : ℕ) (line : LeafLine) (others : List LeafLine) → AreLines source from (line ∷ others) → AreLines source (end_in_leaf line others) others
-  lines-behind from line [] h = tt
-  lines-behind from line (next ∷ others) h = h.1
+  pub lines-following : (from : ℕ) (line : LeafLine) (others : List LeafLine) → AreLines source from (line ∷ others) → AreLines source (end_in_leaf line others) others
+  lines-following from line [] h = tt
+  lines-following from line (next ∷ others) h = h.1
 
   pub leaf-bytes-cons : (line : LeafLine) (others : List LeafLine) → leaf_bytes source (line ∷ others) ≡ slice source line.start (end_in_leaf line others) ++ leaf_bytes source others
   leaf-bytes-cons line [] = sym (append-nil (slice source line.start line.content_end))
@@ -269,7 +269,7 @@ module _ (source : List ℕ) where
           inr (subst (IsCharBoundary source) ((let q : x.end ≡ (x.start + (at - x.at)) + 1 = omega (arith, p, le, l, g, o) in q) ∙ ap (λ k. k + 1) (sym (here at l))) all.0.ends)
 
       go : (first + size_of x ≤ at → at < (first + size_of x) + length (joined source ss) → PlacedByte ss (first + size_of x) at) → (z : Bool) → nat_lt at (x.at + size_of x) ≡ z → PlacedByte (x ∷ ss) first at
-      go behind true e =
+      go following true e =
           let l = ltb-true at (x.at + size_of x) e in
           record {
             byte = get_or_append_left (slice source x.start x.end) (joined source ss) 0 (at - first) (let q : at - first < length (slice source x.start x.end) = omega (arith, m, p, l, le) in q)
@@ -278,9 +278,9 @@ module _ (source : List ℕ) where
             within = subst (λ k. k < length source) (sym (here at l)) (let q : x.start + (at - x.at) < length source = omega (arith, w, l, p, le, o) in q);
             goes_on = next l (nat_lt (at + 1) (x.at + size_of x)) refl;
           }
-      go behind false e =
+      go following false e =
           let g = ltb-false at (x.at + size_of x) e in
-          let r = behind (let q : first + size_of x ≤ at = omega (arith, p, g) in q) (let q : at < (first + size_of x) + length (joined source ss) = omega (arith, lt, n) in q) in
+          let r = following (let q : first + size_of x ≤ at = omega (arith, p, g) in q) (let q : at < (first + size_of x) + length (joined source ss) = omega (arith, lt, n) in q) in
           let same = there at e in
           let same-next = there (at + 1) (not-less (at + 1) (x.at + size_of x) (let q : x.at + size_of x ≤ at + 1 = omega (arith, g) in q)) in
           record {
@@ -309,14 +309,14 @@ module _ (source : List ℕ) where
   place-low first from (x ∷ ss) at all le lt = go (λ l m. place-low (first + size_of x) x.end ss at all.1 l m) (nat_lt at (x.at + size_of x)) refl
     where
       go : (first + size_of x ≤ at → at < (first + size_of x) + length (joined source ss) → x.end ≤ place_in ss at) → (z : Bool) → nat_lt at (x.at + size_of x) ≡ z → from ≤ (if z then x.start + (at - x.at) else place_in ss at)
-      go behind true e = let b = all.0.behind in omega (arith, b)
-      go behind false e =
+      go following true e = let b = all.0.following in omega (arith, b)
+      go following false e =
           let g = ltb-false at (x.at + size_of x) e in
           let p = all.0.place in
-          let b = all.0.behind in
+          let b = all.0.following in
           let o = all.0.ordered in
           let n = size-joined x ss all.0.within in
-          let r = behind (let q : first + size_of x ≤ at = omega (arith, p, g) in q) (let q : at < (first + size_of x) + length (joined source ss) = omega (arith, lt, n) in q) in
+          let r = following (let q : first + size_of x ≤ at = omega (arith, p, g) in q) (let q : at < (first + size_of x) + length (joined source ss) = omega (arith, lt, n) in q) in
           omega (arith, b, o, r)
 
   pub place-order : (first from : ℕ) (ss : List Stretch) (a b : ℕ) → AreStretches source first from ss → first ≤ a → a ≤ b → b < first + length (joined source ss) → place_in ss a ≤ place_in ss b
@@ -330,20 +330,20 @@ module _ (source : List ℕ) where
       n = size-joined x ss all.0.within
 
       go : (first + size_of x ≤ a → b < (first + size_of x) + length (joined source ss) → place_in ss a ≤ place_in ss b) → (y z : Bool) → nat_lt a (x.at + size_of x) ≡ y → nat_lt b (x.at + size_of x) ≡ z → (if y then x.start + (a - x.at) else place_in ss a) ≤ (if z then x.start + (b - x.at) else place_in ss b)
-      go behind true true d e = omega (arith, ab)
-      go behind true false d e =
+      go following true true d e = omega (arith, ab)
+      go following true false d e =
           let l = ltb-true a (x.at + size_of x) d in
           let g = ltb-false b (x.at + size_of x) e in
           let o = all.0.ordered in
           let r = place-low (first + size_of x) x.end ss b all.1 (let q : first + size_of x ≤ b = omega (arith, p, g) in q) (let q : b < (first + size_of x) + length (joined source ss) = omega (arith, lt, n) in q) in
           omega (arith, l, r, o, p, le)
-      go behind false true d e =
+      go following false true d e =
           let g = ltb-false a (x.at + size_of x) d in
           let l = ltb-true b (x.at + size_of x) e in
           absurd (omega (arith, g, l, ab))
-      go behind false false d e =
+      go following false false d e =
           let g = ltb-false a (x.at + size_of x) d in
-          behind (let q : first + size_of x ≤ a = omega (arith, p, g) in q) (let q : b < (first + size_of x) + length (joined source ss) = omega (arith, lt, n) in q)
+          following (let q : first + size_of x ≤ a = omega (arith, p, g) in q) (let q : b < (first + size_of x) + length (joined source ss) = omega (arith, lt, n) in q)
 
   -- a part of the text is a part of the source
   same-edge : (text : List ℕ) (at place : ℕ) → IsCharBoundary text at → at < length text → place < length source → get_or text at 0 ≡ get_or source place 0 → IsCharBoundary source place

@@ -28,7 +28,7 @@ pub record IsRead (leaf : LeafText) : Type 0 where
 pub record IsFirstFrom (leaf : LeafText) (place at : ℕ) : Type 0 where
   pub within : at ≤ length (text_of leaf)
   pub before : (k : ℕ) → k < at → place_of leaf k < place
-  pub behind : (k : ℕ) → at ≤ k → k < length (text_of leaf) → place ≤ place_of leaf k
+  pub following : (k : ℕ) → at ≤ k → k < length (text_of leaf) → place ≤ place_of leaf k
 
 -- the bytes from `from` up to `to`, both at character boundaries
 pub record IsPart (text : List ℕ) (from to : ℕ) : Type 0 where

@@ -7,7 +7,7 @@ use Rattle.cmark_leaf_text.specs.declared.stretch.Stretch.{Stretch}
 
 -- a line is in the source at or after `from`, and has character boundaries at both ends
 pub record IsLine (source : List ℕ) (from : ℕ) (line : LeafLine) : Type 0 where
-  pub behind : from ≤ line.start
+  pub following : from ≤ line.start
   pub content : line.start ≤ line.content_end
   pub ending : line.content_end ≤ line.line_end
   pub within : line.line_end ≤ length source
@@ -36,7 +36,7 @@ size_of stretch = stretch.end - stretch.start
 -- a stretch is in the source at or after `from`, with character boundaries at both ends; `at` bytes of the text are before it
 pub record IsStretch (source : List ℕ) (at from : ℕ) (stretch : Stretch) : Type 0 where
   pub place : stretch.at ≡ at
-  pub behind : from ≤ stretch.start
+  pub following : from ≤ stretch.start
   pub ordered : stretch.start ≤ stretch.end
   pub within : stretch.end ≤ length source
   pub starts : IsCharBoundary source stretch.start
@@ -61,7 +61,7 @@ abbrev pub place_on : List LeafLine → ℕ → ℕ
 place_on [] at = at
 place_on (line ∷ lines) at = if nat_lt at (end_in_leaf line lines - line.start) then line.start + at else place_on lines (at - (end_in_leaf line lines - line.start))
 
--- the bytes of these stretches have the same offsets in the source as the bytes of the lines
+-- the bytes of these stretches have the offsets in the source that the bytes of the lines have
 abbrev pub StandAs : (source : List ℕ) → List LeafLine → List Stretch → Type 0
 StandAs source lines stretches = (k : ℕ) → k < length (joined source stretches) → place_in stretches k ≡ place_on lines k
 

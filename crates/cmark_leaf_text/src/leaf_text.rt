@@ -72,7 +72,7 @@ impl<'a> LeafText<'a> {
         }
     }
 
-    /// The bytes of the text, and the bytes after them in the same memory, so that a search may look at more bytes than the text has. They
+    /// The bytes of the text, and the bytes after them in its memory, so that a search may look at more bytes than the text has. They
     /// are the rest of the source if the text is a part of it, and otherwise the copied text.
     #[inline(always)]
     pub fn ahead(&self) -> &[u8]

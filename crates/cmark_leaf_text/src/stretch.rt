@@ -28,7 +28,7 @@ impl Stretch {
     // The offset in the source of a byte of the text, if the byte is in the stretch.
     pub fn place(self, at: usize) -> usize
         requires before { self.at ≤ at }
-        requires behind { at < self.at + (self.end - self.start) }
+        requires following { at < self.at + (self.end - self.start) }
         ensures { result ≡ self.start + (at - self.at) }
     {
         self.start + (at - self.at)

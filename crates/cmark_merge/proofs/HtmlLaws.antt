@@ -6,18 +6,18 @@ use Rattle.std.specs.Cmp.Lexicographic.{pointwise}
 use Rattle.cmark_grammar.specs.Escapes.{body_text_byte, html_byte}
 use Rattle.cmark_grammar.specs.Event.{Event, Text}
 use Rattle.cmark_grammar.specs.Html.{OpenImage, TableState, Writing, at_line_start, ends_in_line_feed, html, last_piece, moved, moved_all, piece, pieces_from}
-use Rattle.cmark_grammar.specs.Merge.{TextAt, event_of, merge_behind, merge_events, merged_run, text_of_event, texts, unless_empty, IsNoEmptyText, NoEmptyTexts}
+use Rattle.cmark_merge.specs.Merge.{TextAt, event_of, merge_after, merge_events, merged_run, text_of_event, texts, unless_empty, IsNoEmptyText, NoEmptyTexts}
 
 -- the last byte of a text is the last byte after its first one, if there are more
-last-behind : (x c : ℕ) (cs : List ℕ) → ends_in_line_feed (x ∷ c ∷ cs) ≡ ends_in_line_feed (c ∷ cs)
-last-behind x c cs =
+last-following : (x c : ℕ) (cs : List ℕ) → ends_in_line_feed (x ∷ c ∷ cs) ≡ ends_in_line_feed (c ∷ cs)
+last-following x c cs =
     let less : length (x ∷ c ∷ cs) - 1 ≡ suc (length (c ∷ cs) - 1) = omega arith in
     ap (λ n. pointwise nat_eq (10 ∷ []) (drop n (x ∷ c ∷ cs))) less
 
 line_feed-append : (a : List ℕ) (c : ℕ) (cs : List ℕ) → ends_in_line_feed (a ++ c ∷ cs) ≡ ends_in_line_feed (c ∷ cs)
 line_feed-append [] c cs = refl
-line_feed-append (x ∷ []) c cs = last-behind x c cs
-line_feed-append (x ∷ y ∷ a) c cs = last-behind x y (a ++ c ∷ cs) ∙ line_feed-append (y ∷ a) c cs
+line_feed-append (x ∷ []) c cs = last-following x c cs
+line_feed-append (x ∷ y ∷ a) c cs = last-following x y (a ++ c ∷ cs) ∙ line_feed-append (y ∷ a) c cs
 
 -- the HTML that is written from a state on
 abbrev html_from : Writing → List Event → List ℕ
@@ -53,10 +53,10 @@ html_from-two w a c cs es =
     ∙ sym (html_from-step w (Text (a ++ c ∷ cs)) es)
 
 -- the events that follow may be replaced by others with the same HTML
-html_from-behind : (w : Writing) (xs ys zs : List Event) → ((v : Writing) → html_from v ys ≡ html_from v zs) → html_from w (xs ++ ys) ≡ html_from w (xs ++ zs)
-html_from-behind w [] ys zs same = same w
-html_from-behind w (x ∷ xs) ys zs same =
-    html_from-step w x (xs ++ ys) ∙ ap (λ rest. piece w x ++ rest) (html_from-behind (moved w x) xs ys zs same) ∙ sym (html_from-step w x (xs ++ zs))
+html_from-following : (w : Writing) (xs ys zs : List Event) → ((v : Writing) → html_from v ys ≡ html_from v zs) → html_from w (xs ++ ys) ≡ html_from w (xs ++ zs)
+html_from-following w [] ys zs same = same w
+html_from-following w (x ∷ xs) ys zs same =
+    html_from-step w x (xs ++ ys) ∙ ap (λ rest. piece w x ++ rest) (html_from-following (moved w x) xs ys zs same) ∙ sym (html_from-step w x (xs ++ zs))
 
 -- the texts of a run are not empty
 abbrev NoneEmpty : List TextAt → Type 0
@@ -86,7 +86,7 @@ none-more [] text h k = (k, tt)
 none-more (t ∷ run) text h k = (h.0, none-more run text h.1 k)
 
 merge-html : (w : Writing) (run : List TextAt) (es : List Event) → NoneEmpty run → NoEmptyTexts es
-    → html_from w (merge_behind text_of_event event_of run es) ≡ html_from w (map event_of run ++ es)
+    → html_from w (merge_after text_of_event event_of run es) ≡ html_from w (map event_of run ++ es)
 merge-html w run [] h k = ap (λ l. html_from w l) (sym (append-nil (merged_run event_of run))) ∙ one-run w run [] h
 merge-html w run (Text text ∷ es) h k =
     let t : TextAt = record { text = text; start = 0; end = 0 } in
@@ -94,7 +94,7 @@ merge-html w run (Text text ∷ es) h k =
     ∙ ap (λ l. html_from w l) (ap (λ l. l ++ es) (map-append event_of run (t ∷ [])) ∙ append_assoc (map event_of run) (Text text ∷ []) es)
 merge-html w run (e ∷ es) h k =
     one-run w run (e ∷ merge_events es) h
-    ∙ html_from-behind w (map event_of run) (e ∷ merge_events es) (e ∷ es)
+    ∙ html_from-following w (map event_of run) (e ∷ merge_events es) (e ∷ es)
     (λ v. html_from-step v e (merge_events es) ∙ ap (λ rest. piece v e ++ rest) (merge-html (moved v e) [] es tt k.1) ∙ sym (html_from-step v e es))
 
 pub html-merged : (es : List Event) → NoEmptyTexts es → html (merge_events es) ≡ html es

@@ -5,9 +5,9 @@ use Rattle.std.proofs.lemmas.List.{map-append, nil_from_length}
 use Rattle.std.proofs.iter.Next.{Yields-more}
 use Rattle.std.specs.declared.ops.Range.{Range}
 use Rattle.std.specs.Iterator.{Yields}
-use Rattle.cmark_grammar.specs.Merge.{TextAt, joined}
-use Rattle.cmark_text_parts.specs.declared.text.CowStr.{CowStr}
-use Rattle.cmark_text_parts.specs.Shown.{IsBoxed}
+use Rattle.cmark_merge.specs.Merge.{TextAt, joined}
+use Rattle.cmark_values.specs.declared.text.CowStr.{CowStr}
+use Rattle.cmark_values.specs.Shown.{IsBoxed}
 use Rattle.cmark_merge.specs.Reading.{Ahead, Reads}
 use Rattle.cmark_merge.specs.Steps.{IsNoText, Joins, MergesRun, ReadsOne, ReadsRun, ReadsText, ReadsTexts}
 use Rattle.cmark_merge.specs.Streams.{RangedItem, text_at, text_item}

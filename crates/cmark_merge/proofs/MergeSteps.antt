@@ -1,37 +1,37 @@
 -- Merging, item by item.
 use Rattle.std.proofs.Common.{◌≡◌, ℕ, List, [], ◌∷◌, ◌++◌, map, Option, Some, None, IfNone, IfSome, option_to_list, refl, sym, ap, ap₂, ◌∙◌, subst, append_assoc, append-nil}
-use Rattle.cmark_grammar.specs.Merge.{TextAt, joined, last_end, merge, merge_behind, merged_run, run_with, texts}
+use Rattle.cmark_merge.specs.Merge.{TextAt, joined, last_end, merge, merge_after, merged_run, run_with, texts}
 
 module _ {A : Type 0} (text_of : A → Option TextAt) (item_of : TextAt → A) where
   -- a text follows a run
-  pub behind-text : (run : List TextAt) (x : A) (xs : List A) (t : TextAt) → text_of x ≡ Some t
-      → merge_behind text_of item_of run (x ∷ xs) ≡ merge_behind text_of item_of (run ++ t ∷ []) xs
-  behind-text run x xs t e = ap (λ o. run_with item_of run o x (λ longer. merge_behind text_of item_of longer xs)) e
+  pub following-text : (run : List TextAt) (x : A) (xs : List A) (t : TextAt) → text_of x ≡ Some t
+      → merge_after text_of item_of run (x ∷ xs) ≡ merge_after text_of item_of (run ++ t ∷ []) xs
+  following-text run x xs t e = ap (λ o. run_with item_of run o x (λ longer. merge_after text_of item_of longer xs)) e
 
   -- another item follows a run
-  pub behind-other : (run : List TextAt) (x : A) (xs : List A) → text_of x ≡ None
-      → merge_behind text_of item_of run (x ∷ xs) ≡ merged_run item_of run ++ x ∷ merge text_of item_of xs
-  behind-other run x xs e = ap (λ o. run_with item_of run o x (λ longer. merge_behind text_of item_of longer xs)) e
+  pub following-other : (run : List TextAt) (x : A) (xs : List A) → text_of x ≡ None
+      → merge_after text_of item_of run (x ∷ xs) ≡ merged_run item_of run ++ x ∷ merge text_of item_of xs
+  following-other run x xs e = ap (λ o. run_with item_of run o x (λ longer. merge_after text_of item_of longer xs)) e
 
   -- an item that is not a text stays before the merged form of the others
   pub merge-other : (x : A) (xs : List A) → text_of x ≡ None → merge text_of item_of (x ∷ xs) ≡ x ∷ merge text_of item_of xs
-  merge-other x xs e = behind-other [] x xs e
+  merge-other x xs e = following-other [] x xs e
 
   -- a run ends before an item that is not a text, or at the end
-  pub behind-end : (run : List TextAt) (behind : Option A) (rest : List A) → IfSome behind (λ x. text_of x ≡ None) → IfNone behind (rest ≡ [])
-      → merge_behind text_of item_of run (option_to_list behind ++ rest) ≡ merged_run item_of run ++ merge text_of item_of (option_to_list behind ++ rest)
-  behind-end run None rest h e =
-      subst (λ l. merge_behind text_of item_of run l ≡ merged_run item_of run ++ merge text_of item_of l) (sym e) (sym (append-nil (merged_run item_of run)))
-  behind-end run (Some x) rest h e = behind-other run x rest h ∙ ap (λ l. merged_run item_of run ++ l) (sym (merge-other x rest h))
+  pub following-end : (run : List TextAt) (following : Option A) (rest : List A) → IfSome following (λ x. text_of x ≡ None) → IfNone following (rest ≡ [])
+      → merge_after text_of item_of run (option_to_list following ++ rest) ≡ merged_run item_of run ++ merge text_of item_of (option_to_list following ++ rest)
+  following-end run None rest h e =
+      subst (λ l. merge_after text_of item_of run l ≡ merged_run item_of run ++ merge text_of item_of l) (sym e) (sym (append-nil (merged_run item_of run)))
+  following-end run (Some x) rest h e = following-other run x rest h ∙ ap (λ l. merged_run item_of run ++ l) (sym (merge-other x rest h))
 
   -- texts after a run
   module _ {T : Type 0} (item : T → A) (at : T → TextAt) (is : (t : T) → text_of (item t) ≡ Some (at t)) where
-    pub behind-texts : (run : List TextAt) (ts : List T) (xs : List A)
-        → merge_behind text_of item_of run (map item ts ++ xs) ≡ merge_behind text_of item_of (run ++ map at ts) xs
-    behind-texts run [] xs = ap (λ l. merge_behind text_of item_of l xs) (sym (append-nil run))
-    behind-texts run (t ∷ ts) xs =
-        behind-text run (item t) (map item ts ++ xs) (at t) (is t) ∙ behind-texts (run ++ at t ∷ []) ts xs
-        ∙ ap (λ l. merge_behind text_of item_of l xs) (append_assoc run (at t ∷ []) (map at ts))
+    pub following-texts : (run : List TextAt) (ts : List T) (xs : List A)
+        → merge_after text_of item_of run (map item ts ++ xs) ≡ merge_after text_of item_of (run ++ map at ts) xs
+    following-texts run [] xs = ap (λ l. merge_after text_of item_of l xs) (sym (append-nil run))
+    following-texts run (t ∷ ts) xs =
+        following-text run (item t) (map item ts ++ xs) (at t) (is t) ∙ following-texts (run ++ at t ∷ []) ts xs
+        ∙ ap (λ l. merge_after text_of item_of l xs) (append_assoc run (at t ∷ []) (map at ts))
 
 -- one more text
 pub texts-more : (ts : List TextAt) (u : TextAt) → texts (ts ++ u ∷ []) ≡ texts ts ++ u.text

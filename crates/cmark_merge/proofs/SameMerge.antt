@@ -2,7 +2,7 @@
 use Rattle.std.proofs.Common.{◌≡◌, ℕ, List, [], ◌∷◌, ◌++◌, map, map-id, Option, Some, None, option_map, Result, Ok, Err, refl, sym, ap, ap₂, ◌∙◌}
 use Rattle.std.proofs.lemmas.List.{map-append}
 use Rattle.cmark_grammar.specs.Event.{Event, Text, Ranged}
-use Rattle.cmark_grammar.specs.Merge.{TextAt, event_of, joined, last_end, merge, merge_behind, merge_events, merge_ranged, merged_run, ranged_of, run_with, text_between, text_of_event, text_of_ok, text_of_ranged, texts, unless_empty}
+use Rattle.cmark_merge.specs.Merge.{TextAt, event_of, joined, last_end, merge, merge_after, merge_events, merge_ranged, merged_run, ranged_of, run_with, text_between, text_of_event, text_of_ok, text_of_ranged, texts, unless_empty}
 
 unless_empty-map : {A B : Type 0} (f : A → B) (text : List ℕ) (x : A) → map f (unless_empty text x) ≡ unless_empty text (f x)
 unless_empty-map f [] x = refl
@@ -23,20 +23,20 @@ module _ {A B : Type 0} (text_a : A → Option TextAt) (item_a : TextAt → A) (
       unless_empty-map f (joined t (u ∷ us)).text (item_a (joined t (u ∷ us)))
       ∙ ap₂ (λ a b. unless_empty a b) (ap₂ (λ a b. a ++ b) (bytes_same t) (texts_same (u ∷ us))) (item_same (joined t (u ∷ us)) ∙ joined_same t (u ∷ us))
 
-  step_same : (run : List TextAt) (x : A) (xs : List A) → ((longer : List TextAt) → map f (merge_behind text_a item_a longer xs) ≡ merge_behind text_b item_b (map g longer) (map f xs))
-      → (o : Option TextAt) → map f (run_with item_a run o x (λ longer. merge_behind text_a item_a longer xs)) ≡ run_with item_b (map g run) (option_map g o) (f x) (λ longer. merge_behind text_b item_b longer (map f xs))
-  step_same run x xs ih (Some t) = ih (run ++ t ∷ []) ∙ ap (λ l. merge_behind text_b item_b l (map f xs)) (map-append g run (t ∷ []))
+  step_same : (run : List TextAt) (x : A) (xs : List A) → ((longer : List TextAt) → map f (merge_after text_a item_a longer xs) ≡ merge_after text_b item_b (map g longer) (map f xs))
+      → (o : Option TextAt) → map f (run_with item_a run o x (λ longer. merge_after text_a item_a longer xs)) ≡ run_with item_b (map g run) (option_map g o) (f x) (λ longer. merge_after text_b item_b longer (map f xs))
+  step_same run x xs ih (Some t) = ih (run ++ t ∷ []) ∙ ap (λ l. merge_after text_b item_b l (map f xs)) (map-append g run (t ∷ []))
   step_same run x xs ih None =
       map-append f (merged_run item_a run) (x ∷ merge text_a item_a xs) ∙ ap₂ (λ a b. a ++ f x ∷ b) (run_same run) (ih [])
 
-  behind_same : (run : List TextAt) (xs : List A) → map f (merge_behind text_a item_a run xs) ≡ merge_behind text_b item_b (map g run) (map f xs)
-  behind_same run [] = run_same run
-  behind_same run (x ∷ xs) =
-      step_same run x xs (λ longer. behind_same longer xs) (text_a x)
-      ∙ ap (λ o. run_with item_b (map g run) o (f x) (λ longer. merge_behind text_b item_b longer (map f xs))) (sym (text_same x))
+  after_same : (run : List TextAt) (xs : List A) → map f (merge_after text_a item_a run xs) ≡ merge_after text_b item_b (map g run) (map f xs)
+  after_same run [] = run_same run
+  after_same run (x ∷ xs) =
+      step_same run x xs (λ longer. after_same longer xs) (text_a x)
+      ∙ ap (λ o. run_with item_b (map g run) o (f x) (λ longer. merge_after text_b item_b longer (map f xs))) (sym (text_same x))
 
   pub merge_same : (xs : List A) → map f (merge text_a item_a xs) ≡ merge text_b item_b (map f xs)
-  merge_same xs = behind_same [] xs
+  merge_same xs = after_same [] xs
 
 -- a text without its range
 abbrev unplaced : TextAt → TextAt

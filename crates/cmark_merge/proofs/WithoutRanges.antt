@@ -6,7 +6,7 @@ use Rattle.std.specs.declared.ops.Range.{Range}
 use Rattle.std.specs.Iterator.{Yields}
 use Rattle.cmark_grammar.specs.Event as grammar
 use Rattle.cmark_grammar.specs.Event.{Ranged}
-use Rattle.cmark_grammar.specs.Merge.{event_of, merge, ranged_of, text_between, text_of_event, text_of_ok, text_of_ranged}
+use Rattle.cmark_merge.specs.Merge.{event_of, merge, ranged_of, text_between, text_of_event, text_of_ok, text_of_ranged}
 use Rattle.cmark_text.specs.declared.event.Event.{Event}
 use Rattle.cmark_text.specs.Shown.{shown}
 use Rattle.cmark_merge.specs.declared.stream.DummyOffsets.{DummyOffsets}
@@ -147,12 +147,12 @@ module _ {S : Type 0} (steps : S → Option Item → S → Type 0) where
         let ranged = map with_range rest in
         let before : forget (option_to_list old.held ++ (g.read ++ ranged)) ≡ option_to_list (option_map without_range old.held) ++ (forget g.read ++ rest)
         = lists-without old.held (g.read ++ ranged) ∙ ap (λ l. option_to_list (option_map without_range old.held) ++ l) (map-append without_range g.read ranged ∙ ap (λ l. forget g.read ++ l) (forget-with rest)) in
-        let behind : forget (option_to_list new.held ++ ranged) ≡ option_to_list (option_map without_range new.held) ++ rest
+        let following : forget (option_to_list new.held ++ ranged) ≡ option_to_list (option_map without_range new.held) ++ rest
         = lists-without new.held ranged ∙ ap (λ l. option_to_list (option_map without_range new.held) ++ l) (forget-with rest) in
         ap event_merged (sym before) ∙ sym (merged-without (option_to_list old.held ++ (g.read ++ ranged)))
         ∙ ap (map without) (g.gives ranged (λ e. ap (map with_range) (over e)))
         ∙ then-without given (ranged_merged (option_to_list new.held ++ ranged))
-        ∙ ap (then_given (option_map (shown_item shown) (option_map without_range given))) (merged-without (option_to_list new.held ++ ranged) ∙ ap event_merged behind)
+        ∙ ap (then_given (option_map (shown_item shown) (option_map without_range given))) (merged-without (option_to_list new.held ++ ranged) ∙ ap event_merged following)
 
     first-without : Given → GivesFirst steps text_of_event event_of shown IsOwnedText (plain old) (option_map without_range given) (plain new)
     first-without g = record {

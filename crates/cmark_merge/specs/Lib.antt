@@ -1,3 +1,4 @@
+pub mod Merge
 pub mod Merging
 pub mod Reading
 pub mod Steps

@@ -2,7 +2,7 @@
 use Rattle.std.specs.Prelude.{◌≡◌, ◌⊎◌, ◌&&◌, Bool, true, false, List, [], ◌∷◌, ◌++◌, map, is_some, option_map, option_to_list, IfNone, IfSome, MatchBool, Option, Some, None, Result, Ok, Err}
 use Rattle.std.specs.declared.alloc.AllocError.{AllocError}
 use Rattle.std.specs.Iterator.{Yields}
-use Rattle.cmark_grammar.specs.Merge.{TextAt, merge, text_of_ok}
+use Rattle.cmark_merge.specs.Merge.{TextAt, merge, text_of_ok}
 use Rattle.cmark_merge.specs.Reading.{Ahead, Reads}
 
 -- a given item, then the others; after None there are no others
@@ -38,8 +38,8 @@ module _ {Y B : Type 0} (text_of : B → Option TextAt) (shown : Y → B) where
   AreTexts [] = Unit {0}
   AreTexts (x ∷ xs) = (is_text x ≡ true) × AreTexts xs
 
-  -- the value that is given for the items that were read: the first item as it is, unless two texts begin the list; two texts or more
-  -- become one owned text, and if that would be empty, the item after them is given as it is
+  -- the value that is given for the items that were read: the first item as it is, unless two texts begin the list. Two texts or more
+  -- become one owned text. If that would be empty, the item after them is given as it is
   abbrev pub HandsOn : (Y → Type 0) → List (Result Y AllocError) → Result Y AllocError → Type 0
   HandsOn IsOwned [] item = ⊥
   HandsOn IsOwned (x ∷ []) item = item ≡ x

@@ -3,10 +3,10 @@ use Rattle.std.specs.Prelude.{◌≡◌, ◌⊎◌, ◌≢◌, ℕ, true, false,
 use Rattle.std.specs.declared.alloc.AllocError.{AllocError}
 use Rattle.std.specs.declared.ops.Range.{Range}
 use Rattle.std.specs.Iterator.{Yields}
-use Rattle.cmark_grammar.specs.Merge.{TextAt, joined, text_of_ranged}
+use Rattle.cmark_merge.specs.Merge.{TextAt, joined, text_of_ranged}
 use Rattle.cmark_text.specs.declared.event.Event.TheVariants.{Text}
-use Rattle.cmark_text_parts.specs.declared.text.CowStr.{CowStr}
-use Rattle.cmark_text_parts.specs.Shown.{IsBoxed}
+use Rattle.cmark_values.specs.declared.text.CowStr.{CowStr}
+use Rattle.cmark_values.specs.Shown.{IsBoxed}
 use Rattle.cmark_merge.specs.Merging.{is_text}
 use Rattle.cmark_merge.specs.Reading.{Ahead, Reads}
 use Rattle.cmark_merge.specs.Streams.{RangedItem, shown_ranged, text_at, text_item}
@@ -17,9 +17,9 @@ IsNoText x = is_text text_of_ranged shown_ranged x ≡ false
 
 -- for joined texts one owned text is given; if that would be empty, the item after them is given
 abbrev pub GivesJoined : TextAt → Option RangedItem → Option RangedItem → Option RangedItem → Type 0
-GivesJoined all behind given held =
-    ((t : CowStr × Range ℕ) × (given ≡ Some (text_item t)) × IsBoxed t.0 × (text_at t ≡ all) × (all.text ≢ []) × (held ≡ behind))
-    ⊎ ((all.text ≡ []) × (given ≡ behind) × (held ≡ None))
+GivesJoined all following given held =
+    ((t : CowStr × Range ℕ) × (given ≡ Some (text_item t)) × IsBoxed t.0 × (text_at t ≡ all) × (all.text ≢ []) × (held ≡ following))
+    ⊎ ((all.text ≡ []) × (given ≡ following) × (held ≡ None))
 
 module _ {S : Type 0} (steps : S → Option RangedItem → S → Type 0) where
   -- the next item of the iterator
@@ -46,11 +46,11 @@ module _ {S : Type 0} (steps : S → Option RangedItem → S → Type 0) where
     pub yields : Yields steps old.iter (map text_item texts) new.iter
 
   -- texts, and the item after them, which is not a text, or None
-  pub record ReadsRun (old : Ahead S RangedItem) (behind : Option RangedItem) (new : Ahead S RangedItem) : Type 0 where
+  pub record ReadsRun (old : Ahead S RangedItem) (following : Option RangedItem) (new : Ahead S RangedItem) : Type 0 where
     pub texts : List (CowStr × Range ℕ)
-    pub reads : Reads steps old (map text_item texts ++ option_to_list behind) new
-    pub no_text : IfSome behind IsNoText
-    pub ends : IfNone behind (new.is_over ≡ true)
+    pub reads : Reads steps old (map text_item texts ++ option_to_list following) new
+    pub no_text : IfSome following IsNoText
+    pub ends : IfNone following (new.is_over ≡ true)
 
   -- two texts and the texts that were read after them, as one
   pub record Joins (old : Ahead S RangedItem) (first second : CowStr × Range ℕ) (all : TextAt) (new : Ahead S RangedItem) : Type 0 where
@@ -58,9 +58,9 @@ module _ {S : Type 0} (steps : S → Option RangedItem → S → Type 0) where
     pub are : all ≡ joined (text_at first) (text_at second ∷ map text_at run.texts)
 
   pub record MergesRun (old : Ahead S RangedItem) (first second : CowStr × Range ℕ) (given : Option RangedItem) (new : Ahead S RangedItem) : Type 0 where
-    pub behind : Option RangedItem
-    pub run : ReadsRun old behind new
-    pub gives : GivesJoined (joined (text_at first) (text_at second ∷ map text_at run.texts)) behind given new.held
+    pub following : Option RangedItem
+    pub run : ReadsRun old following new
+    pub gives : GivesJoined (joined (text_at first) (text_at second ∷ map text_at run.texts)) following given new.held
 
   pub record RefusesRun (old : Ahead S RangedItem) (given : Option RangedItem) (new : Ahead S RangedItem) : Type 0 where
     pub error : AllocError

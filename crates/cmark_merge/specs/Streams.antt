@@ -3,12 +3,12 @@ use Rattle.std.specs.Prelude.{◌≡◌, ◌⊎◌, ℕ, false, Bool, List, [], 
 use Rattle.std.specs.declared.alloc.AllocError.{AllocError}
 use Rattle.std.specs.declared.ops.Range.{Range}
 use Rattle.cmark_grammar.specs.Event as grammar
-use Rattle.cmark_grammar.specs.Merge.{TextAt, event_of, ranged_of, text_of_event, text_of_ranged}
+use Rattle.cmark_merge.specs.Merge.{TextAt, event_of, ranged_of, text_of_event, text_of_ranged}
 use Rattle.cmark_text.specs.declared.event.Event.{Event}
 use Rattle.cmark_text.specs.declared.event.Event.TheVariants.{Text}
-use Rattle.cmark_text_parts.specs.declared.text.CowStr.{CowStr}
+use Rattle.cmark_values.specs.declared.text.CowStr.{CowStr}
 use Rattle.cmark_text.specs.Shown.{shown}
-use Rattle.cmark_text_parts.specs.Shown.{IsBoxed, text_bytes}
+use Rattle.cmark_values.specs.Shown.{IsBoxed, text_bytes}
 use Rattle.cmark_merge.specs.declared.offset.TextMergeWithOffset.{TextMergeWithOffset}
 use Rattle.cmark_merge.specs.declared.stream.DummyOffsets.{DummyOffsets}
 use Rattle.cmark_merge.specs.declared.stream.TextMergeStream.{TextMergeStream}

@@ -2,7 +2,7 @@
 
 ghost use Rattle.std.specs.Prelude.{◌≡◌, ◌<◌, ◌≤◌, ◌++◌, false, IfErr, IfOk, None, OnErr, OnOk, OnSome, string_bytes};
 ghost use Rattle.std.specs.Iterator.{size};
-ghost use Rattle.cmark_text_parts.specs.Shown.{text_bytes};
+ghost use Rattle.cmark_values.specs.Shown.{text_bytes};
 ghost use Rattle.cmark_merge.specs.Reading.{CanGo, items_left};
 ghost use Rattle.cmark_merge.specs.Steps.{IsNoText, Joins, Merges, ReadsOne, ReadsText, ReadsTexts, Takes};
 ghost use Rattle.cmark_merge.specs.Streams.{GivesRanged, ranged_ahead, string_at, text_item};
@@ -83,11 +83,14 @@ where
     /// The next item of the iterator. After its `None` the iterator is not called again.
     fn read(&mut self) -> Option<Result<(Event<'a>, Range<usize>), AllocError>>
         requires { CanGo I.can_next I.remaining (ranged_ahead self.old) }
-        ensures reads { ReadsOne I.next_gives (ranged_ahead self.old) result (ranged_ahead self.new) }
+        ensures reads { ReadsOne I.next_gives
+            (ranged_ahead self.old) result (ranged_ahead self.new) }
         ensures held { (ranged_ahead self.new).held ≡ (ranged_ahead self.old).held }
         ensures goes { CanGo I.can_next I.remaining (ranged_ahead self.new) }
-        ensures fewer { OnSome result (size (items_left I.remaining (ranged_ahead self.new)) < size (items_left I.remaining (ranged_ahead self.old))) }
-        ensures no_more { size (items_left I.remaining (ranged_ahead self.new)) ≤ size (items_left I.remaining (ranged_ahead self.old)) }
+        ensures fewer { OnSome result (size (items_left I.remaining (ranged_ahead self.new))
+            < size (items_left I.remaining (ranged_ahead self.old))) }
+        ensures no_more { size (items_left I.remaining (ranged_ahead self.new))
+            ≤ size (items_left I.remaining (ranged_ahead self.old)) }
     {
         if self.is_over {
             return None;
@@ -106,8 +109,10 @@ where
         requires { CanGo I.can_next I.remaining (ranged_ahead self.old) }
         ensures takes { Takes I.next_gives (ranged_ahead self.old) result (ranged_ahead self.new) }
         ensures goes { CanGo I.can_next I.remaining (ranged_ahead self.new) }
-        ensures fewer { OnSome result (size (items_left I.remaining (ranged_ahead self.new)) < size (items_left I.remaining (ranged_ahead self.old))) }
-        ensures no_more { size (items_left I.remaining (ranged_ahead self.new)) ≤ size (items_left I.remaining (ranged_ahead self.old)) }
+        ensures fewer { OnSome result (size (items_left I.remaining (ranged_ahead self.new))
+            < size (items_left I.remaining (ranged_ahead self.old))) }
+        ensures no_more { size (items_left I.remaining (ranged_ahead self.new))
+            ≤ size (items_left I.remaining (ranged_ahead self.old)) }
     {
         match self.held.take() {
             None => self.read(),
@@ -119,10 +124,13 @@ where
     fn read_text(&mut self) -> Option<(CowStr<'a>, Range<usize>)>
         requires goes { CanGo I.can_next I.remaining (ranged_ahead self.old) }
         requires nothing_held { (ranged_ahead self.old).held ≡ None }
-        ensures reads { ReadsText I.next_gives (ranged_ahead self.old) result (ranged_ahead self.new) }
+        ensures reads { ReadsText I.next_gives
+            (ranged_ahead self.old) result (ranged_ahead self.new) }
         ensures goes { CanGo I.can_next I.remaining (ranged_ahead self.new) }
-        ensures fewer { OnSome result (size (items_left I.remaining (ranged_ahead self.new)) < size (items_left I.remaining (ranged_ahead self.old))) }
-        ensures no_more { size (items_left I.remaining (ranged_ahead self.new)) ≤ size (items_left I.remaining (ranged_ahead self.old)) }
+        ensures fewer { OnSome result (size (items_left I.remaining (ranged_ahead self.new))
+            < size (items_left I.remaining (ranged_ahead self.old))) }
+        ensures no_more { size (items_left I.remaining (ranged_ahead self.new))
+            ≤ size (items_left I.remaining (ranged_ahead self.old)) }
     {
         let Some(item) = self.read() else {
             return None;
@@ -146,11 +154,14 @@ where
         requires goes { CanGo I.can_next I.remaining (ranged_ahead self.old) }
         requires nothing_held { (ranged_ahead self.old).held ≡ None }
         requires not_over { (ranged_ahead self.old).is_over ≡ false }
-        ensures joins { IfOk result (λ all. Joins I.next_gives (ranged_ahead self.old) first.entry second.entry (string_at all) (ranged_ahead self.new)) }
-        ensures refused { OnErr result (ReadsTexts I.next_gives (ranged_ahead self.old) (ranged_ahead self.new)) }
+        ensures joins { IfOk result (λ all. Joins I.next_gives (ranged_ahead self.old)
+            first.entry second.entry (string_at all) (ranged_ahead self.new)) }
+        ensures refused { OnErr result
+            (ReadsTexts I.next_gives (ranged_ahead self.old) (ranged_ahead self.new)) }
         ensures refused_holds_nothing { OnErr result ((ranged_ahead self.new).held ≡ None) }
         ensures goes { CanGo I.can_next I.remaining (ranged_ahead self.new) }
-        ensures no_more { size (items_left I.remaining (ranged_ahead self.new)) ≤ size (items_left I.remaining (ranged_ahead self.old)) }
+        ensures no_more { size (items_left I.remaining (ranged_ahead self.new))
+            ≤ size (items_left I.remaining (ranged_ahead self.old)) }
     {
         let mut text = first.0.into_string(self.alloc)?;
         push_text(&mut text, second.0)?;
@@ -171,9 +182,11 @@ where
         requires goes { CanGo I.can_next I.remaining (ranged_ahead self.old) }
         requires nothing_held { (ranged_ahead self.old).held ≡ None }
         requires not_over { (ranged_ahead self.old).is_over ≡ false }
-        ensures merges { Merges I.next_gives (ranged_ahead self.old) first.entry second.entry result (ranged_ahead self.new) }
+        ensures merges { Merges I.next_gives (ranged_ahead self.old)
+            first.entry second.entry result (ranged_ahead self.new) }
         ensures goes { CanGo I.can_next I.remaining (ranged_ahead self.new) }
-        ensures no_more { size (items_left I.remaining (ranged_ahead self.new)) ≤ size (items_left I.remaining (ranged_ahead self.old)) }
+        ensures no_more { size (items_left I.remaining (ranged_ahead self.new))
+            ≤ size (items_left I.remaining (ranged_ahead self.old)) }
     {
         match self.join(first, second) {
             Ok((text, range)) => {

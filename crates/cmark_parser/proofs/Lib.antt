@@ -2,4 +2,5 @@ pub mod ParseSteps
 pub mod RenderSteps
 pub mod SafeSteps
 pub mod TailSteps
+pub mod UndefinedSteps
 pub mod WalkSteps

@@ -1,4 +1,4 @@
--- Steps of a walk.
+-- Steps of a parser.
 use Rattle.std.specs.Prelude.{IfOk, IfSome, OnErr, Option, Result, Err, IsUtf8, is_some, option_map}
 use Rattle.std.specs.declared.alloc.AllocError.{AllocError}
 use Rattle.std.proofs.Common.{◌≡◌, ◌+◌, ◌*◌, ◌<◌, ◌≤◌, ℕ, suc, Bool, true, false, if◌then◌else◌, List, [], ◌∷◌, ◌++◌, length, None, Some, Ok, inl, inr, refl, sym, ap, ◌∙◌, subst, arith}
@@ -8,7 +8,7 @@ use Rattle.cmark_blocks.specs.Footnotes.{HasLabels, unused_if}
 use Rattle.cmark_grammar.specs.Answers.{Lookup}
 use Rattle.cmark_grammar.specs.BlockDocument.{Reference}
 use Rattle.cmark_grammar.specs.BracketDecisions.{or_empty}
-use Rattle.cmark_grammar.specs.Derivation.{document}
+use Rattle.cmark_block_model.specs.DocumentModel.{document}
 use Rattle.cmark_grammar.specs.Event.{Ranged}
 use Rattle.cmark_grammar.specs.Labels.{fold}
 use Rattle.cmark_grammar.specs.Options.{Options}
@@ -45,28 +45,28 @@ use Rattle.cmark_references.specs.declared.link.Link.{Link}
 use Rattle.cmark_references.specs.declared.definitions.LinkDef.{LinkDef}
 use Rattle.cmark_references.specs.declared.definitions.RefDefs.{RefDefs}
 use Rattle.cmark_references.specs.declared.footnotes.FootnoteDef.{FootnoteDef}
-use Rattle.cmark_span_walk.specs.Callback.{AnswersIfAny}
-use Rattle.cmark_span_walk.specs.Walking as walking
-use Rattle.cmark_span_walk.specs.Walking.{ArePlaced}
-use Rattle.cmark_span_walk.specs.declared.callback.OptionalCallback.{OptionalCallback}
-use Rattle.cmark_text_parts.specs.Labelled.{link_key}
-use Rattle.cmark_text_parts.specs.Shown.{text_bytes}
-use Rattle.cmark_text_parts.specs.declared.label.LinkLabel.{LinkLabel}
+use Rattle.cmark_event_walk.specs.Callback.{AnswersIfAny}
+use Rattle.cmark_event_walk.specs.Walking as walking
+use Rattle.cmark_event_walk.specs.Walking.{ArePlaced}
+use Rattle.cmark_event_walk.specs.declared.callback.OptionalCallback.{OptionalCallback}
+use Rattle.cmark_values.specs.Labelled.{link_key}
+use Rattle.cmark_values.specs.Shown.{text_bytes}
+use Rattle.cmark_values.specs.declared.label.LinkLabel.{LinkLabel}
 use Rattle.cmark_text.specs.declared.short.Next.TheVariants as next
 use Rattle.cmark_text.specs.declared.short.Short.{Short}
-use Rattle.cmark_text_parts.specs.declared.text.CowStr.{CowStr}
+use Rattle.cmark_values.specs.declared.text.CowStr.{CowStr}
 use Rattle.cmark_text.specs.declared.ranged.Ranged.{Ranged as Item}
 use Rattle.cmark_text.specs.Ranged.{IsRangedZeroCopy, shown_ranged}
 use Rattle.cmark_parser.specs.declared.parse.Parser.{Parser}
 use Rattle.cmark_parser.specs.Walking.{GoesOn, SomeLeft, reader_by}
-use Rattle.cmark_span_walk.specs.declared.coming.Coming.{Coming}
-use Rattle.cmark_span_walk.specs.declared.coming.Coming.TheVariants as coming
+use Rattle.cmark_event_walk.specs.declared.coming.Coming.{Coming}
+use Rattle.cmark_event_walk.specs.declared.coming.Coming.TheVariants as coming
 use Rattle.cmark_parser.specs.Parsing.{CanGo, IsOver, GivesAs, GivesOrErr, GivesStart, GivesStep, IsCounted, Left, Passes, ReadsWithin, Remains, definitions, footnotes, events_left, is_last, link_to_come, link_unless, lookup_of, options_of, reader_for, text_of}
 
 -- ## Questions
 
 module _ {F : Type 0} (Says : F → BrokenLink → Option (CowStr × CowStr) → F → Type 0) where
-  -- what a callback that may be absent answers
+  -- the answers of a callback that may be absent
   abbrev pub SaysIfAny : OptionalCallback F → BrokenLink → Option (CowStr × CowStr) → OptionalCallback F → Type 0
   SaysIfAny before link answer after = AnswersIfAny Says before.callback link answer after.callback
 
@@ -75,14 +75,14 @@ module _ {F : Type 0} (Says : F → BrokenLink → Option (CowStr × CowStr) →
   asked-of (x ∷ xs) before after h =
       (h.0.callback, record { link = h.1.link; told = h.1.told; question_is = h.1.question_is; answer_is = h.1.answer_is; run = h.1.run }, asked-of xs h.0 after h.2)
 
-  -- where there is no callback, each question is answered by nothing
+  -- without a callback, the answer to each question is None
   pub none-answered : (taken : List Exchange) (after : Option F) → Answered (AnswersIfAny Says) taken None after → AreUnanswered taken
   none-answered [] after h = tt
   none-answered (x ∷ xs) after h = (sym h.1.answer_is ∙ ap (option_map _) h.1.run.0, none-answered xs after (subst (λ (o : Option F). Answered (AnswersIfAny Says) xs o after) h.1.run.1 h.2))
 
--- ## What is read
+-- ## The events that are left
 
-placed-all : (reader : Reader) (others : List Segment) → HaveRanges reader.source others → AreLeavesPlaced reader others → HaveNoPipesBetween reader others → ArePlaced reader others
+pub placed-all : (reader : Reader) (others : List Segment) → HaveRanges reader.source others → AreLeavesPlaced reader others → HaveNoPipesBetween reader others → ArePlaced reader others
 placed-all reader [] h k p = tt
 placed-all reader (GivenOf r ∷ others) h k p = (h.0, placed-all reader others h.1 k p)
 placed-all reader (Content leaf ∷ others) h k p = (record { placed = k.0; pipes = p.0 }, placed-all reader others h k.1 p.1)
@@ -92,7 +92,7 @@ placed-turn reader [] h = tt
 placed-turn reader (GivenOf r ∷ others) h = placed-turn reader others h.1
 placed-turn reader (Content leaf ∷ others) h = (h.0.placed.turn, placed-turn reader others h.1)
 
--- the definitions and the footnotes of the text
+-- the definitions and the footnotes of the text are the same as in the grammar
 title-same : (title : Option CowStr) → or_empty (option_map text_bytes title) ≡ title_or_none title
 title-same None = refl
 title-same (Some text) = refl
@@ -109,14 +109,19 @@ label-same known true e = sym (ap is_some e)
 label-same known false e = sym (ap is_some e)
 
 module _ {E F : Type 0} (replacement : E → Lookup) where
-  -- a reader of the same text, with the same options and entities
-  reader-same : (old new : Parser E F) → walking.ReadsSame replacement (reader_for replacement old) new.spans → reader_for replacement old ≡ reader_for replacement new
-  reader-same old new s =
-      ap (λ t. reader_by t (options_of old) (lookup_of replacement old)) s.source
-      ∙ ap (λ o. reader_by (text_of new) o (lookup_of replacement old)) s.options_are
-      ∙ ap (reader_by (text_of new) (options_of new)) s.lookup_is
+  -- the reader stays the same if the text, the options, the entities, the definitions and the labels of the footnotes do
+  reader-same : (old new : Parser E F) → definitions new ≡ definitions old → SameFootnotes (footnotes old) (footnotes new) → walking.ReadsSame replacement (reader_for replacement old) new.spans
+      → reader_for replacement old ≡ reader_for replacement new
+  reader-same old new same known s = λ i. record {
+    source = s.source i;
+    options = s.options_are i;
+    lookup = s.lookup_is i;
+    definition = λ folded. reference_at (sym same i) folded;
+    has_footnote = λ folded. sym (known folded) i;
+    has_callback = true;
+  }
 
-  -- the walk of a parser that is not over
+  -- if a parser is not over, its walk is read by its reader
   pub read-by : (parser : Parser E F) → parser.is_over ≡ false → CanGo replacement parser → walking.IsReadBy replacement (reader_for replacement parser) parser.spans
   read-by parser e can = go can.goes
     where
@@ -134,13 +139,14 @@ module _ {E F : Type 0} (replacement : E → Lookup) where
       let events = walking.spans_to_come parser.spans.in_leaf parser.spans ++ l.1 in
       (l.0, events, l.2, subst (λ b. Left replacement b parser l.0 events) (sym e) (record { read_by = r; later = l.1; reads = l.3; are = refl }))
 
-  goes : (old new : Parser E F) → new.is_over ≡ false → walking.IsReadBy replacement (reader_for replacement old) new.spans → GoesOn (Remains replacement) IsOver new
-  goes old new e r = inr (some-left new e (subst (λ reader. walking.IsReadBy replacement reader new.spans) (reader-same old new r.same) r))
+  goes : (old new : Parser E F) → new.is_over ≡ false → definitions new ≡ definitions old → SameFootnotes (footnotes old) (footnotes new) → walking.IsReadBy replacement (reader_for replacement old) new.spans
+      → GoesOn (Remains replacement) IsOver new
+  goes old new e same known r = inr (some-left new e (subst (λ reader. walking.IsReadBy replacement reader new.spans) (reader-same old new same known r.same) r))
 
 left-of : {E F : Type 0} → (parser : Parser E F) → parser.is_over ≡ false → events_left parser ≡ suc (walking.events_left parser.spans)
 left-of parser e = ap (λ b. if b then 0 else suc (walking.events_left parser.spans)) e
 
--- the start of a link comes next only where the walk is not over
+-- a link is next only if the parser is not over
 pub link-going : {E F : Type 0} → (parser : Parser E F) → is_some (link_to_come parser) ≡ true → parser.is_over ≡ false
 link-going parser h = go parser.is_over refl
   where
@@ -155,27 +161,28 @@ module _ {E F : Type 0} (Says : F → BrokenLink → Option (CowStr × CowStr) �
   abbrev WalkPasses : (front : List Ranged) → (old new : Parser E F) → Type 0
   WalkPasses front old new = walking.Passes (SaysIfAny Says) replacement (reader_for replacement old) front old.spans new.spans
 
-  -- what the walk passes over
-  passes-of : (front : List Ranged) (old new : Parser E F) → old.is_over ≡ false → new.is_over ≡ false → WalkPasses front old new → Passes Says replacement front old new
-  passes-of front old new e n p = record {
+  -- the parser passes the events that its walk passes
+  passes-of : (front : List Ranged) (old new : Parser E F) → old.is_over ≡ false → new.is_over ≡ false → definitions new ≡ definitions old → SameFootnotes (footnotes old) (footnotes new)
+      → WalkPasses front old new → Passes Says replacement front old new
+  passes-of front old new e n same known p = record {
     taken = p.taken;
     asks = asked-of Says p.taken old.spans.callback new.spans.callback p.answered;
     back = λ rest events m.
         subst (λ b. Left replacement b old (p.taken ++ rest) (front ++ events)) (sym e)
         (p.back rest events
-        (subst (λ reader. walking.Remains replacement reader new.spans rest events) (sym (reader-same replacement old new p.read_by.same)) (subst (λ b. Left replacement b new rest events) n m)));
+        (subst (λ reader. walking.Remains replacement reader new.spans rest events) (sym (reader-same replacement old new same known p.read_by.same)) (subst (λ b. Left replacement b new rest events) n m)));
   }
 
-  -- an event is given, and the others are left
+  -- an event is returned, and the others are left
   pub gives-some : (old new : Parser E F) (item : Item) → old.is_over ≡ false → new.is_over ≡ false → walking.Gives (SaysIfAny Says) replacement (reader_for replacement old) old.spans (Some item) new.spans
       → IsRangedZeroCopy (text_of old) item → walking.events_left new.spans < walking.events_left old.spans → text_of new ≡ text_of old → definitions new ≡ definitions old → SameFootnotes (footnotes old) (footnotes new) → IsCounted new → GivesStep Says replacement old (Some (Ok item)) new
   gives-some old new item e n gives lent less text same known counted =
-      let p = passes-of (shown_ranged item ∷ []) old new e n gives.1 in
+      let p = passes-of (shown_ranged item ∷ []) old new e n same known gives.1 in
       record {
         next = record {
           taken = p.taken;
           first = (p.asks, (shown_ranged item, record { is = refl; range = gives.0; lent = lent }, p.back));
-          goes_on = goes replacement old new n gives.1.read_by;
+          goes_on = goes replacement old new n same known gives.1.read_by;
           over = λ over. absurd (let q : true ≡ false = sym over ∙ e in cc);
         };
         text = text;
@@ -202,7 +209,7 @@ module _ {E F : Type 0} (Says : F → BrokenLink → Option (CowStr × CowStr) �
     fewer = tt;
   }
 
-  -- behind the end
+  -- after the end
   pub gives-nothing : (parser : Parser E F) → parser.is_over ≡ true → IsCounted parser → GivesStep Says replacement parser None parser
   gives-nothing parser e counted = record {
     next = record { taken = []; first = (refl, subst (λ b. Left replacement b parser [] []) (sym e) (refl, refl), e); goes_on = inl e; over = λ over. (refl, refl, e) };
@@ -213,7 +220,7 @@ module _ {E F : Type 0} (Says : F → BrokenLink → Option (CowStr × CowStr) �
     fewer = tt;
   }
 
-  -- nothing is given any more
+  -- after the end, the short result is Over
   pub gives-over : (parser : Parser E F) → parser.is_over ≡ true → IsCounted parser → GivesAs Says replacement parser next.Over parser
   gives-over parser e counted = record {
     answers = record { taken = []; asks = refl; none = subst (λ b. Left replacement b parser [] []) (sym e) (refl, refl); over = e };
@@ -247,7 +254,7 @@ module _ {E F : Type 0} (Says : F → BrokenLink → Option (CowStr × CowStr) �
         omega (arith, a, b);
   }
 
-  -- what the walk gives is handed on
+  -- the parser returns the results of its walk
   module _ (old new : Parser E F) (e : old.is_over ≡ false) (text : text_of new ≡ text_of old) (same : definitions new ≡ definitions old) (known : SameFootnotes (footnotes old) (footnotes new)) (counted : IsCounted new) where
     gives-short : (short : Short) (start end : ℕ) → new.is_over ≡ false → walking.GivesShort (SaysIfAny Says) replacement (reader_for replacement old) old.spans short start end new.spans → walking.events_left new.spans < walking.events_left old.spans → GivesAs Says replacement old (next.Short short start end) new
     gives-short short start end n h less = record {
@@ -256,24 +263,24 @@ module _ {E F : Type 0} (Says : F → BrokenLink → Option (CowStr × CowStr) �
         is = h.is;
         range = h.range;
         lent = h.lent;
-        passes = passes-of (h.given ∷ []) old new e n h.passes;
+        passes = passes-of (h.given ∷ []) old new e n same known h.passes;
         fewer = let a = left-of old e in let b = left-of new n in omega (arith, a, b, less);
       };
-      can = record { goes = goes replacement old new n h.passes.read_by; counted = counted };
+      can = record { goes = goes replacement old new n same known h.passes.read_by; counted = counted };
       text = text;
       definitions = same;
       footnotes = known;
     }
 
-    -- the start of a link
+    -- the start of a link is passed
     gives-start : (link : Linked) → new.is_over ≡ false → walking.GivesStart (SaysIfAny Says) replacement (reader_for replacement old) old.spans link new.spans → walking.events_left new.spans < walking.events_left old.spans → GivesStart Says replacement old link new
     gives-start link n h less = record {
       given = h.given;
       is = h.is;
       range = h.range;
-      passes = passes-of (h.given ∷ []) old new e n h.passes;
+      passes = passes-of (h.given ∷ []) old new e n same known h.passes;
       fewer = let a = left-of old e in let b = left-of new n in omega (arith, a, b, less);
-      can = record { goes = goes replacement old new n h.passes.read_by; counted = counted };
+      can = record { goes = goes replacement old new n same known h.passes.read_by; counted = counted };
       text = text;
       definitions = same;
       footnotes = known;
@@ -296,10 +303,10 @@ module _ {E F : Type 0} (Says : F → BrokenLink → Option (CowStr × CowStr) �
     gives-coming (coming.Block short start end) n h less = gives-short short start end n h less
     gives-coming coming.Long n h most = record {
       answers = record {
-        passes = passes-of [] old new e n h;
+        passes = passes-of [] old new e n same known h;
         most = let a = left-of old e in let b = left-of new n in omega (arith, a, b, most);
       };
-      can = record { goes = goes replacement old new n h.read_by; counted = counted };
+      can = record { goes = goes replacement old new n same known h.read_by; counted = counted };
       text = text;
       definitions = same;
       footnotes = known;
@@ -332,14 +339,14 @@ module _ {E F : Type 0} (replacement : E → Lookup) (parser : Parser E F) (text
   abbrev pub reader : Reader
   reader = reader_by text options lookup
 
-  -- each event of the blocks and each leaf has its place
+  -- the events of the blocks and the leaves have their places
   pub begin-placed : IsUtf8 text → ArePlaced reader left
   begin-placed utf8 =
       let d = document text options lookup in
       let derives = derived text options lookup in
       placed-all reader left (derived-ranges text options lookup d utf8 derives) (derived-placed reader options lookup d derives) (derived-no-pipes reader options lookup d derives)
 
-  -- the reader is that of the parser
+  -- the reader has the data of the parser
   pub begin-same : text_of parser ≡ text → options_of parser ≡ options → lookup_of replacement parser ≡ lookup
       → ((folded : List ℕ) → reference_at (definitions parser) folded ≡ first_with fold folded (references (document text options lookup)))
       → HasLabels (footnote_labels (document text options lookup)) (footnotes parser) → walking.ReadsSame replacement reader parser.spans
@@ -352,9 +359,17 @@ module _ {E F : Type 0} (replacement : E → Lookup) (parser : Parser E F) (text
     callback = refl;
   }
 
-  pub begin-reader : text_of parser ≡ text → options_of parser ≡ options → lookup_of replacement parser ≡ lookup → reader ≡ reader_for replacement parser
-  begin-reader text_is options_is lookup_is =
-      ap (λ t. reader_by t options lookup) (sym text_is) ∙ ap (λ o. reader_by (text_of parser) o lookup) (sym options_is) ∙ ap (reader_by (text_of parser) (options_of parser)) (sym lookup_is)
+  pub begin-reader : text_of parser ≡ text → options_of parser ≡ options → lookup_of replacement parser ≡ lookup
+      → ((folded : List ℕ) → reference_at (definitions parser) folded ≡ first_with fold folded (references (document text options lookup)))
+      → HasLabels (footnote_labels (document text options lookup)) (footnotes parser) → reader ≡ reader_for replacement parser
+  begin-reader text_is options_is lookup_is known labels = λ i. record {
+    source = sym text_is i;
+    options = sym options_is i;
+    lookup = sym lookup_is i;
+    definition = λ folded. sym (known folded) i;
+    has_footnote = λ folded. label-same (footnote (footnotes parser) folded) (has_label folded (footnote_labels (document text options lookup))) (labels folded) i;
+    has_callback = true;
+  }
 
   pub reads-from : (limit : ℕ) → parser.is_over ≡ false → reader ≡ reader_for replacement parser → walking.expansion_left_of parser.spans ≡ limit → ArePlaced reader left
       → ((exchanges : List Exchange) (events : List Ranged) → documents.Left reader left (walking.expansion_left_of parser.spans) exchanges events → walking.Remains replacement reader parser.spans exchanges events)
@@ -369,18 +384,18 @@ module _ {E F : Type 0} (replacement : E → Lookup) (parser : Parser E F) (text
         record { document = document text options lookup; after = h.after; derives = derived text options lookup; reads = h.reads; asked = h.asked };
   }
 
-  -- at its start a parser can go
+  -- at the start of a parser a call may be made
   pub can-begin : (limit : ℕ) → ReadsWithin replacement limit text options lookup parser → IsCounted parser → CanGo replacement parser
   can-begin limit r counted = record { goes = inr r.some; counted = counted }
 
--- the events and leaves of its document are few
+-- a document has few events and leaves
 pub begin-few : (text : List ℕ) (options : Options) (lookup : Lookup) → length (segments (document text options lookup)) < length text * 786444 + 1
 begin-few text options lookup = let n = segments-bounded text options lookup (document text options lookup) (derived text options lookup) in omega (arith, n)
 
--- and its leaves stand apart
+-- the extents of the leaves do not overlap, so their sum is at most the length of the text
 pub begin-extents : (text : List ℕ) (options : Options) (lookup : Lookup) → extents (segments (document text options lookup)) ≤ length text
 begin-extents text options lookup = derived-extents text options lookup (document text options lookup) (derived text options lookup)
 
--- and nothing was taken yet
+-- no steps were taken yet
 pub begin-counted : (steps : Steps) (text : List ℕ) → total steps ≡ 0 → total steps ≤ 128 * length text
 begin-counted steps text none = omega (arith, none)

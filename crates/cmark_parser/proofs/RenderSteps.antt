@@ -18,28 +18,28 @@ use Rattle.cmark_inline.specs.declared.callback.BrokenLink.{BrokenLink}
 use Rattle.cmark_inline_model.proofs.SilentReadings.{reading-silent}
 use Rattle.cmark_references.specs.Links.{shown_link}
 use Rattle.cmark_references.specs.declared.link.Link.{Link}
-use Rattle.cmark_span_walk.specs.Callback.{AnswersIfAny}
-use Rattle.cmark_span_walk.proofs.Readings.{answered-on}
+use Rattle.cmark_event_walk.specs.Callback.{AnswersIfAny}
+use Rattle.cmark_event_walk.proofs.Readings.{answered-on}
 use Rattle.cmark_text.specs.declared.short.Next.TheVariants as next
 use Rattle.cmark_text.specs.declared.short.PlainTag.{PlainTag}
 use Rattle.cmark_text.specs.declared.short.PlainTag.TheVariants as plain
 use Rattle.cmark_text.specs.declared.short.Short.{Short}
 use Rattle.cmark_text.specs.declared.short.Short.TheVariants as short
-use Rattle.cmark_text_parts.specs.declared.text.CowStr.{CowStr}
+use Rattle.cmark_values.specs.declared.text.CowStr.{CowStr}
 use Rattle.cmark_text.specs.Short.{shown_plain, shown_short}
 use Rattle.cmark_text.specs.Shown.{shown}
-use Rattle.cmark_text_parts.specs.Shown.{shown_link_type, text_bytes}
+use Rattle.cmark_values.specs.Shown.{shown_link_type, text_bytes}
 use Rattle.cmark_text.specs.declared.ranged.Ranged.{Ranged as Item}
 use Rattle.cmark_parser.specs.declared.parse.Parser.{Parser}
 use Rattle.cmark_parser.specs.Parsing.{Asks, CanGo, GivesAs, GivesStart, GivesStep, Passes, ReadsWithin, Remains, callback_of}
 use Rattle.cmark_parser.specs.Rendering.{IsHtmlBy, IsHtmlOfRest, WritesRest, WritesSome, WritesWhole, Written, filtered_of, leads_to, written}
 use Rattle.cmark_parser.proofs.ParseSteps.{none-answered}
 
--- what a filter that keeps each event makes of a reading is the reading
+-- a filter that leaves each event as it is does not change the HTML
 pub as_they_are : (limit : ℕ) (text : List ℕ) (options : Options) (lookup : Lookup) (out : List ℕ) → IsHtmlBy limit (λ event. event) text options lookup out → IsHtmlWithin limit text options lookup out
 as_they_are limit text options lookup out h = record { events = h.events; reading = h.reading; output_is = h.output_is }
 
--- an image that is not there
+-- no image is open
 pub none-shown : (image : Option OpenImage) → is_some image ≡ false → option_map shown_image image ≡ None
 none-shown None e = refl
 none-shown (Some image) e = absurd (true≢false e)
@@ -67,7 +67,7 @@ plain-opens-none plain.Subscript = refl
 plain-opens-none plain.Highlight = refl
 plain-opens-none (plain.MetadataBlock kind) = refl
 
--- so no event that owns nothing opens an image
+-- no event that owns nothing opens an image
 short-opens-none : (short : Short) → opened_image (shown_short short) ≡ None
 short-opens-none (short.Start tag) = plain-opens-none tag
 short-opens-none (short.End tag) = refl
@@ -79,12 +79,12 @@ short-opens-none short.SoftBreak = refl
 short-opens-none short.HardBreak = refl
 short-opens-none short.Rule = refl
 
--- so none is open behind one
+-- no image is open after such an event
 pub none-open : (w next : Writing) (short : Short) → next ≡ moved_outside w (shown_short short) → next.image ≡ None
 none-open w next short is = ap Writing.image is ∙ short-opens-none short
 
 module _ {E F : Type 0} (Says : F → BrokenLink → Option (CowStr × CowStr) → F → Type 0) (replacement : E → Lookup) where
-  -- questions behind others
+  -- some questions, and then some more
   pub asks-on : (old mid new : Parser E F) (xs ys : List Exchange) → Asks Says old xs mid → Asks Says mid ys new → Asks Says old (xs ++ ys) new
   asks-on old mid new xs ys h k = answered-on (AnswersIfAny Says) xs ys (callback_of old) (callback_of mid) (callback_of new) h k
 
@@ -98,7 +98,7 @@ module _ {E F : Type 0} (Says : F → BrokenLink → Option (CowStr × CowStr) �
   }
 
 module _ {E F : Type 0} (Says : F → BrokenLink → Option (CowStr × CowStr) → F → Type 0) (replacement : E → Lookup) (filtered : Event → Event) where
-  -- nothing was given yet
+  -- nothing was returned yet
   pub none-written : (parser : Parser E F) (s : Written) → CanGo replacement parser → WritesSome Says replacement filtered parser s parser s
   none-written parser s can = record { given = []; passes = record { taken = []; asks = refl; back = λ rest events r. r }; bytes = sym (append-nil s.bytes); writing = refl; can = can }
 
@@ -142,7 +142,7 @@ module _ {E F : Type 0} (Says : F → BrokenLink → Option (CowStr × CowStr) �
       let same : shown item.event ≡ f.1.0.event = ap Ranged.event f.1.1.is in
       one-written parser new f.1.0 mid after (record { taken = gives.next.taken; asks = f.0; back = f.1.2 }) (record { goes = gives.next.goes_on; counted = gives.counted }) (bytes ∙ ap (λ e. mid.bytes ++ piece mid.writing (filtered e)) same) (writing ∙ ap (λ e. moved mid.writing (filtered e)) same)
 
-  -- an event that owns nothing, where no image is open, was written as another
+  -- an event that owns nothing was replaced by another, and written while no image is open
   pub short-written : (parser new : Parser E F) (short made : Short) (start end : ℕ) (mid after : Written) → GivesAs Says replacement parser (next.Short short start end) new → shown_short made ≡ filtered (shown_short short) → mid.writing.image ≡ None
       → after.bytes ≡ mid.bytes ++ piece_outside mid.writing (shown_short made) → after.writing ≡ moved_outside mid.writing (shown_short made) → WritesSome Says replacement filtered parser mid new after
   short-written parser new short made start end mid after h made_is outside bytes writing =
@@ -152,7 +152,7 @@ module _ {E F : Type 0} (Says : F → BrokenLink → Option (CowStr × CowStr) �
       (bytes ∙ ap (λ i. mid.bytes ++ piece_in i w (shown_short made)) (sym outside) ∙ ap (λ e. mid.bytes ++ piece w e) same)
       (writing ∙ ap (λ i. moved_in i w (shown_short made)) (sym outside) ∙ ap (moved w) same)
 
-  -- the start of a link, of which the label is not written, with the destination that the filter gives it
+  -- the start of a link was written, with the destination that the filter gives it. Its label is not written
   pub link-written : (parser new : Parser E F) (link : Link) (destination title : List ℕ) (mid after : Written) → GivesStart Says replacement parser (shown_link link) new → mid.writing.image ≡ None
       → filtered (Start (tag.Link (shown_link link))) ≡ Start (tag.Link (leads_to destination (shown_link link))) → title ≡ text_bytes link.title
       → after.bytes ≡ mid.bytes ++ piece_outside mid.writing (Start (tag.Link (linked (shown_link_type link.link_type) destination title))) → after.writing ≡ moved_outside mid.writing (Start (tag.Link (linked (shown_link_type link.link_type) destination title)))
@@ -170,11 +170,11 @@ module _ {E F : Type 0} (Says : F → BrokenLink → Option (CowStr × CowStr) �
         fewer = h.fewer;
       }
 
-  -- an event of another kind was not given yet
+  -- an event of another kind was not returned yet
   pub long-kept : (parser new : Parser E F) (s : Written) → GivesAs Says replacement parser next.Long new → WritesSome Says replacement filtered parser s new s
   long-kept parser new s h = record { given = []; passes = h.answers.passes; bytes = sym (append-nil s.bytes); writing = refl; can = h.can }
 
-  -- behind the last event
+  -- after the last event
   pub all-written : (first parser new : Parser E F) (taken : List Exchange) (old : Written) (out : List ℕ) (s : Written) → WritesSome Says replacement filtered first old parser s → Asks Says parser taken new → Remains replacement parser taken []
       → out ≡ s.bytes ++ last_piece s.writing.image → WritesRest Says replacement filtered first old new (written s.writing out)
   all-written first parser new taken old out s some asks none out_is = record {
@@ -186,7 +186,7 @@ module _ {E F : Type 0} (Says : F → BrokenLink → Option (CowStr × CowStr) �
     writing = some.writing;
   }
 
-  -- by a writer that has written nothing yet
+  -- a writer that has written nothing yet
   pub html-of-rest : (first new : Parser E F) (begun : Writing) (old : List ℕ) (after : Written) → begun ≡ at_line_start → WritesRest Says replacement filtered first (written begun old) new after
       → IsHtmlOfRest Says replacement filtered first new old after.bytes
   html-of-rest first new begun old after begins h = record {
@@ -200,7 +200,7 @@ module _ {E F : Type 0} (Says : F → BrokenLink → Option (CowStr × CowStr) �
         ∙ ap (λ w. old ++ (pieces_from w (filtered_of filtered h.events) ++ last_piece (Writing.image (moved_all w (filtered_of filtered h.events))))) begins;
   }
 
-  -- where the HTML of all events of a parser at its start stands behind nothing, and it has no callback, it is the HTML of the parser's text
+  -- the HTML of all events of a parser at its start, alone and without a callback, is the HTML of the parser's text
   pub rendered : (limit : ℕ) (parser last : Parser E F) (text : List ℕ) (options : Options) (lookup : Lookup) (out : List ℕ) → ReadsWithin replacement limit text options lookup parser → callback_of parser ≡ None
       → IsHtmlOfRest Says replacement filtered parser last [] out → IsHtmlBy limit filtered text options lookup out
   rendered limit parser last text options lookup out reads silent all =

@@ -3,7 +3,7 @@ use Rattle.std.proofs.Common.{◌≡◌, ◌+◌, ◌*◌, ◌<◌, ◌≤◌, �
 use Rattle.std.specs.Prelude.{IsUtf8}
 use Rattle.cmark_block_model.specs.Tails.{document_after}
 use Rattle.cmark_grammar.specs.Answers.{Lookup}
-use Rattle.cmark_grammar.specs.Derivation.{document}
+use Rattle.cmark_block_model.specs.DocumentModel.{document}
 use Rattle.cmark_grammar.specs.Event.{Ranged}
 use Rattle.cmark_grammar.specs.Options.{Options}
 use Rattle.cmark_grammar.specs.Questions.{Exchange}
@@ -12,8 +12,8 @@ use Rattle.cmark_grammar.specs.SpanDocuments.{Content, Given, Segment, segments}
 use Rattle.cmark_grammar.specs.SpanDocuments as documents
 use Rattle.cmark_inline_model.specs.LeafExtents.{extents}
 use Rattle.cmark_inline_model.proofs.PlannedReadings.{left-planned}
-use Rattle.cmark_span_walk.specs.Walking as walking
-use Rattle.cmark_span_walk.specs.Walking.{ArePlaced}
+use Rattle.cmark_event_walk.specs.Walking as walking
+use Rattle.cmark_event_walk.specs.Walking.{ArePlaced}
 use Rattle.cmark_stream_model.specs.Tails.{IsJoinedAt}
 use Rattle.cmark_stream_model.proofs.TailFacts.{tail-segments, tail-few, tail-extents}
 use Rattle.cmark_parser.specs.declared.parse.Parser.{Parser}

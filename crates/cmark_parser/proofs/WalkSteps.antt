@@ -1,4 +1,4 @@
--- A walk to its end gives the reading of a document.
+-- The events of a walk to its end are the reading of a document.
 use Rattle.std.proofs.lemmas.List.{length-append, length-map}
 use Rattle.std.proofs.Common.{◌≡◌, ◌+◌, ◌*◌, ◌≤◌, ℕ, length, arith, true, false, List, [], ◌∷◌, ◌++◌, map, Option, None, Some, Result, Ok, Err, inl, inr, append_assoc, refl, sym, ap, ◌∙◌, subst}
 use Rattle.std.specs.Prelude.{is_some}
@@ -10,18 +10,18 @@ use Rattle.cmark_grammar.specs.BlockDocument.{BlockDocument}
 use Rattle.cmark_grammar.specs.Derivation.{Derives}
 use Rattle.cmark_grammar.specs.Event.{Ranged}
 use Rattle.cmark_grammar.specs.Headline.{profile_within}
-use Rattle.cmark_grammar.specs.LeafSpans.{IsRange}
+use Rattle.cmark_inline_model.specs.LeafSpans.{IsRange}
 use Rattle.cmark_grammar.specs.Options.{Options}
 use Rattle.cmark_grammar.specs.Questions.{Exchange, Plan}
-use Rattle.cmark_grammar.specs.Ranges.{count_tables}
+use Rattle.cmark_block_model.specs.Ranges.{count_tables}
 use Rattle.cmark_grammar.specs.SpanDocuments.{IsReading}
 use Rattle.cmark_inline_model.proofs.EventCounts.{reading-few}
 use Rattle.cmark_inline.specs.Resolved.{Answered}
 use Rattle.cmark_inline.specs.declared.callback.BrokenLink.{BrokenLink}
 use Rattle.cmark_inline_model.proofs.SilentReadings.{reading-silent}
-use Rattle.cmark_span_walk.specs.Callback.{AnswersIfAny}
+use Rattle.cmark_event_walk.specs.Callback.{AnswersIfAny}
 use Rattle.cmark_text.specs.declared.event.Event.{Event}
-use Rattle.cmark_text_parts.specs.declared.text.CowStr.{CowStr}
+use Rattle.cmark_values.specs.declared.text.CowStr.{CowStr}
 use Rattle.cmark_text.specs.Shown.{shown}
 use Rattle.cmark_text.specs.ZeroCopy.{IsZeroCopy}
 use Rattle.cmark_parser.specs.declared.parse.Parser.{Parser}
@@ -34,17 +34,17 @@ use Rattle.cmark_parser.proofs.ParseSteps.{none-answered}
 use Rattle.cmark_parser.proofs.RenderSteps.{asks-on}
 
 module _ {T : Type 0} (Shows : T → Ranged → Type 0) where
-  -- each item shows the event in its place
+  -- each item shows the event at the same position
   abbrev pub EachShows : List T → List Ranged → Type 0
   EachShows [] [] = Unit {0}
   EachShows [] (r ∷ rs) = ⊥
   EachShows (x ∷ xs) [] = ⊥
   EachShows (x ∷ xs) (r ∷ rs) = Shows x r × EachShows xs rs
 
--- a walk over a text, which stays the same
+-- a walk over a text that stays the same
 module _ {S T : Type 0} (Remains : S → List Exchange → List Ranged → Type 0) (IsOver : S → Type 0) (Asks : S → List Exchange → S → Type 0) (Shows : List ℕ → T → Ranged → Type 0) (text_of : S → List ℕ)
     (ask_none : (s : S) → Asks s [] s) (ask_on : (old mid new : S) (xs ys : List Exchange) → Asks old xs mid → Asks mid ys new → Asks old (xs ++ ys) new) where
-  -- these items show events that were left, and these questions were put up to the end
+  -- these items show events that were left, and these questions were asked up to the end
   pub record Left (text : List ℕ) (s : S) (items : List T) (last : S) : Type 0 where
     pub exchanges : List Exchange
     pub events : List Ranged
@@ -56,17 +56,17 @@ module _ {S T : Type 0} (Remains : S → List Exchange → List Ranged → Type 
   abbrev pub GivesOf : List ℕ → S → Option (Result T AllocError) → S → Type 0
   GivesOf text s given t = GivesNext Remains IsOver Asks (Shows text) s given t
 
-  -- nothing was left where a call gave None
+  -- if a call returned None, no event was left
   left_none : (text : List ℕ) (s u : S) → GivesOf text s None u → Left text s [] u
   left_none text s u g = record { exchanges = g.taken; events = []; asks = g.first.0; remains = g.first.1; each = tt }
 
-  -- what was left before a call that gave an item is its event, and what was left behind it
+  -- if a call returned an item, the events that were left were its event and those that are left now
   left_some : (text : List ℕ) (s t u : S) (x : T) (xs : List T) → GivesOf text s (Some (Ok x)) t → Left text t xs u → Left text s (x ∷ xs) u
   left_some text s t u x xs g l =
       let f = g.first.1 in
       record { exchanges = g.taken ++ l.exchanges; events = f.0 ∷ l.events; asks = ask_on s t u g.taken l.exchanges g.first.0 l.asks; remains = f.2 l.exchanges l.events l.remains; each = (f.1, l.each) }
 
-  -- these items show events that were given, up to a state
+  -- these items show events that were returned, up to a state
   pub record Begun (text : List ℕ) (s t : S) (items : List T) : Type 0 where
     pub taken : List Exchange
     pub given : List Ranged
@@ -74,7 +74,7 @@ module _ {S T : Type 0} (Remains : S → List Exchange → List Ranged → Type 
     pub back : (rest : List Exchange) (events : List Ranged) → Remains t rest events → Remains s (taken ++ rest) (given ++ events)
     pub each : EachShows (Shows text) items given
 
-  -- they were given before memory was refused
+  -- these items were returned before memory was refused
   pub record RefusedLeft (text : List ℕ) (s t u : S) (items : List T) : Type 0 where
     pub begun : Begun text s t items
     pub left : (plan : Plan) → SomeLeft Remains plan t
@@ -98,7 +98,7 @@ module _ {S T : Type 0} (Remains : S → List Exchange → List Ranged → Type 
         each = (f.1, b.each);
       }
 
-  -- calls that are such steps
+  -- a relation of calls that implies such steps
   module _ (steps : S → Option (Result T AllocError) → S → Type 0) (step : (s : S) (given : Option (Result T AllocError)) (t : S) → steps s given t → GivesOf (text_of s) s given t)
       (keeps : (s : S) (given : Option (Result T AllocError)) (t : S) → steps s given t → text_of t ≡ text_of s) where
     step_of : (text : List ℕ) (s : S) (given : Option (Result T AllocError)) (t : S) → text_of s ≡ text → steps s given t → GivesOf text s given t
@@ -109,7 +109,7 @@ module _ {S T : Type 0} (Remains : S → List Exchange → List Ranged → Type 
     left_all text s t u (x ∷ xs) is run g =
         left_some text s run.0 u x xs (step_of text s (Some (Ok x)) run.0 is run.1) (left_all text run.0 t u xs (keeps s (Some (Ok x)) run.0 run.1 ∙ is) run.2 g)
 
-    -- what was left where some items were given is what was left behind them, and their events before it
+    -- if some items were returned, the events that were left were their events and those that are left now
     begun_all : (text : List ℕ) (s t : S) (items : List T) → text_of s ≡ text → Yields steps s (map Ok items) t → Begun text s t items
     begun_all text s t [] is same = subst (λ v. Begun text s v []) same (begun_none text s)
     begun_all text s t (x ∷ xs) is run =
@@ -119,7 +119,7 @@ module _ {S T : Type 0} (Remains : S → List Exchange → List Ranged → Type 
     goes_all s t [] goes same = subst (GoesOn Remains IsOver) same goes
     goes_all s t (x ∷ xs) goes run = goes_all run.0 t xs (step s (Some (Ok x)) run.0 run.1).goes_on run.2
 
-    -- before the call that memory was refused to, some events were left, whatever is answered
+    -- before the call that ran out of memory, some events were left, whatever the answers are
     pub refused_left : (s t u : S) (items : List T) (e : AllocError) → GoesOn Remains IsOver s → Yields steps s (map Ok items) t → steps t (Some (Err e)) u → RefusedLeft (text_of s) s t u items
     refused_left s t u items e goes run call =
         let g = step t (Some (Err e)) u call in
@@ -129,7 +129,7 @@ module _ {S T : Type 0} (Remains : S → List Exchange → List Ranged → Type 
         some (inl over) g = absurd (let n = (g.over over).0 in let q : true ≡ false = ap is_some n in cc)
         some (inr left) g = left
 
-    -- behind some items some events are left, whatever is answered: none, where the walk is over
+    -- after some items some events are left, whatever the answers are; none if the walk is over
     pub begun_left : ((s : S) → IsOver s → Remains s [] []) → (s t : S) (items : List T) → GoesOn Remains IsOver s → Yields steps s (map Ok items) t → Begun (text_of s) s t items × ((plan : Plan) → SomeLeft Remains plan t)
     begun_left none s t items goes run = (begun_all (text_of s) s t items refl run, some (goes_all s t items goes run))
       where
@@ -137,7 +137,7 @@ module _ {S T : Type 0} (Remains : S → List Exchange → List Ranged → Type 
         some (inl over) plan = ([], [], tt, none t over)
         some (inr left) plan = left plan
 
-    -- the items that a walk gave to its end show the events that were left
+    -- the items of a walk to its end show the events that were left
     pub drained_left : (s : S) (items : List T) → (d : Drains steps s (map Ok items)) → Left (text_of s) s items d.0
     drained_left s items d = left_all (text_of s) s d.1.0 d.0 items refl d.1.1 d.1.2
 
@@ -179,7 +179,7 @@ module _ {E F : Type 0} (Says : F → BrokenLink → Option (CowStr × CowStr) �
   none_left : (parser : Parser E F) → IsOver parser → Remains replacement parser [] []
   none_left parser over = subst (λ b. LeftOf replacement b parser [] []) (sym over) (refl, refl)
 
-  -- the events that a parser at its start gave so far
+  -- the events that a parser returned since its start are the beginning of a reading
   pub begun_reading : (limit : ℕ) (parser last : Parser E F) (text : List ℕ) (options : Options) (lookup : Lookup) (events : List Event)
       → ReadsWithin replacement limit text options lookup parser → Yields (Gives Says replacement) parser (map Ok events) last → IsBegun Says limit text options lookup parser last events
   begun_reading limit parser last text options lookup events reads run =
@@ -194,7 +194,7 @@ module _ {E F : Type 0} (Says : F → BrokenLink → Option (CowStr × CowStr) �
             record { rest = some.0; events = some.1; planned = some.2; reading = reads.reads (l.0.taken ++ some.0) (l.0.given ++ some.1) (l.0.back some.0 some.1 some.3) };
       }
 
-  -- which are few
+  -- these events are few
   pub begun_few : (limit : ℕ) (parser last : Parser E F) (text : List ℕ) (options : Options) (lookup : Lookup) (document : BlockDocument) (events : List Event)
       → Derives text options lookup document → ReadsWithin replacement limit text options lookup parser → Yields (Gives Says replacement) parser (map Ok events) last → length events ≤ 11 * length text + 524288 * count_tables document
   begun_few limit parser last text options lookup document events derives reads run =
@@ -205,7 +205,7 @@ module _ {E F : Type 0} (Says : F → BrokenLink → Option (CowStr × CowStr) �
       let same : length events ≡ length b.given = sym (length-map events shown) ∙ ap length b.are ∙ length-map b.given (λ (q : Ranged). q.event) in
       omega (arith, few, front, same)
 
-  -- the events that a parser at its start gave before memory was refused
+  -- the events that a parser returned from its start until memory was refused are the beginning of a reading
   pub refused_reading : (limit : ℕ) (parser before last : Parser E F) (text : List ℕ) (options : Options) (lookup : Lookup) (events : List Event) (e : AllocError)
       → ReadsWithin replacement limit text options lookup parser → Yields (Gives Says replacement) parser (map Ok events) before → Gives Says replacement before (Some (Err e)) last → IsCutShort Says limit text options lookup parser last events
   refused_reading limit parser before last text options lookup events e reads run call =
@@ -239,7 +239,7 @@ module _ {E F : Type 0} (Says : F → BrokenLink → Option (CowStr × CowStr) �
         over = l.over;
       }
 
-  -- a reading in which a callback that is not there was asked is the reading without a callback
+  -- if there is no callback, a reading with questions is the reading without a callback
   silent-reading : (limit : ℕ) (text : List ℕ) (options : Options) (lookup : Lookup) (exchanges : List Exchange) (events : List Ranged) (before after : Option F) → before ≡ None → Answered (AnswersIfAny Says) exchanges before after
       → IsReading text (profile_within limit options lookup true) exchanges events → IsReading text (profile_within limit options lookup false) [] events
   silent-reading limit text options lookup exchanges events before after silent asks reading =
@@ -259,7 +259,7 @@ module _ {E F : Type 0} (Says : F → BrokenLink → Option (CowStr × CowStr) �
   ranged-left iter items d =
       drained_left (RemainsRanged replacement) IsRangedOver (AsksRanged Says) ShowsRanged ranged_text (λ s. refl) (λ old mid new. asks-on Says replacement old.parser mid.parser new.parser) (GivesRanged Says replacement) one_item item_keeps iter items d
 
-  -- the same of a walk that gives ranges too
+  -- the same for an iterator with ranges
   pub drained_ranges : (limit : ℕ) (parser : Parser E F) (iter : OffsetIter E F) (text : List ℕ) (options : Options) (lookup : Lookup) (items : List (Event × Range ℕ))
       → walk_of iter ≡ parser → ReadsWithin replacement limit text options lookup parser → (d : Drains (GivesRanged Says replacement) iter (map Ok items))
       → IsDrainedRanged Says limit text options lookup iter d.0 items
@@ -346,7 +346,7 @@ module _ {E F : Type 0} (Says : F → BrokenLink → Option (CowStr × CowStr) �
         over = l.over;
       }
 
-  -- without a callback it is the reading without one
+  -- without a callback, the events are the reading without a callback
   pub drained_silent : (limit : ℕ) (parser : Parser E F) (iter : OffsetIter E F) (text : List ℕ) (options : Options) (lookup : Lookup) (items : List (Event × Range ℕ))
       → walk_of iter ≡ parser → callback_of parser ≡ None → ReadsWithin replacement limit text options lookup parser → Drains (GivesRanged Says replacement) iter (map Ok items)
       → IsReading text (profile_within limit options lookup false) [] (map shown_item items)
@@ -354,7 +354,7 @@ module _ {E F : Type 0} (Says : F → BrokenLink → Option (CowStr × CowStr) �
       let r = drained_ranges limit parser iter text options lookup items same reads drains in
       silent-reading limit text options lookup r.exchanges (map shown_item items) (callback_of (walk_of iter)) (callback_of (walk_of drains.0)) (ap callback_of same ∙ silent) r.asks r.reading
 
-  -- and what it gives is borrowed as the zero-copy law says, and cuts no character
+  -- the events keep the zero-copy law, and their ranges cut no character
   pub drained_lent : (iter : OffsetIter E F) (items : List (Event × Range ℕ)) → Drains (GivesRanged Says replacement) iter (map Ok items) → AreZeroCopy (ranged_text iter) items
   drained_lent iter items drains = let l = ranged-left iter items drains in lent_each (ranged_text iter) items l.events l.each
 

@@ -1,4 +1,4 @@
--- What a writer makes of each event before it is written.
+-- The change that a filter makes to an event.
 use Rattle.cmark_grammar.specs.Event.{Event}
 use Rattle.cmark_safe.specs.SafeEvents.{safe}
 use Rattle.cmark_parser.specs.declared.filter.Filtering.{Filtering}

@@ -1,5 +1,5 @@
--- What a parser still has to give, and the definitions of links and of footnotes that it found.
-use Rattle.std.specs.Prelude.{◌≡◌, ◌<◌, ◌≤◌, ℕ, suc, Bool, true, false, if◌then◌else◌, List, [], ◌∷◌, ◌++◌, OnSome, IfSome, Option, None, Some, Result, Ok, Err}
+-- The events that a parser has left, and the definitions of links and of footnotes that it found.
+use Rattle.std.specs.Prelude.{◌≡◌, ◌<◌, ◌≤◌, ℕ, suc, Bool, true, false, if◌then◌else◌, List, [], ◌∷◌, ◌++◌, OnSome, is_some, IfSome, Option, None, Some, Result, Ok, Err}
 use Rattle.std.specs.Option.{ForSome}
 use Rattle.std.specs.declared.alloc.AllocError.{AllocError}
 use Rattle.std.specs.declared.ops.Range.{Range}
@@ -10,7 +10,7 @@ use Rattle.cmark_grammar.specs.Derivation.{Derives}
 use Rattle.cmark_grammar.specs.Event.{Ranged, Start}
 use Rattle.cmark_grammar.specs.Headline.{usual_limit}
 use Rattle.cmark_grammar.specs.Labels.{fold}
-use Rattle.cmark_grammar.specs.LeafSpans.{IsRange}
+use Rattle.cmark_inline_model.specs.LeafSpans.{IsRange}
 use Rattle.cmark_grammar.specs.Options.{Options}
 use Rattle.cmark_grammar.specs.Questions.{Exchange}
 use Rattle.cmark_grammar.specs.Readers.{Reader}
@@ -23,14 +23,15 @@ use Rattle.cmark_inline.specs.Resolved.{Answered}
 use Rattle.cmark_inline.specs.declared.callback.BrokenLink.{BrokenLink}
 use Rattle.cmark_inline.specs.declared.steps.Steps.{Steps}
 use Rattle.cmark_references.specs.Definitions.{reference_at}
+use Rattle.cmark_references.specs.Footnotes.{footnote}
 use Rattle.cmark_references.specs.Links.{shown_link}
 use Rattle.cmark_references.specs.declared.link.Link.{Link}
 use Rattle.cmark_references.specs.declared.definitions.RefDefs.{RefDefs}
 use Rattle.cmark_references.specs.declared.footnotes.FootnoteDefs.{FootnoteDefs}
-use Rattle.cmark_span_walk.specs.Callback.{AnswersIfAny}
-use Rattle.cmark_span_walk.specs.Walking as walking
-use Rattle.cmark_span_walk.specs.declared.coming.Coming.{Coming}
-use Rattle.cmark_span_walk.specs.declared.coming.Coming.TheVariants as coming
+use Rattle.cmark_event_walk.specs.Callback.{AnswersIfAny}
+use Rattle.cmark_event_walk.specs.Walking as walking
+use Rattle.cmark_event_walk.specs.declared.coming.Coming.{Coming}
+use Rattle.cmark_event_walk.specs.declared.coming.Coming.TheVariants as coming
 use Rattle.cmark_text.specs.declared.event.Event.{Event}
 use Rattle.cmark_text.specs.declared.short.Next.{Next}
 use Rattle.cmark_text.specs.declared.short.Next.TheVariants as next
@@ -38,14 +39,14 @@ use Rattle.cmark_text.specs.declared.short.Short.{Short}
 use Rattle.cmark_text.specs.Short.{IsShortZeroCopy, ranged_short}
 use Rattle.cmark_text.specs.Shown.{shown}
 use Rattle.cmark_text.specs.ZeroCopy.{IsZeroCopy}
-use Rattle.cmark_text_parts.specs.declared.text.CowStr.{CowStr}
+use Rattle.cmark_values.specs.declared.text.CowStr.{CowStr}
 use Rattle.cmark_text.specs.declared.ranged.Ranged.{Ranged as Given}
 use Rattle.cmark_text.specs.Ranged.{shown_ranged}
 use Rattle.cmark_parser.specs.declared.parse.Parser.{Parser}
 use Rattle.cmark_parser.specs.declared.parse.OffsetIter.{OffsetIter}
-use Rattle.cmark_parser.specs.Walking.{GoesOn, GivesNext, ReadsFrom, reader_by}
+use Rattle.cmark_parser.specs.Walking.{GoesOn, GivesNext, ReadsFrom}
 
--- an item is the event, or the event with its range, which cuts no character, and its text is borrowed as the zero-copy law says
+-- an item is the event of `r`. The range of `r` is in the text and cuts no character, and the event keeps the zero-copy law over this range
 pub record Shows (text : List ℕ) (event : Event) (r : Ranged) : Type 0 where
   pub is : shown event ≡ r.event
   pub range : IsRange text r.start r.end
@@ -64,17 +65,17 @@ pub record ShowsRanged (text : List ℕ) (item : Event × Range ℕ) (r : Ranged
   pub range : IsRange text r.start r.end
   pub lent : IsZeroCopy text item.0 r.start r.end
 
--- each of these events is borrowed as the zero-copy law says
+-- each of these events keeps the zero-copy law over its range
 abbrev pub AreZeroCopy : (text : List ℕ) → List (Event × Range ℕ) → Type 0
 AreZeroCopy text [] = Unit {0}
 AreZeroCopy text (item ∷ items) = IsZeroCopy text item.0 item.1.start item.1.end × AreZeroCopy text items
 
--- each of these ranges lies in the text and cuts no character
+-- each of these ranges is in the text and cuts no character
 abbrev pub CutNone : (text : List ℕ) → List (Event × Range ℕ) → Type 0
 CutNone text [] = Unit {0}
 CutNone text (item ∷ items) = IsRange text item.1.start item.1.end × CutNone text items
 
--- nothing is given behind such an answer
+-- nothing is returned after this result
 abbrev pub is_last : Result Coming AllocError → Bool
 is_last (Ok (coming.Span short start end)) = false
 is_last (Ok (coming.Block short start end)) = false
@@ -83,7 +84,7 @@ is_last (Ok coming.Over) = true
 is_last (Err e) = true
 
 module _ {E F : Type 0} where
-  -- how many events are left at most
+  -- an upper bound of the number of events that are left
   abbrev pub events_left : Parser E F → ℕ
   events_left parser = if parser.is_over then 0 else suc (walking.events_left parser.spans)
 
@@ -91,23 +92,23 @@ module _ {E F : Type 0} where
   abbrev pub text_of : Parser E F → List ℕ
   text_of parser = walking.source_of parser.spans
 
-  -- the options that it is parsed with
+  -- the options with which the text is parsed
   abbrev pub options_of : Parser E F → Options
   options_of parser = walking.options_of parser.spans
 
-  -- what is asked for references without a definition, if anything is
+  -- the callback, if there is one, which is asked about references without a definition
   abbrev pub callback_of : Parser E F → Option F
   callback_of parser = parser.spans.callback.callback
 
-  -- the callback may be asked, if there is one
+  -- if there is a callback, it may be asked
   abbrev pub IsReady : (Ready : F → Type 0) → Parser E F → Type 0
   IsReady Ready parser = ForSome (callback_of parser) Ready
 
-  -- what the searches of the spans have taken so far
+  -- how much the searches of the spans have looked at so far
   abbrev pub steps_of : Parser E F → Steps
   steps_of parser = walking.steps_of parser.spans
 
-  -- they have taken no more than 128 steps for each byte of the text
+  -- the searches have taken at most 128 steps for each byte of the text
   abbrev pub IsCounted : Parser E F → Type 0
   IsCounted parser = walking.IsCounted parser.spans
 
@@ -115,15 +116,15 @@ module _ {E F : Type 0} where
   abbrev pub definitions : Parser E F → RefDefs
   definitions parser = walking.definitions_of parser.spans
 
-  -- the footnotes that the spans are read with
+  -- the footnotes with which the spans are read
   abbrev pub footnotes : Parser E F → FootnoteDefs
   footnotes parser = walking.footnotes_of parser.spans
 
-  -- nothing is given any more
+  -- the walk is over: nothing is returned any more
   abbrev pub IsOver : Parser E F → Type 0
   IsOver parser = parser.is_over ≡ true
 
-  -- the link whose start comes next, if one does
+  -- the link whose start is the next event, if the walk is not over and a link is next
   abbrev pub link_unless : (is_over : Bool) → Parser E F → Option Link
   link_unless true parser = None
   link_unless false parser = walking.link_to_come parser.spans
@@ -131,21 +132,22 @@ module _ {E F : Type 0} where
   abbrev pub link_to_come : Parser E F → Option Link
   link_to_come parser = link_unless parser.is_over parser
 
-  -- its table has of each folded label the first definition of this document with that label, as it spells the label (CommonMark 4.7)
+  -- for each folded label, the parser has the first definition of this document with that label, as the definition spells it (CommonMark
+  -- 4.7)
   abbrev pub DefinesAs : BlockDocument → Parser E F → Type 0
   DefinesAs document parser =
       (folded : List ℕ) → reference_at (definitions parser) folded ≡ first_with fold folded (references document)
 
-  -- so it does of each document that the text derives
+  -- the parser has the definitions of each document that the text derives
   abbrev pub Defines : List ℕ → Options → Lookup → Parser E F → Type 0
   Defines text options lookup parser = (document : BlockDocument) → Derives text options lookup document → DefinesAs document parser
 
-  -- its footnotes have exactly the labels of those that each document defines which the text derives, and none was used
+  -- the footnotes of the parser have exactly the labels of the footnotes that each derived document defines, and none is used yet
   abbrev pub DefinesFootnotes : List ℕ → Options → Lookup → Parser E F → Type 0
   DefinesFootnotes text options lookup parser =
       (document : BlockDocument) → Derives text options lookup document → HasLabels (footnote_labels document) (footnotes parser)
 
-  -- the same of a walk that gives ranges
+  -- the parser of an iterator with ranges. The names that follow mean the same for the iterator as for its parser
   abbrev pub walk_of : OffsetIter E F → Parser E F
   walk_of iter = iter.parser
 
@@ -173,17 +175,24 @@ module _ {E F : Type 0} where
   abbrev pub IsRangedOver : OffsetIter E F → Type 0
   IsRangedOver iter = IsOver iter.parser
 
--- `replacement` says what a look-up answers
+-- `replacement` is the look-up that a value of E represents
 module _ {E F : Type 0} (replacement : E → Lookup) where
-  -- what the entity names stand for
+  -- the look-up of entities
   abbrev pub lookup_of : Parser E F → Lookup
   lookup_of parser = replacement parser.spans.entities.now
 
-  -- what the leaves of its text's document are read with
+  -- the grammar's reader for the leaves, with the definitions and the footnotes of the parser
   abbrev pub reader_for : Parser E F → Reader
-  reader_for parser = reader_by (text_of parser) (options_of parser) (lookup_of parser)
+  reader_for parser = record {
+    source = text_of parser;
+    options = options_of parser;
+    lookup = lookup_of parser;
+    definition = λ folded. reference_at (definitions parser) folded;
+    has_footnote = λ folded. is_some (footnote (footnotes parser) folded);
+    has_callback = true;
+  }
 
-  -- these events are left to give, where these further questions are answered so: none, or what remains of the walk
+  -- these events are left if the further questions get these answers: none if the walk is over, and otherwise those that the walk has left
   abbrev pub Left : (is_over : Bool) → Parser E F → List Exchange → List Ranged → Type 0
   Left true parser exchanges events = (exchanges ≡ []) × (events ≡ [])
   Left false parser exchanges events = walking.Remains replacement (reader_for parser) parser.spans exchanges events
@@ -191,12 +200,12 @@ module _ {E F : Type 0} (replacement : E → Lookup) where
   abbrev pub Remains : Parser E F → List Exchange → List Ranged → Type 0
   Remains parser exchanges events = Left parser.is_over parser exchanges events
 
-  -- a call may be made: the walk is over, or some events are left
+  -- a call may be made: the walk is over or some events are left, and the searches have kept to their limit
   pub record CanGo (parser : Parser E F) : Type 0 where
     pub goes : GoesOn Remains IsOver parser
     pub counted : IsCounted parser
 
-  -- the parser is at the start of a walk over a document that the text derives, where references take so many bytes
+  -- the parser is at the start of the reading of a text, with this reference expansion limit
   abbrev pub ReadsWithin : (limit : ℕ) → List ℕ → Options → Lookup → Parser E F → Type 0
   ReadsWithin limit text options lookup parser = ReadsFrom Remains text options lookup limit parser
 
@@ -209,9 +218,10 @@ module _ {E F : Type 0} (replacement : E → Lookup) where
   abbrev pub CanGoRanged : OffsetIter E F → Type 0
   CanGoRanged iter = CanGo iter.parser
 
--- `Says` says what a callback answers
+-- `Says` relates a callback to its answer to a question
 module _ {E F : Type 0} (Says : F → BrokenLink → Option (CowStr × CowStr) → F → Type 0) where
-  -- the callback was asked these questions, one after the other, and answered so; where there is none, each of them is answered by nothing
+  -- the callback was asked these questions, one after the other, and gave these answers. Without a callback, the answer to each question is
+  -- None
   abbrev pub Asks : Parser E F → List Exchange → Parser E F → Type 0
   Asks old taken new = Answered (AnswersIfAny Says) taken (callback_of old) (callback_of new)
 
@@ -219,7 +229,7 @@ module _ {E F : Type 0} (Says : F → BrokenLink → Option (CowStr × CowStr) �
   AsksRanged old taken new = Asks old.parser taken new.parser
 
 module _ {E F : Type 0} (Says : F → BrokenLink → Option (CowStr × CowStr) → F → Type 0) (replacement : E → Lookup) where
-  -- one call: the first event of what was left, of the same text, the same definitions, and footnotes of the same labels
+  -- one call: it returns the first of the events that were left. The text, the definitions and the labels of the footnotes do not change
   pub record Gives (old : Parser E F) (given : Option (Result Event AllocError)) (new : Parser E F) : Type 0 where
     pub next : GivesNext (Remains replacement) IsOver (Asks Says) (Shows (text_of old)) old given new
     pub text : text_of new ≡ text_of old
@@ -235,13 +245,13 @@ module _ {E F : Type 0} (Says : F → BrokenLink → Option (CowStr × CowStr) �
     pub counted : IsCounted new
     pub fewer : OnSome given (events_left new < events_left old)
 
-  -- these events are the first of what was left, and these questions were put on the way
+  -- these events are the first of those that were left, and the questions `taken` were asked on the way
   pub record Passes (front : List Ranged) (old new : Parser E F) : Type 0 where
     pub taken : List Exchange
     pub asks : Asks Says old taken new
     pub back : (rest : List Exchange) (events : List Ranged) → Remains replacement new rest events → Remains replacement old (taken ++ rest) (front ++ events)
 
-  -- the event that such an answer stands for, with this range, is the first of what was left
+  -- the event that this short event represents, with this range, is the first of those that were left
   pub record GivesShort (old : Parser E F) (short : Short) (start end : ℕ) (new : Parser E F) : Type 0 where
     pub given : Ranged
     pub is : given ≡ ranged_short short start end
@@ -250,19 +260,19 @@ module _ {E F : Type 0} (Says : F → BrokenLink → Option (CowStr × CowStr) �
     pub passes : Passes (given ∷ []) old new
     pub fewer : events_left new < events_left old
 
-  -- no event was given, and the same are left
+  -- no event was returned, and all events are still left
   pub record KeepsLeft (old new : Parser E F) : Type 0 where
     pub passes : Passes [] old new
     pub most : events_left new ≤ events_left old
 
-  -- nothing was left, and nothing is given any more
+  -- no event was left, and the walk is over
   pub record Ends (old new : Parser E F) : Type 0 where
     pub taken : List Exchange
     pub asks : Asks Says old taken new
     pub none : Remains replacement old taken []
     pub over : IsOver new
 
-  -- an event that owns nothing is the first of what was left; where it is of another kind, it was not given yet; or nothing was left
+  -- a short event is the first of the events that were left. After Long, all events are still left. After Over, no event was left
   abbrev pub Answers : Parser E F → Next → Parser E F → Type 0
   Answers old (next.Short short start end) new = GivesShort old short start end new
   Answers old next.Long new = KeepsLeft old new
@@ -275,12 +285,12 @@ module _ {E F : Type 0} (Says : F → BrokenLink → Option (CowStr × CowStr) �
     pub definitions : definitions new ≡ definitions old
     pub footnotes : SameFootnotes (footnotes old) (footnotes new)
 
-  -- such an answer is given, or the error item, and nothing any more
+  -- one call returns Short, Long or Over as above, or an error, after which the walk is over
   abbrev pub GivesOrErr : Parser E F → Result Coming AllocError → Parser E F → Type 0
   GivesOrErr old (Ok coming) new = GivesAs old (walking.as_next coming) new
   GivesOrErr old (Err e) new = GivesStep old (Some (Err e)) new
 
-  -- the start of this link, with some range, is the first of what was left
+  -- the start of this link, with some range, is the first of the events that were left
   pub record GivesStart (old : Parser E F) (link : Linked) (new : Parser E F) : Type 0 where
     pub given : Ranged
     pub is : given.event ≡ Start (tag.Link link)
@@ -292,7 +302,7 @@ module _ {E F : Type 0} (Says : F → BrokenLink → Option (CowStr × CowStr) �
     pub definitions : definitions new ≡ definitions old
     pub footnotes : SameFootnotes (footnotes old) (footnotes new)
 
-  -- so it is of the link that comes next, or there is the error item, and nothing any more
+  -- the start of the next link is the first event, or there is an error, after which the walk is over
   abbrev pub GivesStartOrErr : Parser E F → Result (Unit {0}) AllocError → Parser E F → Type 0
   GivesStartOrErr old (Ok done) new = IfSome (link_to_come old) (λ link. GivesStart old (shown_link link) new)
   GivesStartOrErr old (Err e) new = GivesStep old (Some (Err e)) new

@@ -1,4 +1,4 @@
-//! What becomes of events before they are written.
+//! Filters, which change events before they are written.
 
 ghost use Rattle.std.specs.Prelude.{◌≡◌, IfOk};
 ghost use Rattle.cmark_grammar.specs.Event.{Event as Shown, Start};
@@ -12,29 +12,31 @@ use cmark_safe::{is_raw, safe_destination, safe_event, safe_short};
 use cmark_text::{Event, Short};
 use std::alloc::{AllocError, Global};
 
-/// What is written in the place of each event: one event for one.
+/// A filter replaces each event by one event before it is written.
 pub(crate) trait Filter {
     ghost filtered: { Self → Shown → Shown };
 
-    /// The same of an event that owns nothing.
+    /// Returns the replacement of an event that owns nothing.
     fn short_of<'a>(&self, short: Short<'a>) -> Short<'a>
         ensures { shown_short result ≡ filtered self.now (shown_short short.entry) };
 
-    /// The destination of a link that has this one.
+    /// Returns the destination that replaces `destination` in a link.
     fn destination_of<'x>(&self, destination: &'x str) -> &'x str
-        ensures { (link : Linked) → link.destination ≡ destination.entry.now → filtered self.now (Start (Link link)) ≡ Start (Link (leads_to result.now link)) };
+        ensures { (link : Linked) → link.destination ≡ destination.entry.now
+            → filtered self.now (Start (Link link)) ≡ Start (Link (leads_to result.now link)) };
 
-    /// The same of an event of any kind.
+    /// Returns the replacement of an event of any kind.
     fn event_of<'a>(&self, alloc: Global, event: Event<'a>) -> Result<Event<'a>, AllocError>
         ensures { IfOk result (λ made. shown made ≡ filtered self.now (shown event.entry)) };
 }
 
-/// The two filters that a writer may have, as one type: code that two writers share is inlined into none of them.
+/// The two filters that a writer may have: what replaces each event before it is written. They are one type. With two types there would be two writers, and the compiler would inline the code
+/// that they share into neither.
 #[derive(Drop)]
-pub(crate) enum Filtering<'s> {
-    /// Each event as it is.
+pub enum Filtering<'s> {
+    /// Leaves each event as it is.
     AsTheyAre,
-    /// The safe form of each event, with these further schemes.
+    /// Replaces each event by its safe form. The text lists further schemes that addresses may have.
     Safe(&'s str),
 }
 
@@ -43,7 +45,7 @@ impl Filter for Filtering<'_> {
 
     #[inline(always)]
     fn short_of<'a>(&self, short: Short<'a>) -> Short<'a> {
-        // Most events are the same in safe HTML: the filter is asked for none of them.
+        // Most events do not change in safe HTML, so they are returned before the filter is looked at.
         if !is_raw(&short) {
             return short;
         }

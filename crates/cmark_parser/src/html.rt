@@ -3,20 +3,21 @@
 ghost use Rattle.std.specs.Prelude.{◌≡◌, [], IfOk, None, OnOk, string_bytes};
 ghost use Rattle.cmark_grammar.specs.Headline.{IsHtmlOf, IsHtmlWithin, usual_limit};
 ghost use Rattle.cmark_html.specs.Writer.{writing};
-ghost use Rattle.cmark_text_parts.specs.Shown.{shown_options};
+ghost use Rattle.cmark_values.specs.Shown.{shown_options};
+ghost use Rattle.cmark_parser.specs.Filters.{filtered_by};
 ghost use Rattle.cmark_parser.specs.Parsing.{CanGo, IsReady};
 ghost use Rattle.cmark_parser.specs.Rendering.{IsHtmlBy, IsHtmlOfRest, IsSafeHtmlOf, WritesLink, WritesLong, WritesNext, WritesRest, written};
 ghost use Rattle.cmark_safe.specs.SafeHtml.{IsSafe};
 
 use crate::filter::{Filter, Filtering};
 use crate::parse::Parser;
+use cmark_event_walk::Coming;
 use cmark_html::{Writer, finish, write_event, write_link, write_short};
 use cmark_inline::{BrokenLinkCallback, DefaultBrokenLinkCallback};
-use cmark_span_walk::Coming;
 use cmark_text::{EntityLookup, Options};
 use std::alloc::{AllocError, Global};
 
-/// The HTML of a text with these options. `entities` says what the entity names stand for. Fails where memory is refused.
+/// Returns the HTML of a text with these options. `entities` maps entity names to their characters. Fails only if memory is refused.
 ///
 /// ```text
 /// to_html(alloc, "hello world", Options::empty(), &BasicEntities)?.as_str() == "<p>hello world</p>\n"
@@ -27,13 +28,14 @@ pub fn to_html<E: EntityLookup>(
     options: Options,
     entities: &E,
 ) -> Result<String, AllocError>
-    ensures { IfOk result (λ html. IsHtmlOf text.now (shown_options options) (E.replacement entities.now) (string_bytes html)) }
+    ensures { IfOk result (λ html. IsHtmlOf text.now
+        (shown_options options) (E.replacement entities.now) (string_bytes html)) }
 {
     filtered_html(alloc, text, options, entities, &Filtering::AsTheyAre)
 }
 
-/// The HTML of a text within a reference expansion limit of the caller. Once the destinations and titles of references have `limit` bytes, no
-/// definition is looked up.
+/// Returns the HTML of a text, with a reference expansion limit of the caller. Once the destinations and titles of references total `limit`
+/// bytes, no definition is looked up. Fails only if memory is refused.
 ///
 /// ```text
 /// to_html_within(alloc, "[a] [a]\n\n[a]: /u", Options::empty(), &BasicEntities, 1)?.as_str() == "<p><a href=\"/u\">a</a> [a]</p>\n"
@@ -45,17 +47,35 @@ pub fn to_html_within<E: EntityLookup>(
     entities: &E,
     limit: usize,
 ) -> Result<String, AllocError>
-    ensures { IfOk result (λ html. IsHtmlWithin limit text.now (shown_options options) (E.replacement entities.now) (string_bytes html)) }
+    ensures { IfOk result (λ html. IsHtmlWithin limit text.now
+        (shown_options options) (E.replacement entities.now) (string_bytes html)) }
+{
+    to_filtered_html(alloc, text, options, entities, limit, &Filtering::AsTheyAre)
+}
+
+/// Returns the HTML of a text, each event replaced by the filter, with a reference expansion limit of the caller, in bytes. Fails only if
+/// memory is refused.
+pub fn to_filtered_html<E: EntityLookup>(
+    alloc: Global,
+    text: &str,
+    options: Options,
+    entities: &E,
+    limit: usize,
+    filter: &Filtering<'_>,
+) -> Result<String, AllocError>
+    ensures { IfOk result (λ html. IsHtmlBy limit (filtered_by filter.now) text.now
+        (shown_options options) (E.replacement entities.now) (string_bytes html)) }
 {
     let none: Option<DefaultBrokenLinkCallback> = None;
     let mut parser = Parser::new_with_expansion_limit(alloc, text, options, entities, none, limit)?;
     let room = room_of(text);
-    html_of(alloc, room, &mut parser, &Filtering::AsTheyAre)
+    html_of(alloc, room, &mut parser, filter)
 }
 
-/// The safe HTML of a text, for a text of a stranger. Raw HTML is shown as text. A heading has no attribute but its anchor. Anchors and names
-/// of footnotes begin with `user-content-`. Addresses are relative, or begin with `http:`, `https:` or `mailto:`; others are empty.
-/// `further` names further schemes, with white space between them; `javascript`, `vbscript`, `data` and `file` are never taken from it.
+/// Returns the safe HTML of a text, for a text of a stranger. Raw HTML is shown as text. A heading has no attribute but its anchor. Anchors
+/// and names of footnotes begin with `user-content-`. An address is relative, begins with `http:`, `https:` or `mailto:`, or is empty.
+/// `further` lists further schemes, with white space between them; `javascript`, `vbscript`, `data` and `file` are never accepted. Fails
+/// only if memory is refused.
 ///
 /// A link may still lead to a bad place, and an image may tell a server who looks at it.
 ///
@@ -70,12 +90,13 @@ pub fn to_safe_html<E: EntityLookup>(
     further: &str,
 ) -> Result<String, AllocError>
     ensures safe { IfOk result (λ html. IsSafe further.now (string_bytes html)) }
-    ensures html { IfOk result (λ html. IsSafeHtmlOf text.now (shown_options options) (E.replacement entities.now) further.now (string_bytes html)) }
+    ensures html { IfOk result (λ html. IsSafeHtmlOf text.now
+        (shown_options options) (E.replacement entities.now) further.now (string_bytes html)) }
 {
     filtered_html(alloc, text, options, entities, &Filtering::Safe(further))
 }
 
-// The HTML of what a filter makes of the events of a text.
+// Returns the HTML of a text's events, each replaced by the filter.
 fn filtered_html<E: EntityLookup, T: Filter>(
     alloc: Global,
     text: &str,
@@ -83,26 +104,27 @@ fn filtered_html<E: EntityLookup, T: Filter>(
     entities: &E,
     filter: &T,
 ) -> Result<String, AllocError>
-    ensures { IfOk result (λ html. IsHtmlBy (usual_limit text.now) (T.filtered filter.now) text.now (shown_options options) (E.replacement entities.now) (string_bytes html)) }
+    ensures { IfOk result (λ html. IsHtmlBy (usual_limit text.now) (T.filtered filter.now) text.now
+        (shown_options options) (E.replacement entities.now) (string_bytes html)) }
 {
     let mut parser = Parser::new_ext(alloc, text, options, entities)?;
     let room = room_of(text);
-    // The parser is lent, so that it is let go at one place: each way out of a function lets go all that it holds.
+    // The parser is lent, so that it is dropped at one place only: each way out of a function drops all that the function owns.
     html_of(alloc, room, &mut parser, filter)
 }
 
-// How many bytes more than the text the HTML of a short text has room for at once: elements are much of it.
+// The string for the HTML has room for at least this many bytes more than the text has. Elements are a large part of a short text's HTML.
 const ROOM_FOR_ELEMENTS: usize = 256;
 
-// How many bytes the HTML of a text has room for at once: those of most texts, which are longer by their elements. A string that grows is there
-// twice.
+// The capacity in bytes of the string for the HTML of a text. It is enough for most texts. A string that has to grow is in memory twice for
+// a while.
 fn room_of(text: &str) -> usize {
     text.len()
         .saturating_add(text.len() / 8)
         .saturating_add(ROOM_FOR_ELEMENTS)
 }
 
-// The HTML of what the filter makes of the events that a parser still has to give, in a string that has room for so many bytes at once.
+// Returns the HTML of the events that the parser has left, each replaced by the filter. The string begins with a capacity of `room` bytes.
 fn html_of<'a, E: EntityLookup, F: BrokenLinkCallback<'a> + Drop, T: Filter>(
     alloc: Global,
     room: usize,
@@ -111,14 +133,15 @@ fn html_of<'a, E: EntityLookup, F: BrokenLinkCallback<'a> + Drop, T: Filter>(
 ) -> Result<String, AllocError>
     requires goes { CanGo E.replacement parser.old }
     requires ready { IsReady F.ready parser.old }
-    ensures { IfOk result (λ output. IsHtmlOfRest F.answers E.replacement (T.filtered filter.now) parser.old parser.new [] (string_bytes output)) }
+    ensures { IfOk result (λ output. IsHtmlOfRest F.answers E.replacement (T.filtered filter.now)
+        parser.old parser.new [] (string_bytes output)) }
 {
     let mut output = String::with_capacity(alloc, room)?;
     render(&mut output, parser, filter)?;
     Ok(output)
 }
 
-// Appends the same.
+// Appends the HTML of the events that the parser has left, each replaced by the filter.
 fn render<'a, E: EntityLookup, F: BrokenLinkCallback<'a> + Drop, T: Filter>(
     out: &mut String,
     parser: &mut Parser<'a, E, F>,
@@ -126,28 +149,33 @@ fn render<'a, E: EntityLookup, F: BrokenLinkCallback<'a> + Drop, T: Filter>(
 ) -> Result<(), AllocError>
     requires goes { CanGo E.replacement parser.old }
     requires ready { IsReady F.ready parser.old }
-    ensures { OnOk result (IsHtmlOfRest F.answers E.replacement (T.filtered filter.now) parser.old parser.new (string_bytes out.old) (string_bytes out.new)) }
+    ensures { OnOk result (IsHtmlOfRest F.answers E.replacement (T.filtered filter.now)
+        parser.old parser.new (string_bytes out.old) (string_bytes out.new)) }
 {
     let mut writer: Writer<'a> = Writer::new(*out.allocator());
     write_all(out, &mut writer, parser, filter)
 }
 
-/// Appends the HTML of the events that a parser still has to give, with a writer that may continue the HTML of earlier blocks. No image may
-/// be open in it. Fails only if memory is refused.
+/// Appends the HTML of the events that the parser has left, each replaced by the filter. The writer may continue the HTML of earlier blocks,
+/// but no image may be open in it. Fails only if memory is refused; nothing is promised then about `out`, `writer` and `parser`.
 pub fn write_rest<'a, E: EntityLookup, F: BrokenLinkCallback<'a> + Drop>(
     out: &mut String,
     writer: &mut Writer<'a>,
     parser: &mut Parser<'a, E, F>,
+    filter: &Filtering<'_>,
 ) -> Result<(), AllocError>
     requires goes { CanGo E.replacement parser.old }
     requires ready { IsReady F.ready parser.old }
     requires closed { (writing writer.old).image ≡ None }
-    ensures writes { OnOk result (WritesRest F.answers E.replacement (λ event. event) parser.old (written (writing writer.old) (string_bytes out.old)) parser.new (written (writing writer.new) (string_bytes out.new))) }
+    ensures writes { OnOk result (WritesRest F.answers E.replacement (filtered_by filter.now)
+        parser.old (written (writing writer.old) (string_bytes out.old))
+        parser.new (written (writing writer.new) (string_bytes out.new))) }
 {
-    write_all(out, writer, parser, &Filtering::AsTheyAre)
+    write_all(out, writer, parser, filter)
 }
 
-// Appends the HTML of the events that a parser still has to give, by a writer in which no image is open. Of most of them no event is made.
+// Appends the HTML of the events that the parser has left, each replaced by the filter. No image is open in the writer. Most events are
+// written without an `Event`.
 fn write_all<'a, E: EntityLookup, F: BrokenLinkCallback<'a> + Drop, T: Filter>(
     out: &mut String,
     writer: &mut Writer<'a>,
@@ -157,11 +185,13 @@ fn write_all<'a, E: EntityLookup, F: BrokenLinkCallback<'a> + Drop, T: Filter>(
     requires goes { CanGo E.replacement parser.old }
     requires ready { IsReady F.ready parser.old }
     requires closed { (writing writer.old).image ≡ None }
-    ensures { OnOk result (WritesRest F.answers E.replacement (T.filtered filter.now) parser.old (written (writing writer.old) (string_bytes out.old)) parser.new (written (writing writer.new) (string_bytes out.new))) }
+    ensures { OnOk result (WritesRest F.answers E.replacement (T.filtered filter.now)
+        parser.old (written (writing writer.old) (string_bytes out.old))
+        parser.new (written (writing writer.new) (string_bytes out.new))) }
 {
     loop {
         match parser.next_short()? {
-            // The two calls are inlined, each for what comes there: a span is followed by other events than a block.
+            // Each of the two calls is inlined for its own events: other events follow a span than follow a block.
             Coming::Span(short, _, _) => write_short(out, writer, filter.short_of(short))?,
             Coming::Block(short, _, _) => write_short(out, writer, filter.short_of(short))?,
             Coming::Long => {
@@ -175,9 +205,8 @@ fn write_all<'a, E: EntityLookup, F: BrokenLinkCallback<'a> + Drop, T: Filter>(
     }
 }
 
-// Appends the piece of the next event, of any kind, and where that opens an image those of the events up to the image's end, so that no
-// image is open behind it. Says whether there was one behind which that is so: where not, the text is over. Of the start of a link no event
-// is made.
+// Appends the HTML of the next event, of any kind. If it opens an image, the HTML of the events up to the end of the image follows, so that
+// no image is open afterwards. Returns false if the events are over before that. The start of a link is written without an `Event`.
 fn write_long<'a, E: EntityLookup, F: BrokenLinkCallback<'a> + Drop, T: Filter>(
     out: &mut String,
     writer: &mut Writer<'a>,
@@ -186,7 +215,10 @@ fn write_long<'a, E: EntityLookup, F: BrokenLinkCallback<'a> + Drop, T: Filter>(
 ) -> Result<bool, AllocError>
     requires goes { CanGo E.replacement parser.old }
     requires ready { IsReady F.ready parser.old }
-    ensures writes { IfOk result (λ is_given. WritesLong F.answers E.replacement (T.filtered filter.now) is_given parser.old (written (writing writer.old) (string_bytes out.old)) parser.new (written (writing writer.new) (string_bytes out.new))) }
+    ensures writes { IfOk result
+        (λ is_given. WritesLong F.answers E.replacement (T.filtered filter.now) is_given
+        parser.old (written (writing writer.old) (string_bytes out.old))
+        parser.new (written (writing writer.new) (string_bytes out.new))) }
     ensures ready { IsReady F.ready parser.new }
 {
     if write_link_ahead(out, writer, parser, filter)? {
@@ -195,8 +227,8 @@ fn write_long<'a, E: EntityLookup, F: BrokenLinkCallback<'a> + Drop, T: Filter>(
     write_any(out, writer, parser, filter)
 }
 
-// Appends the piece of the start of a link, where that comes next and no image is open, and says whether it was so. No event is made of it:
-// what is written stands where the parser keeps the link.
+// Appends the HTML of the start of a link, if that is the next event and no image is open. Returns whether it did. It makes no `Event`,
+// since it reads the link that the parser keeps.
 fn write_link_ahead<'a, E: EntityLookup, F: BrokenLinkCallback<'a> + Drop, T: Filter>(
     out: &mut String,
     writer: &mut Writer<'a>,
@@ -205,7 +237,10 @@ fn write_link_ahead<'a, E: EntityLookup, F: BrokenLinkCallback<'a> + Drop, T: Fi
 ) -> Result<bool, AllocError>
     requires goes { CanGo E.replacement parser.old }
     requires ready { IsReady F.ready parser.old }
-    ensures writes { IfOk result (λ is_written. WritesLink F.answers E.replacement (T.filtered filter.now) is_written parser.old (written (writing writer.old) (string_bytes out.old)) parser.new (written (writing writer.new) (string_bytes out.new))) }
+    ensures writes { IfOk result
+        (λ is_written. WritesLink F.answers E.replacement (T.filtered filter.now) is_written
+        parser.old (written (writing writer.old) (string_bytes out.old))
+        parser.new (written (writing writer.new) (string_bytes out.new))) }
     ensures ready { IsReady F.ready parser.new }
 {
     if writer.image.is_some() {
@@ -225,7 +260,7 @@ fn write_link_ahead<'a, E: EntityLookup, F: BrokenLinkCallback<'a> + Drop, T: Fi
     Ok(true)
 }
 
-// The same, where an event is made of each, of the start of a link too.
+// Does what `write_long` does, but makes an `Event` of each event, even of the start of a link.
 fn write_any<'a, E: EntityLookup, F: BrokenLinkCallback<'a> + Drop, T: Filter>(
     out: &mut String,
     writer: &mut Writer<'a>,
@@ -234,7 +269,10 @@ fn write_any<'a, E: EntityLookup, F: BrokenLinkCallback<'a> + Drop, T: Filter>(
 ) -> Result<bool, AllocError>
     requires goes { CanGo E.replacement parser.old }
     requires ready { IsReady F.ready parser.old }
-    ensures writes { IfOk result (λ is_given. WritesLong F.answers E.replacement (T.filtered filter.now) is_given parser.old (written (writing writer.old) (string_bytes out.old)) parser.new (written (writing writer.new) (string_bytes out.new))) }
+    ensures writes { IfOk result
+        (λ is_given. WritesLong F.answers E.replacement (T.filtered filter.now) is_given
+        parser.old (written (writing writer.old) (string_bytes out.old))
+        parser.new (written (writing writer.new) (string_bytes out.new))) }
     ensures ready { IsReady F.ready parser.new }
 {
     loop {
@@ -248,8 +286,8 @@ fn write_any<'a, E: EntityLookup, F: BrokenLinkCallback<'a> + Drop, T: Filter>(
     }
 }
 
-// Appends the piece of the next event, of any kind, and says whether there is one. It is apart, so that no other event waits for the room that
-// one of any kind takes.
+// Appends the HTML of the next event, of any kind, and returns whether there was one. The function is not inlined, because an `Event` needs
+// a large frame, which is cleared on entry. So only events that need it pay for it.
 #[inline(never)]
 fn write_next<'a, E: EntityLookup, F: BrokenLinkCallback<'a> + Drop, T: Filter>(
     out: &mut String,
@@ -259,7 +297,10 @@ fn write_next<'a, E: EntityLookup, F: BrokenLinkCallback<'a> + Drop, T: Filter>(
 ) -> Result<bool, AllocError>
     requires goes { CanGo E.replacement parser.old }
     requires ready { IsReady F.ready parser.old }
-    ensures writes { IfOk result (λ is_given. WritesNext F.answers E.replacement (T.filtered filter.now) is_given parser.old (written (writing writer.old) (string_bytes out.old)) parser.new (written (writing writer.new) (string_bytes out.new))) }
+    ensures writes { IfOk result
+        (λ is_given. WritesNext F.answers E.replacement (T.filtered filter.now) is_given
+        parser.old (written (writing writer.old) (string_bytes out.old))
+        parser.new (written (writing writer.new) (string_bytes out.new))) }
     ensures ready { IsReady F.ready parser.new }
 {
     match parser.advance() {

@@ -4,27 +4,26 @@ ghost use Rattle.std.specs.Prelude.{◌≡◌, ◌*◌, ◌≤◌, length, true,
 ghost use Rattle.std.specs.Iterator.{at_most};
 ghost use Rattle.std.specs.Option.{ForSome};
 ghost use Rattle.cmark_grammar.specs.Options.{no_options};
-ghost use Rattle.cmark_text_parts.specs.Shown.{shown_options};
+ghost use Rattle.cmark_values.specs.Shown.{shown_options};
 ghost use Rattle.cmark_inline.specs.Counted.{total};
 ghost use Rattle.cmark_parser.specs.Parsing.{is_last};
 
 use bitflags::Flags;
+use cmark_block_walk::Walk;
 use cmark_blocks::{FirstPass, run_first_pass};
+use cmark_event_walk::{Coming, OptionalCallback, SpanWalk};
 use cmark_inline::{
     BrokenLinkCallback, DefaultBrokenLinkCallback, LEAST_REFERENCE_EXPANSION_LIMIT, Steps,
 };
 use cmark_references::{FootnoteDefs, Link, RefDefs};
-use cmark_span_walk::{Coming, OptionalCallback, SpanWalk};
 use cmark_text::{EntityLookup, Event, Options, Ranged};
-use cmark_walk::Walk;
 use std::alloc::{AllocError, Global};
 use std::mem;
 use std::ops::Range;
 
 /// An iterator over the events of a text's document, in the order of the text.
 ///
-/// Each item is an event, or the one error item that says that memory was refused; behind that, and behind `None`, there
-/// is `None` alone.
+/// Each item is an event, or one error if memory is refused. After the error, and after `None`, `next` returns only `None`.
 ///
 /// ```text
 /// for event in Parser::new(alloc, "hello world", &BasicEntities)? {
@@ -34,36 +33,38 @@ use std::ops::Range;
 #[derive(Drop)]
 pub struct Parser<'input, E, F = DefaultBrokenLinkCallback> {
     pub(crate) spans: SpanWalk<'input, 'input, E, OptionalCallback<F>>,
-    /// Whether no item is given any more.
+    /// Whether the walk is over, so that no item is returned any more.
     pub(crate) is_over: bool,
 }
 
-/// The most events of blocks and leaves that a byte of text gives: twelve, and three for each of the 262,144 cells that may be filled in
-/// in a table, which has a byte at least.
+/// An upper bound of the events and leaves of blocks for each byte of a text. It is twelve, and three more for each table cell that may be
+/// filled in. A table is at least one byte, and at most 262,144 of its cells are filled in.
 pub(crate) const EVENTS_A_BYTE: u128 = 786_444;
 
 impl<'input, E: EntityLookup> Parser<'input, E> {
     ghost use Rattle.cmark_parser.specs.Parsing.{Reads, Defines, DefinesFootnotes, CanGo, callback_of, text_of};
 
-    /// A parser of `text`, with no extension. `entities` says what the entity names stand for. Where memory is refused
-    /// there is no parser.
+    /// Returns a parser of `text`, without extensions. `entities` maps entity names to their characters. Fails only if memory is refused.
     pub fn new(
         alloc: Global,
         text: &'input str,
         entities: &'input E,
     ) -> Result<Parser<'input, E>, AllocError>
         ensures text { IfOk result (λ parser. text_of parser ≡ text.entry.now) }
-        ensures reads { IfOk result (Reads E.replacement text.entry.now no_options (E.replacement entities.entry.now)) }
-        ensures definitions { IfOk result (Defines text.entry.now no_options (E.replacement entities.entry.now)) }
-        ensures footnotes { IfOk result (DefinesFootnotes text.entry.now no_options (E.replacement entities.entry.now)) }
+        ensures reads { IfOk result
+            (Reads E.replacement text.entry.now no_options (E.replacement entities.entry.now)) }
+        ensures definitions { IfOk result
+            (Defines text.entry.now no_options (E.replacement entities.entry.now)) }
+        ensures footnotes { IfOk result
+            (DefinesFootnotes text.entry.now no_options (E.replacement entities.entry.now)) }
         ensures callback { IfOk result (λ parser. callback_of parser ≡ None) }
         ensures goes { IfOk result (CanGo E.replacement) }
     {
         Parser::new_ext(alloc, text, Options::empty(), entities)
     }
 
-    /// A parser of `text` with these options; an option that is off changes nothing. `entities` says what the entity names stand for.
-    /// Where memory is refused there is no parser.
+    /// Returns a parser of `text` with these options. An option that is not set changes nothing. `entities` maps entity names to their
+    /// characters. Fails only if memory is refused.
     pub fn new_ext(
         alloc: Global,
         text: &'input str,
@@ -71,9 +72,12 @@ impl<'input, E: EntityLookup> Parser<'input, E> {
         entities: &'input E,
     ) -> Result<Parser<'input, E>, AllocError>
         ensures text { IfOk result (λ parser. text_of parser ≡ text.entry.now) }
-        ensures reads { IfOk result (Reads E.replacement text.entry.now (shown_options options) (E.replacement entities.entry.now)) }
-        ensures definitions { IfOk result (Defines text.entry.now (shown_options options) (E.replacement entities.entry.now)) }
-        ensures footnotes { IfOk result (DefinesFootnotes text.entry.now (shown_options options) (E.replacement entities.entry.now)) }
+        ensures reads { IfOk result (Reads E.replacement text.entry.now
+            (shown_options options) (E.replacement entities.entry.now)) }
+        ensures definitions { IfOk result (Defines text.entry.now
+            (shown_options options) (E.replacement entities.entry.now)) }
+        ensures footnotes { IfOk result (DefinesFootnotes text.entry.now
+            (shown_options options) (E.replacement entities.entry.now)) }
         ensures callback { IfOk result (λ parser. callback_of parser ≡ None) }
         ensures goes { IfOk result (CanGo E.replacement) }
     {
@@ -84,8 +88,8 @@ impl<'input, E: EntityLookup> Parser<'input, E> {
 impl<'input, E: EntityLookup, F: BrokenLinkCallback<'input> + Drop> Parser<'input, E, F> {
     ghost use Rattle.cmark_parser.specs.Parsing.{Reads, Defines, DefinesFootnotes, CanGo, CanGoRanged, GivesOrErr, GivesStartOrErr, GivesStep, IsReady, ReadsWithin, callback_of, definitions, link_to_come, steps_of, text_of, walk_of};
 
-    /// A parser of `text` with these options, which asks the callback, if there is one, for each reference without a
-    /// definition. The callback is asked while the events are given.
+    /// Returns a parser of `text` with these options. If there is a callback, it is asked about each reference without a definition, while
+    /// events are returned. `entities` maps entity names to their characters. Fails only if memory is refused.
     pub fn new_with_broken_link_callback(
         alloc: Global,
         text: &'input str,
@@ -96,9 +100,12 @@ impl<'input, E: EntityLookup, F: BrokenLinkCallback<'input> + Drop> Parser<'inpu
         requires ready { ForSome callback F.ready }
         ensures ready { IfOk result (IsReady F.ready) }
         ensures text { IfOk result (λ parser. text_of parser ≡ text.entry.now) }
-        ensures reads { IfOk result (Reads E.replacement text.entry.now (shown_options options) (E.replacement entities.entry.now)) }
-        ensures definitions { IfOk result (Defines text.entry.now (shown_options options) (E.replacement entities.entry.now)) }
-        ensures footnotes { IfOk result (DefinesFootnotes text.entry.now (shown_options options) (E.replacement entities.entry.now)) }
+        ensures reads { IfOk result (Reads E.replacement text.entry.now
+            (shown_options options) (E.replacement entities.entry.now)) }
+        ensures definitions { IfOk result (Defines text.entry.now
+            (shown_options options) (E.replacement entities.entry.now)) }
+        ensures footnotes { IfOk result (DefinesFootnotes text.entry.now
+            (shown_options options) (E.replacement entities.entry.now)) }
         ensures callback { IfOk result (λ parser. callback_of parser ≡ callback) }
         ensures goes { IfOk result (CanGo E.replacement) }
     {
@@ -106,8 +113,8 @@ impl<'input, E: EntityLookup, F: BrokenLinkCallback<'input> + Drop> Parser<'inpu
         Parser::new_with_expansion_limit(alloc, text, options, entities, callback, limit)
     }
 
-    /// A parser with a reference expansion limit of the caller. Once the destinations and titles of references have `limit` bytes, no
-    /// definition is looked up, and nothing is asked.
+    /// Returns a parser with a reference expansion limit of the caller. Once the destinations and titles of references total `limit` bytes,
+    /// no definition is looked up, and the callback is not asked. Fails only if memory is refused.
     pub fn new_with_expansion_limit(
         alloc: Global,
         text: &'input str,
@@ -119,9 +126,12 @@ impl<'input, E: EntityLookup, F: BrokenLinkCallback<'input> + Drop> Parser<'inpu
         requires ready { ForSome callback F.ready }
         ensures ready { IfOk result (IsReady F.ready) }
         ensures text { IfOk result (λ parser. text_of parser ≡ text.entry.now) }
-        ensures reads { IfOk result (ReadsWithin E.replacement limit text.entry.now (shown_options options) (E.replacement entities.entry.now)) }
-        ensures definitions { IfOk result (Defines text.entry.now (shown_options options) (E.replacement entities.entry.now)) }
-        ensures footnotes { IfOk result (DefinesFootnotes text.entry.now (shown_options options) (E.replacement entities.entry.now)) }
+        ensures reads { IfOk result (ReadsWithin E.replacement limit text.entry.now
+            (shown_options options) (E.replacement entities.entry.now)) }
+        ensures definitions { IfOk result (Defines text.entry.now
+            (shown_options options) (E.replacement entities.entry.now)) }
+        ensures footnotes { IfOk result (DefinesFootnotes text.entry.now
+            (shown_options options) (E.replacement entities.entry.now)) }
         ensures callback { IfOk result (λ parser. callback_of parser ≡ callback) }
         ensures goes { IfOk result (CanGo E.replacement) }
     {
@@ -142,30 +152,30 @@ impl<'input, E: EntityLookup, F: BrokenLinkCallback<'input> + Drop> Parser<'inpu
         })
     }
 
-    /// The link reference definitions of the text, of each label the first one (CommonMark 4.7): the same at every point of
-    /// the walk.
+    /// The link reference definitions of the text, the first one for each label (CommonMark 4.7). They do not change during the walk.
     pub fn reference_definitions(&self) -> &RefDefs<'input>
         ensures { result.now ≡ definitions self.now }
     {
         self.spans.definitions()
     }
 
-    /// The callback, as the questions so far left it, if there is one.
+    /// The callback, as the questions so far left it, or `None` if there is no callback.
     pub fn callback(&self) -> Option<&F>
         ensures { option_copied result ≡ callback_of self.now }
     {
         self.spans.callback().callback.as_ref()
     }
 
-    /// What the searches of the spans have taken so far: never more than 128 steps for each byte of the text.
+    /// How much the searches of the spans have looked at so far: at most 128 steps for each byte of the text.
     pub fn steps(&self) -> Steps
         ensures steps { result ≡ steps_of self.now }
-        ensures counted { CanGo E.replacement self.now → total result ≤ 128 * length (text_of self.now) }
+        ensures counted { CanGo E.replacement self.now
+            → total result ≤ 128 * length (text_of self.now) }
     {
         self.spans.steps()
     }
 
-    /// The same walk, from where it stands, with the range of each event.
+    /// Returns the rest of this walk as an iterator over events with their ranges.
     pub fn into_offset_iter(self) -> OffsetIter<'input, E, F>
         ensures walk { walk_of result ≡ self.entry }
         ensures goes { CanGo E.replacement self.entry → CanGoRanged E.replacement result }
@@ -173,8 +183,8 @@ impl<'input, E: EntityLookup, F: BrokenLinkCallback<'input> + Drop> Parser<'inpu
         OffsetIter { parser: self }
     }
 
-    // What `next` would give, where no event is made: one that owns nothing counts as given then, and one of another kind does not. Where
-    // memory is refused, nothing is given any more.
+    // Like `next`, but builds no `Event`. An event that owns nothing is returned and consumed. Any other is reported as `Coming::Long` and
+    // left for `advance`. After an error (out of memory) the walk is over.
     #[inline(always)]
     pub(crate) fn next_short(&mut self) -> Result<Coming<'input>, AllocError>
         requires goes { CanGo E.replacement self.old }
@@ -192,7 +202,7 @@ impl<'input, E: EntityLookup, F: BrokenLinkCallback<'input> + Drop> Parser<'inpu
         Ok(Coming::Over)
     }
 
-    // The link whose start comes next, if one does. Nothing counts as given then.
+    // Returns the link whose start is the next event, if a link is next. Consumes nothing.
     #[inline(always)]
     pub(crate) fn link_ahead(&self) -> Option<&Link<'input>>
         ensures { option_map (λ link. link.now) result ≡ link_to_come self.now }
@@ -203,8 +213,7 @@ impl<'input, E: EntityLookup, F: BrokenLinkCallback<'input> + Drop> Parser<'inpu
         }
     }
 
-    // Counts the start of the link that comes next as given, as `next` does with no event made. Where memory is refused, nothing is given any
-    // more.
+    // Consumes the start of the link that is next, like `next`, but builds no `Event`. After an error (out of memory) the walk is over.
     #[inline(always)]
     pub(crate) fn pass_link(&mut self) -> Result<(), AllocError>
         requires goes { CanGo E.replacement self.old }
@@ -221,7 +230,7 @@ impl<'input, E: EntityLookup, F: BrokenLinkCallback<'input> + Drop> Parser<'inpu
         }
     }
 
-    // The next event with its range. Where memory is refused, this is the last item.
+    // Returns the next event with its range. An error (out of memory) is the last item.
     #[inline(always)]
     pub(crate) fn advance(&mut self) -> Option<Result<Ranged<'input>, AllocError>>
         requires goes { CanGo E.replacement self.old }
@@ -246,7 +255,7 @@ impl<'input, E: EntityLookup, F: BrokenLinkCallback<'input> + Drop> Parser<'inpu
     }
 }
 
-// Whether nothing is given behind this: it says that the document is over, or that memory was refused.
+// Whether the walk is over after this result: no event is left, or memory was refused.
 #[inline(always)]
 fn is_last(given: &Result<Coming<'_>, AllocError>) -> bool
     ensures { result ≡ is_last given.now }
@@ -283,8 +292,8 @@ impl<'input, E: EntityLookup, F: BrokenLinkCallback<'input> + Drop> Iterator
     }
 }
 
-/// An iterator over the events of a text's document with their ranges: the bytes of the text, from the start to before
-/// the end, that the event comes from. A start and its end have the range of the whole element.
+/// An iterator over the events of a text's document, each with its range in byte offsets. The range is the bytes of the text from which the
+/// event comes, up to its end, exclusive. A start and its end both have the range of the whole element.
 #[derive(Drop)]
 pub struct OffsetIter<'input, E, F = DefaultBrokenLinkCallback> {
     parser: Parser<'input, E, F>,
@@ -293,27 +302,28 @@ pub struct OffsetIter<'input, E, F = DefaultBrokenLinkCallback> {
 impl<'input, E: EntityLookup, F: BrokenLinkCallback<'input> + Drop> OffsetIter<'input, E, F> {
     ghost use Rattle.cmark_parser.specs.Parsing.{CanGoRanged, GivesOrErr, GivesStep, IsRangedReady, callback_of, ranged_definitions, ranged_steps, ranged_text, walk_of};
 
-    /// The link reference definitions of the text, as those of the parser.
+    /// The link reference definitions of the text, as [`Parser::reference_definitions`] returns them.
     pub fn reference_definitions(&self) -> &RefDefs<'input>
         ensures { result.now ≡ ranged_definitions self.now }
     {
         self.parser.reference_definitions()
     }
 
-    /// The callback, as that of the parser.
+    /// The callback, as [`Parser::callback`] returns it.
     pub fn callback(&self) -> Option<&F>
         ensures { option_copied result ≡ callback_of (walk_of self.now) }
     {
         self.parser.callback()
     }
 
-    /// Like `next`, but builds no event: an event that owns nothing is given, and an event of another kind is left as the next one. If memory
-    /// is refused, nothing is given any more.
+    /// Like `next`, but builds no `Event`. An event that owns nothing is returned and consumed. Any other is reported as `Coming::Long` and
+    /// left for `next` or `next_ranged`. If memory is refused, nothing is returned any more.
     #[inline(always)]
     pub fn next_short(&mut self) -> Result<Coming<'input>, AllocError>
         requires goes { CanGoRanged E.replacement self.old }
         requires ready { IsRangedReady F.ready self.old }
-        ensures gives { GivesOrErr F.answers E.replacement (walk_of self.old) result (walk_of self.new) }
+        ensures gives { GivesOrErr F.answers E.replacement
+            (walk_of self.old) result (walk_of self.new) }
         ensures ready { IsRangedReady F.ready self.new }
     {
         self.parser.next_short()
@@ -324,16 +334,18 @@ impl<'input, E: EntityLookup, F: BrokenLinkCallback<'input> + Drop> OffsetIter<'
     pub fn next_ranged(&mut self) -> Option<Result<Ranged<'input>, AllocError>>
         requires goes { CanGoRanged E.replacement self.old }
         requires ready { IsRangedReady F.ready self.old }
-        ensures gives { GivesStep F.answers E.replacement (walk_of self.old) result (walk_of self.new) }
+        ensures gives { GivesStep F.answers E.replacement
+            (walk_of self.old) result (walk_of self.new) }
         ensures ready { IsRangedReady F.ready self.new }
     {
         self.parser.advance()
     }
 
-    /// What the searches of the spans have taken so far, as that of the parser.
+    /// How much the searches of the spans have looked at so far, as [`Parser::steps`] returns it.
     pub fn steps(&self) -> Steps
         ensures steps { result ≡ ranged_steps self.now }
-        ensures counted { CanGoRanged E.replacement self.now → total result ≤ 128 * length (ranged_text self.now) }
+        ensures counted { CanGoRanged E.replacement self.now
+            → total result ≤ 128 * length (ranged_text self.now) }
     {
         self.parser.steps()
     }

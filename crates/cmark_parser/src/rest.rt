@@ -4,30 +4,30 @@ ghost use Rattle.std.specs.Prelude.{◌≡◌, IfOk, IsCharBoundary, take};
 ghost use Rattle.std.specs.Option.{ForSome};
 ghost use Rattle.cmark_blocks.specs.Footnotes.{HasLabels};
 ghost use Rattle.cmark_blocks.specs.Tails.{HasDefinitions};
-ghost use Rattle.cmark_grammar.specs.Derivation.{document};
+ghost use Rattle.cmark_block_model.specs.DocumentModel.{document};
 ghost use Rattle.cmark_grammar.specs.References.{references};
 ghost use Rattle.cmark_grammar.specs.SpanDocuments.{footnote_labels};
 ghost use Rattle.cmark_stream_model.specs.Tails.{IsJoinedAt};
-ghost use Rattle.cmark_text_parts.specs.Shown.{shown_options};
+ghost use Rattle.cmark_values.specs.Shown.{shown_options};
 ghost use Rattle.cmark_parser.specs.Parsing.{Defines, DefinesFootnotes, CanGo, IsReady, callback_of, text_of};
 ghost use Rattle.cmark_parser.specs.Tails.{ReadsRest};
 
 use crate::parse::{EVENTS_A_BYTE, Parser};
+use cmark_block_walk::Walk;
 use cmark_blocks::{FirstPass, run_first_pass_from};
+use cmark_event_walk::{OptionalCallback, SpanWalk};
 use cmark_inline::BrokenLinkCallback;
 use cmark_references::{FootnoteDefs, RefDefs};
-use cmark_span_walk::{OptionalCallback, SpanWalk};
 use cmark_text::{EntityLookup, Options};
-use cmark_walk::Walk;
 use std::alloc::{AllocError, Global};
 use std::mem;
 
-/// A parser of the rest of `text`, from the line at the byte offset `from` on. Its events are those that a parser of the whole text
-/// returns after the events of the earlier lines, with their ranges in the whole text.
+/// A parser of the rest of `text`, from the line at the byte offset `from` on. A parser of the whole text returns these events, with these
+/// ranges, after the events of the earlier lines.
 ///
-/// The blocks before `from` must be those of these bytes alone (`IsJoinedAt`). `definitions` and `footnotes` are the tables of the
-/// earlier lines, and no footnote in them is used yet. `limit` is the rest of the reference expansion limit, in bytes. Fails only if
-/// memory is refused.
+/// The blocks before `from` must be those of these bytes alone (`IsJoinedAt`). `definitions` and `footnotes` are the tables of the earlier
+/// lines, and no footnote in them is used yet. `limit` is the rest of the reference expansion limit, in bytes. Fails only if memory is
+/// refused.
 pub fn parse_rest<'input, E: EntityLookup, F: BrokenLinkCallback<'input> + Drop>(
     alloc: Global,
     text: &'input str,
@@ -40,15 +40,23 @@ pub fn parse_rest<'input, E: EntityLookup, F: BrokenLinkCallback<'input> + Drop>
     limit: usize,
 ) -> Result<Parser<'input, E, F>, AllocError>
     requires begins { IsCharBoundary text.now from }
-    requires joined { IsJoinedAt (shown_options options) (E.replacement entities.now) text.now from }
-    requires defined { HasDefinitions (references (document (take from text.now) (shown_options options) (E.replacement entities.now))) definitions }
-    requires labelled { HasLabels (footnote_labels (document (take from text.now) (shown_options options) (E.replacement entities.now))) footnotes }
+    requires joined { IsJoinedAt
+        (shown_options options) (E.replacement entities.now) text.now from }
+    requires defined { HasDefinitions (references
+        (document (take from text.now) (shown_options options) (E.replacement entities.now)))
+        definitions }
+    requires labelled { HasLabels (footnote_labels
+        (document (take from text.now) (shown_options options) (E.replacement entities.now)))
+        footnotes }
     requires ready { ForSome callback F.ready }
     ensures ready { IfOk result (IsReady F.ready) }
     ensures text { IfOk result (λ parser. text_of parser ≡ text.entry.now) }
-    ensures reads { IfOk result (ReadsRest E.replacement limit text.entry.now from (shown_options options) (E.replacement entities.entry.now)) }
-    ensures definitions { IfOk result (Defines text.entry.now (shown_options options) (E.replacement entities.entry.now)) }
-    ensures footnotes { IfOk result (DefinesFootnotes text.entry.now (shown_options options) (E.replacement entities.entry.now)) }
+    ensures reads { IfOk result (ReadsRest E.replacement limit text.entry.now from
+        (shown_options options) (E.replacement entities.entry.now)) }
+    ensures definitions { IfOk result (Defines text.entry.now
+        (shown_options options) (E.replacement entities.entry.now)) }
+    ensures footnotes { IfOk result (DefinesFootnotes text.entry.now
+        (shown_options options) (E.replacement entities.entry.now)) }
     ensures callback { IfOk result (λ parser. callback_of parser ≡ callback) }
     ensures goes { IfOk result (CanGo E.replacement) }
 {

@@ -3,8 +3,8 @@ use Rattle.std.proofs.Common.{◌≡◌, refl, sym, ap, ap₂, ◌∙◌, ℕ, L
 use Rattle.std.specs.Ordering.{is_eq, nat_cmp}
 use Rattle.std.specs.Cmp.Lexicographic.{slice_cmp}
 use Rattle.std.proofs.lemmas.Map.Text.{is_eq-slice_cmp}
-use Rattle.cmark_text_parts.specs.Labelled.{link_key, link_text}
-use Rattle.cmark_text_parts.specs.declared.label.LinkLabel.{LinkLabel}
+use Rattle.cmark_values.specs.Labelled.{link_key, link_text}
+use Rattle.cmark_values.specs.declared.label.LinkLabel.{LinkLabel}
 use Rattle.cmark_references.specs.Definitions.{entry_of, first_of, at_label, labelled, reference_at, shown_definition, shown_entry}
 use Rattle.cmark_references.specs.declared.definitions.LinkDef.{LinkDef}
 use Rattle.cmark_references.specs.declared.definitions.RefDefs.{RefDefs}

@@ -27,19 +27,19 @@ module _ {L D : Type 0} (key : L → List ℕ) where
   Finds es e = lookup_entry (at key (key e.0)) es ≡ Some e
 
   -- after an entry of another label the same entries are found
-  behind : (x : L × D) (es found : List (L × D)) → AllByRecursion (λ k. eq_by_cmp (label_cmp key) x.0 k ≡ false) (keys_of found) → AllByRecursion (Finds es) found
+  following : (x : L × D) (es found : List (L × D)) → AllByRecursion (λ k. eq_by_cmp (label_cmp key) x.0 k ≡ false) (keys_of found) → AllByRecursion (Finds es) found
       → AllByRecursion (Finds (x ∷ es)) found
-  behind x es [] apart h = tt
-  behind x es (e ∷ found) apart h = (
+  following x es [] apart h = tt
+  following x es (e ∷ found) apart h = (
     ap (λ b. if b then Some x else lookup_entry (at key (key e.0)) es) (is_eq-slice_cmp (key e.0) (key x.0) ∙ nat_list_eq_equiv.symm (key e.0) (key x.0) ∙ sym (is_eq-slice_cmp (key x.0) (key e.0)) ∙ apart.0) ∙ h.0,
-    behind x es found apart.1 h.1,
+    following x es found apart.1 h.1,
   )
 
   each : (es : List (L × D)) → IsDistinct (eq_by_cmp (label_cmp key)) (keys_of es) → AllByRecursion (Finds es) es
   each [] once = tt
   each (e ∷ es) once = (
     ap (λ b. if b then Some e else lookup_entry (at key (key e.0)) es) (is_eq-slice_cmp (key e.0) (key e.0) ∙ nat_list_eq_equiv.refl (key e.0)),
-    behind e es es (IsDistinct-head _ e.0 (keys_of es) once) (each es (IsDistinct-tail _ e.0 (keys_of es) once)),
+    following e es es (IsDistinct-head _ e.0 (keys_of es) once) (each es (IsDistinct-tail _ e.0 (keys_of es) once)),
   )
 
   pub each_found : (es : List (L × D)) → IsStrictlySortedBy (label_cmp key) (keys_of es) → All (Finds es) es

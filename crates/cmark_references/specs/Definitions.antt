@@ -6,12 +6,12 @@ use Rattle.std.specs.Map.{lookup, lookup_entry}
 use Rattle.std.specs.Cmp.Lexicographic.{slice_cmp}
 use Rattle.std.specs.Ordering.{nat_cmp}
 use Rattle.cmark_grammar.specs.BlockDocument.{Reference}
-use Rattle.cmark_text_parts.specs.Labelled.{link_text, link_key}
-use Rattle.cmark_text_parts.specs.declared.label.LinkLabel.{LinkLabel}
+use Rattle.cmark_values.specs.Labelled.{link_text, link_key}
+use Rattle.cmark_values.specs.declared.label.LinkLabel.{LinkLabel}
 use Rattle.cmark_references.specs.declared.definitions.LinkDef.{LinkDef}
 use Rattle.cmark_references.specs.declared.definitions.RefDefs.{RefDefs}
 use Rattle.cmark_references.specs.declared.definitions.RefDefsIter.{RefDefsIter}
-use Rattle.cmark_text_parts.specs.Shown.{text_bytes}
+use Rattle.cmark_values.specs.Shown.{text_bytes}
 
 -- the definition of a folded label
 abbrev pub definition : RefDefs → List ℕ → Option LinkDef

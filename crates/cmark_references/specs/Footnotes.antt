@@ -4,7 +4,7 @@ use Rattle.std.specs.BTreeMap.{is_at}
 use Rattle.std.specs.Map.{lookup}
 use Rattle.std.specs.Cmp.Lexicographic.{slice_cmp}
 use Rattle.std.specs.Ordering.{nat_cmp}
-use Rattle.cmark_text_parts.specs.Labelled.{footnote_key}
+use Rattle.cmark_values.specs.Labelled.{footnote_key}
 use Rattle.cmark_references.specs.declared.footnotes.FootnoteDef.{FootnoteDef}
 use Rattle.cmark_references.specs.declared.footnotes.FootnoteDefs.{FootnoteDefs}
 

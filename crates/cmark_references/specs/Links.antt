@@ -1,8 +1,8 @@
 -- A link or an image of the definitions.
 use Rattle.std.specs.Prelude.{◌≡◌, []}
 use Rattle.cmark_grammar.specs.Tag.{Linked}
-use Rattle.cmark_text_parts.specs.Shown.{shown_linked, text_bytes}
-use Rattle.cmark_text_parts.specs.declared.kind.LinkType.TheVariants.{ShortcutUnknown}
+use Rattle.cmark_values.specs.Shown.{shown_linked, text_bytes}
+use Rattle.cmark_values.specs.declared.kind.LinkType.TheVariants.{ShortcutUnknown}
 use Rattle.cmark_references.specs.declared.link.Link.{Link}
 
 abbrev pub shown_link : Link → Linked

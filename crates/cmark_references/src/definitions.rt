@@ -1,12 +1,12 @@
 //! Link reference definitions (CommonMark 4.7).
 
-ghost use Rattle.std.specs.Prelude.{◌≡◌, IfOk, OnOk, OnErr, List, ℕ, option_copied, None, Some, All};
+ghost use Rattle.std.specs.Prelude.{◌≡◌, ◌↔◌, [], IfOk, IsTrue, OnOk, OnErr, List, ℕ, option_copied, None, Some, All};
 ghost use Rattle.std.specs.Iterator.{YieldsFirstBy, item_count};
 ghost use Rattle.cmark_grammar.specs.Labels.{fold};
-ghost use Rattle.cmark_text_parts.specs.Labelled.{link_key};
+ghost use Rattle.cmark_values.specs.Labelled.{link_key};
 ghost use Rattle.cmark_references.specs.Definitions.{definition, definitions, entry_of, first_of, at_label, left, reference_at, seen, shown_definition};
 
-use cmark_text_parts::{CowStr, LinkLabel};
+use cmark_values::{CowStr, LinkLabel};
 use std::alloc::{AllocError, Global};
 use std::collections::btree_map::{self, BTreeMap};
 use std::marker::Model;
@@ -33,7 +33,7 @@ pub struct RefDefs<'a> {
 /// The definitions, each with its label.
 impl<'a> Model for RefDefs<'a> {
     ghost use Rattle.std.specs.Prelude.{List};
-    ghost use Rattle.cmark_text_parts.specs.declared.label.LinkLabel.{LinkLabel};
+    ghost use Rattle.cmark_values.specs.declared.label.LinkLabel.{LinkLabel};
     ghost use Rattle.cmark_references.specs.declared.definitions.LinkDef.{LinkDef};
 
     ghost Value = { List (LinkLabel × LinkDef) };
@@ -67,6 +67,13 @@ impl<'a> RefDefs<'a> {
         self.defs.get(label)
     }
 
+    /// Whether no label has a definition.
+    pub fn is_empty(&self) -> bool
+        ensures { IsTrue result ↔ (self.now ≡ []) }
+    {
+        self.defs.is_empty()
+    }
+
     /// Adds a definition, unless the label has one already. The spelling of a label is that of its first definition. If memory is refused
     /// nothing changes, and the definition is dropped.
     pub fn insert(&mut self, label: LinkLabel, def: LinkDef<'a>) -> Result<(), AllocError>
@@ -80,7 +87,7 @@ impl<'a> RefDefs<'a> {
         Ok(())
     }
 
-    /// A copy of the table, with the same spelling of each label. Fails only if memory is refused.
+    /// A copy of the table, with its spelling of each label. Fails only if memory is refused.
     pub fn clone(&self, alloc: Global) -> Result<RefDefs<'a>, AllocError>
         ensures { IfOk result (λ copy. (folded : List ℕ) → reference_at copy folded ≡ reference_at self.now folded) }
     {
@@ -121,7 +128,7 @@ impl<'a> LinkDef<'a> {
         })
     }
 
-    /// The same definition in a value that borrows nothing. Fails only if memory is refused.
+    /// This definition in a value that borrows nothing. Fails only if memory is refused.
     pub fn into_static(self, alloc: Global) -> Result<LinkDef<'static>, AllocError>
         ensures { IfOk result (λ made. shown_definition made ≡ shown_definition self.entry) }
     {

@@ -1,13 +1,13 @@
 //! Footnote definitions (this profile's own).
 
-ghost use Rattle.std.specs.Prelude.{◌≡◌, IfOk, OnOk, OnErr, List, ℕ, None, is_some};
+ghost use Rattle.std.specs.Prelude.{◌≡◌, ◌↔◌, [], IfOk, IsTrue, OnOk, OnErr, List, ℕ, None, is_some};
 ghost use Rattle.std.specs.Option.{option_copied_mut};
 ghost use Rattle.cmark_grammar.specs.Labels.{fold};
-ghost use Rattle.cmark_text_parts.specs.Labelled.{footnote_key};
+ghost use Rattle.cmark_values.specs.Labelled.{footnote_key};
 ghost use Rattle.cmark_references.specs.Definitions.{first_of, at_label};
 ghost use Rattle.cmark_references.specs.Footnotes.{footnote, with_use, Counts, Keeps};
 
-use cmark_text_parts::FootnoteLabel;
+use cmark_values::FootnoteLabel;
 use std::alloc::{AllocError, Global};
 use std::collections::BTreeMap;
 use std::marker::Model;
@@ -40,7 +40,7 @@ pub struct FootnoteDefs {
 /// The definitions, each with its label.
 impl Model for FootnoteDefs {
     ghost use Rattle.std.specs.Prelude.{List};
-    ghost use Rattle.cmark_text_parts.specs.declared.label.FootnoteLabel.{FootnoteLabel};
+    ghost use Rattle.cmark_values.specs.declared.label.FootnoteLabel.{FootnoteLabel};
     ghost use Rattle.cmark_references.specs.declared.footnotes.FootnoteDef.{FootnoteDef};
 
     ghost Value = { List (FootnoteLabel × FootnoteDef) };
@@ -57,6 +57,13 @@ impl FootnoteDefs {
             defs: BTreeMap::new(alloc),
             alloc,
         }
+    }
+
+    /// Whether no footnote is defined.
+    pub fn is_empty(&self) -> bool
+        ensures { IsTrue result ↔ (self.now ≡ []) }
+    {
+        self.defs.is_empty()
     }
 
     /// Whether the label in this text is defined. Fails if there is no memory for the label's normal form.

@@ -2,7 +2,7 @@
 
 ghost use Rattle.cmark_references.specs.Links.{IsUnknown};
 
-use cmark_text_parts::{CowStr, LinkType};
+use cmark_values::{CowStr, LinkType};
 
 /// The data of a link or an image (CommonMark 6.3, 6.4).
 #[derive(Drop)]

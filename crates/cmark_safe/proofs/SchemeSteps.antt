@@ -12,7 +12,7 @@ use Rattle.cmark_safe.specs.Schemes.{is_among, is_allowed, is_allowed_if_any, is
 scheme_off : (b : ℕ) (rest : List ℕ) → (b == 58) ≡ false → is_among (codes "/?#&") b ≡ false → scheme_of (b ∷ rest) ≡ option_map (λ name. b ∷ name) (scheme_of rest)
 scheme_off b rest h k = rw h (rw k refl)
 
-colon_on : (b : ℕ) (name behind : List ℕ) → if_colon (b ∷ name) behind ≡ option_map (λ n. b ∷ n) (if_colon name behind)
+colon_on : (b : ℕ) (name following : List ℕ) → if_colon (b ∷ name) following ≡ option_map (λ n. b ∷ n) (if_colon name following)
 colon_on b name [] = refl
 colon_on b name (c ∷ cs) = go (c == 58)
   where

@@ -1,5 +1,5 @@
--- HTML that is safe to show, whatever text it comes from: text, entities, and tags of a fixed list whose values are quoted and whose
--- addresses are relative or of an allowed scheme.
+-- HTML that is safe to show, whatever text it comes from. It consists of text, entities, and tags of a fixed list. Their values are
+-- quoted, and their addresses are relative or of an allowed scheme.
 use Rattle.std.specs.Prelude.{ℕ, Bool, true, false, ◌≡◌, ◌&&◌, nat_le, List, [], ◌∷◌, ◌++◌, codes}
 use Rattle.cmark_grammar.specs.Html.{digit}
 use Rattle.cmark_safe.specs.Schemes.{is_allowed, is_among, is_one_of}
@@ -33,7 +33,7 @@ pub data IsAnchor : List ℕ → Type 0 where
   NoAnchor : IsAnchor []
   Anchor : (name : List ℕ) → IsValue name → IsAnchor (codes " id=\"" ++ (own_prefix ++ (name ++ codes "\"")))
 
--- the tags that are always the same
+-- the tags that never change
 abbrev pub plain_tags : List (List ℕ)
 plain_tags =
     codes "<p>" ∷ codes "</p>" ∷ codes "<blockquote>" ∷ codes "</blockquote>" ∷ codes "<pre>" ∷ codes "</pre>"

@@ -48,7 +48,7 @@ is_allowed further address = is_allowed_if_any further (scheme_of address)
 abbrev pub is_before_sign : ℕ → Bool
 is_before_sign b = not (is_among (codes ":/?#&'") b)
 
-abbrev pub if_colon : (name behind : List ℕ) → Option (List ℕ)
+abbrev pub if_colon : (name following : List ℕ) → Option (List ℕ)
 if_colon name [] = None
 if_colon name (b ∷ bs) = if b == 58 then Some name else None
 

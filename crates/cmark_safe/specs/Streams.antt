@@ -13,14 +13,14 @@ use Rattle.cmark_safe.specs.SafeEvents.{safe}
 abbrev pub IsSafeForm : (further : List ℕ) → (event made : Event) → Type 0
 IsSafeForm further event made = shown made ≡ safe further (shown event)
 
--- an event with its range is the safe form of another with the same range
+-- an event with its range is the safe form of another event with this range
 abbrev pub IsSafeRanged : (further : List ℕ) → (item made : Event × Range ℕ) → Type 0
 IsSafeRanged further item made = IsSafeForm further item.0 made.0 × (made.1 ≡ item.1)
 
 abbrev pub RangedHasName : Event × Range ℕ → Type 0
 RangedHasName item = HasName item.0
 
--- the item that is given for an item of the iterator: its safe form, or the same error item. If memory for a name is refused, an error item
+-- the item that is given for an item of the iterator: its safe form, or this error item. If memory for a name is refused, an error item
 -- is given, and the stream is over
 abbrev pub GivesFor : {T : Type 0} → (IsMade : T → T → Type 0) → (HasName : T → Type 0) → (item given : Option (Result T AllocError)) → (is_over : Bool) → Type 0
 GivesFor IsMade HasName None given is_over = (given ≡ None) × (is_over ≡ false)

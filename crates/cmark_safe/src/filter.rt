@@ -4,7 +4,7 @@ ghost use Rattle.std.specs.Prelude.{◌≡◌, ℕ, List, IfErr, IfOk, IsSome, o
 ghost use Rattle.cmark_grammar.specs.Tag as grammar;
 ghost use Rattle.cmark_text.specs.Short.{shown_short};
 ghost use Rattle.cmark_text.specs.Shown.{shown, shown_end, shown_tag};
-ghost use Rattle.cmark_text_parts.specs.Shown.{level_number, text_bytes};
+ghost use Rattle.cmark_values.specs.Shown.{level_number, text_bytes};
 ghost use Rattle.cmark_safe.specs.Names.{HasName, TagHasName};
 ghost use Rattle.cmark_safe.specs.SafeEvents.{anchored, own_name, safe, safe_destination, safe_end, safe_tag};
 
@@ -18,6 +18,7 @@ use std::alloc::{AllocError, Global};
 /// Raw HTML becomes text, and an HTML block a paragraph. A heading keeps its level and its anchor, and no other attribute. An anchor and
 /// the name of a footnote get the prefix `user-content-`, the only step that takes memory. A destination becomes empty unless its address
 /// is relative or has an allowed scheme.
+#[inline(always)]
 pub fn safe_event<'a>(
     alloc: Global,
     further: &str,
@@ -39,7 +40,8 @@ pub fn safe_event<'a>(
 /// Whether the safe form of an event that owns nothing may differ from it: only raw HTML differs.
 #[inline(always)]
 pub fn is_raw(short: &Short<'_>) -> bool
-    ensures { result ≡ false → (further : List ℕ) → safe further (shown_short short.now) ≡ shown_short short.now }
+    ensures { result ≡ false → (further : List ℕ) →
+        safe further (shown_short short.now) ≡ shown_short short.now }
 {
     match short {
         Short::Html(_) => true,
@@ -77,7 +79,8 @@ pub fn safe_destination<'x>(further: &str, destination: &'x str) -> &'x str
 
 /// The safe form of a start.
 fn safe_tag<'a>(alloc: Global, further: &str, tag: Tag<'a>) -> Result<Tag<'a>, AllocError>
-    ensures value { IfOk result (λ made. shown_tag made ≡ safe_tag further.now (shown_tag tag.entry)) }
+    ensures value { IfOk result
+        (λ made. shown_tag made ≡ safe_tag further.now (shown_tag tag.entry)) }
     ensures refused { IfErr result (λ error. TagHasName tag.entry) }
 {
     match tag {
@@ -135,7 +138,8 @@ fn safe_heading<'a>(
     level: HeadingLevel,
     id: Option<CowStr<'a>>,
 ) -> Result<Tag<'a>, AllocError>
-    ensures value { IfOk result (λ made. shown_tag made ≡ grammar.Heading (level_number level) (anchored (option_map text_bytes id.entry))) }
+    ensures value { IfOk result (λ made. shown_tag made
+        ≡ grammar.Heading (level_number level) (anchored (option_map text_bytes id.entry))) }
     ensures refused { IfErr result (λ error. IsSome id.entry) }
 {
     let id = match id {

@@ -27,8 +27,8 @@ pub fn is_allowed(further: &str, destination: &str) -> bool
 fn scheme_of(destination: &[u8]) -> Option<&[u8]>
     ensures { option_map (λ name. name.now) result ≡ unwritten_scheme destination.now }
 {
-    let (name, behind) = destination.split_at(count_before_sign(destination));
-    match behind.first() {
+    let (name, following) = destination.split_at(count_before_sign(destination));
+    match following.first() {
         Some(b':') => Some(name),
         _ => None,
     }
@@ -96,7 +96,7 @@ fn is_word_of(list: &str, name: &[u8]) -> bool
     false
 }
 
-/// Whether the names are the same, in any case.
+/// Whether the names are equal, in any case.
 fn is_same(name: &[u8], other: &[u8]) -> bool
     ensures { result ≡ str_eq_ignore_ascii_case name.now other.now }
 {

@@ -207,7 +207,7 @@ module _ (p : ℕ → Bool) (bs : List ℕ) (from at n passed : ℕ) (room : at 
   chunk-fails k high low =
       elim (cases_lt k at) [
         | inl below ↦ before k high below
-        | inr behind ↦ run_in_chunk_fails p bs at n passed 0 room is k (omega arith) low
+        | inr following ↦ run_in_chunk_fails p bs at n passed 0 room is k (omega arith) low
       ]
 
   pub chunk-le : passed ≤ n
@@ -256,7 +256,7 @@ front-place p bs more = sym (position_or_len_is p bs at 0 (omega arith) before h
 -- bytes were written to the front of a row: their first `size` and their last `size`, which together are all of them
 pub ends-written : (bytes row : List ℕ) (size : ℕ) → size ≤ length bytes → length bytes ≤ size + size
     → put_mid (length bytes - size) (length bytes - (length bytes - size)) (take size bytes ++ post_of 0 size row) (drop (length bytes - size) bytes) ≡ bytes ++ drop (length bytes) row
-ends-written bytes row size fits all = (λ i. front i ++ (drop at bytes ++ behind i)) ∙ whole
+ends-written bytes row size fits all = (λ i. front i ++ (drop at bytes ++ following i)) ∙ whole
   where
     at : ℕ
     at = length bytes - size
@@ -270,8 +270,8 @@ ends-written bytes row size fits all = (λ i. front i ++ (drop at bytes ++ behin
     front : take at written ≡ take at bytes
     front = take-append-le at (take size bytes) (drop size row) within ∙ sym (take-append-le at (take size bytes) (drop size bytes) within) ∙ ap (take at) (take-append-drop size bytes)
 
-    behind : drop (length bytes - at) (drop at written) ≡ drop (length bytes) row
-    behind = drop-drop (length bytes - at) at written ∙ ap (λ n. drop n written) (omega arith) ∙ drop-append-drop size row (take size bytes) (length bytes) fits (length-take-le size bytes fits)
+    following : drop (length bytes - at) (drop at written) ≡ drop (length bytes) row
+    following = drop-drop (length bytes - at) at written ∙ ap (λ n. drop n written) (omega arith) ∙ drop-append-drop size row (take size bytes) (length bytes) fits (length-take-le size bytes fits)
 
     whole : take at bytes ++ (drop at bytes ++ drop (length bytes) row) ≡ bytes ++ drop (length bytes) row
     whole = sym (append_assoc (take at bytes) (drop at bytes) (drop (length bytes) row)) ∙ ap (λ l. l ++ drop (length bytes) row) (take-append-drop at bytes)

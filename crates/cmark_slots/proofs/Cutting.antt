@@ -13,18 +13,18 @@ use Rattle.cmark_slots.specs.declared.slot.SlotKind.{SlotKind}
 
 -- ## What is hidden
 pub hides-none : (from : ℕ) (ss : List Slot) → Hides from from ss ss
-hides-none from ss = record { size = refl; inside = λ k d low high. absurd (omega (arith, low, high)); before = λ k d lt. refl; behind = λ k d le. refl }
+hides-none from ss = record { size = refl; inside = λ k d low high. absurd (omega (arith, low, high)); before = λ k d lt. refl; following = λ k d le. refl }
 
 pub hides-more : (from at : ℕ) (old ss ts : List Slot) (d : Slot) → Hides from at old ss → from ≤ at → at < length ss → ts ≡ set ss at (hidden (get_or ss at d)) → Hides from (at + 1) old ts
 hides-more from at old ss ts d0 h le lt e = record {
   size = ap length e ∙ length-set ss at (hidden (get_or ss at d0)) ∙ h.size;
   inside = λ k d low high. ap (λ (l : List Slot). get_or l k d) e ∙ go k d low (nat_lt k at) refl (omega (arith, high));
   before = λ k d low. ap (λ (l : List Slot). get_or l k d) e ∙ get_or-set_other ss at k (hidden (get_or ss at d0)) d (λ (q : k ≡ at). absurd (omega (arith, q, low, le))) ∙ h.before k d low;
-  behind = λ k d low. ap (λ (l : List Slot). get_or l k d) e ∙ get_or-set_other ss at k (hidden (get_or ss at d0)) d (λ (q : k ≡ at). absurd (omega (arith, q, low))) ∙ h.behind k d (omega (arith, low));
+  following = λ k d low. ap (λ (l : List Slot). get_or l k d) e ∙ get_or-set_other ss at k (hidden (get_or ss at d0)) d (λ (q : k ≡ at). absurd (omega (arith, q, low))) ∙ h.following k d (omega (arith, low));
 }
   where
     same-there : (k : ℕ) (d : Slot) → k ≡ at → get_or ss at d0 ≡ get_or old k d
-    same-there k d q = get_or_default ss at d0 d lt ∙ h.behind at d (omega arith) ∙ ap (λ n. get_or old n d) (sym q)
+    same-there k d q = get_or_default ss at d0 d lt ∙ h.following at d (omega arith) ∙ ap (λ n. get_or old n d) (sym q)
 
     go : (k : ℕ) (d : Slot) → from ≤ k → (z : Bool) → nat_lt k at ≡ z → k ≤ at → get_or (set ss at (hidden (get_or ss at d0))) k d ≡ hidden (get_or old k d)
     go k d low true b m =

@@ -10,7 +10,7 @@ use Rattle.cmark_grammar.specs.Siblings.{item}
 use Rattle.cmark_grammar.specs.Tag.{Tag}
 use Rattle.cmark_leaf_text.specs.Reads.{place_of, text_of}
 use Rattle.cmark_leaf_text.specs.declared.leaf_text.LeafText.{LeafText}
-use Rattle.cmark_text_parts.specs.declared.text.CowStr.{CowStr}
+use Rattle.cmark_values.specs.declared.text.CowStr.{CowStr}
 use Rattle.cmark_inline_model.specs.Displays.{CanBeCut, CutFacts, IsCutThere, ShowsLike, begun_from, display_slots, empty_text, hidden_by, shown_from}
 use Rattle.cmark_inline_model.specs.Displays as row_shows
 use Rattle.cmark_inline_model.specs.LikeSlots.{AreLike, IsLike}
@@ -19,7 +19,7 @@ use Rattle.cmark_inline_model.proofs.DisplayRows.{EndBy, nothings, nothings-appe
 use Rattle.cmark_inline_model.proofs.RowPasses.{like-both}
 use Rattle.cmark_slots.specs.SlotViews.{shown_element, shown_slot, shown_slots, slot_as}
 use Rattle.cmark_slots.specs.Standing.{EndsIn, source_end}
-use Rattle.cmark_slots.specs.Cuts.{cut_at, cut_kind, cut_slot, ends_by, has_none_behind, hidden}
+use Rattle.cmark_slots.specs.Cuts.{cut_at, cut_kind, cut_slot, ends_by, has_none_after, hidden}
 use Rattle.cmark_references.specs.declared.link.Link.{Link}
 use Rattle.cmark_slots.specs.declared.slot.Slot.{Slot}
 use Rattle.cmark_slots.specs.declared.slot.SlotKind.{SlotKind}
@@ -127,7 +127,7 @@ module _ (leaf : LeafText) (source : List ℕ) (texts : List CowStr) (links : Li
 
   -- the slot ends by the offset in the text if its slot of the model ends by the offset in the source
   ends-kind : (slot : Slot) (k : SlotKind) (y : row.Slot) → slot.start < slot.end → slot.end ≤ length (text_of leaf) → EndsIn leaf slot.end (source_end k) → IsLike source (slot_as leaf texts links slot k) y
-      → row_shows.ends_by display y ≡ (has_none_behind t slot.start k || nat_le slot.end t)
+      → row_shows.ends_by display y ≡ (has_none_after t slot.start k || nat_le slot.end t)
   ends-kind slot kind.Text y some fits e h = item-end _ y h ∙ past-same slot.end (omega (arith, some)) fits
   ends-kind slot (kind.OwnedText index) y some fits e h = item-end _ y h ∙ past-same slot.end (omega (arith, some)) fits
   ends-kind slot (kind.Character character) y some fits e h = item-end _ y h ∙ past-same slot.end (omega (arith, some)) fits
@@ -220,7 +220,7 @@ module _ (leaf : LeafText) (source : List ℕ) (texts : List CowStr) (links : Li
   begin-start slot kind.End tag start end h = absurd (let z : ⊥ = cc in z)
   begin-start slot kind.Nothing tag start end h = absurd (let z : ⊥ = cc in z)
 
-  module _ (text : List ℕ) (slot : Slot) (good : IsGood slot) (behind : t < slot.end)
+  module _ (text : List ℕ) (slot : Slot) (good : IsGood slot) (following : t < slot.end)
       (cuts : (x : Item) → IsLike source (shown_slot leaf texts links slot) (row.ItemSlot x) → slot.start < t → display < x.end → CutFacts source x → IsLike source (shown_slot leaf texts links (cut_slot text t slot)) (row.ItemSlot (item x.kind display x.end))) where
     kept : nat_lt slot.start t ≡ false → cut_slot text t slot ≡ slot
     kept e = ap (λ z. if z && nat_lt t slot.end then record { kind = cut_kind text slot.start slot.end slot.kind; start = t; end = slot.end } else slot) e
@@ -304,16 +304,16 @@ module _ (leaf : LeafText) (source : List ℕ) (texts : List CowStr) (links : Li
         let s = like-split source (L front) (L (mid ++ rest)) rows (subst (λ l. AreLike source l rows) (map-append (shown_slot leaf texts links) front (mid ++ rest)) like) in
         subst (λ k. AreLike source (L front) (take k rows)) (length-map front (shown_slot leaf texts links)) s.0
 
-    behind-like : AreLike source (L mid ++ L rest) (drop n rows)
-    behind-like =
+    following-like : AreLike source (L mid ++ L rest) (drop n rows)
+    following-like =
         let s = like-split source (L front) (L (mid ++ rest)) rows (subst (λ l. AreLike source l rows) (map-append (shown_slot leaf texts links) front (mid ++ rest)) like) in
         subst (λ l. AreLike source l (drop n rows)) (map-append (shown_slot leaf texts links) mid rest) (subst (λ k. AreLike source (L (mid ++ rest)) (drop k rows)) (length-map front (shown_slot leaf texts links)) s.1)
 
     mid-rows-like : AreLike source (L mid) mid_rows
-    mid-rows-like = subst (λ k. AreLike source (L mid) (take k (drop n rows))) (length-map mid (shown_slot leaf texts links)) (like-split source (L mid) (L rest) (drop n rows) behind-like).0
+    mid-rows-like = subst (λ k. AreLike source (L mid) (take k (drop n rows))) (length-map mid (shown_slot leaf texts links)) (like-split source (L mid) (L rest) (drop n rows) following-like).0
 
     rest-rows-like : AreLike source (L rest) rest_rows
-    rest-rows-like = subst (λ k. AreLike source (L rest) (drop k (drop n rows))) (length-map mid (shown_slot leaf texts links)) (like-split source (L mid) (L rest) (drop n rows) behind-like).1
+    rest-rows-like = subst (λ k. AreLike source (L rest) (drop k (drop n rows))) (length-map mid (shown_slot leaf texts links)) (like-split source (L mid) (L rest) (drop n rows) following-like).1
 
     parted : mid_rows ++ rest_rows ≡ drop n rows
     parted = take-append-drop (length mid) (drop n rows)

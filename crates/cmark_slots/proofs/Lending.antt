@@ -6,10 +6,10 @@ use Rattle.cmark_grammar.specs.Tokens.{slice}
 use Rattle.cmark_leaf_text.proofs.StretchSteps.{slice-length, part-there}
 use Rattle.cmark_leaf_text.specs.Reads.{IsPart, IsRead, place_of, source_of, text_of}
 use Rattle.cmark_leaf_text.specs.declared.leaf_text.LeafText.{LeafText}
-use Rattle.cmark_text_parts.specs.Shown.{IsBoxed, IsInlined, text_bytes}
-use Rattle.cmark_text_parts.specs.Lending.{IsLentBy, IsPartIfBorrowed, IsPartOf}
-use Rattle.cmark_text_parts.specs.declared.text.CowStr.{CowStr}
-use Rattle.cmark_text_parts.specs.declared.text.CowStr.TheVariants.{Boxed, Borrowed, Inlined}
+use Rattle.cmark_values.specs.Shown.{IsBoxed, IsInlined, text_bytes}
+use Rattle.cmark_values.specs.Lending.{IsLentBy, IsPartIfBorrowed, IsPartOf}
+use Rattle.cmark_values.specs.declared.text.CowStr.{CowStr}
+use Rattle.cmark_values.specs.declared.text.CowStr.TheVariants.{Boxed, Borrowed, Inlined}
 
 -- a text of its own that is not these bytes
 pub own-unlent : (made : CowStr) (bytes : List ℕ) → IsBoxed made ⊎ IsInlined made → text_bytes made ≢ bytes → IsLentBy bytes made

@@ -6,7 +6,7 @@ use Rattle.cmark_grammar.specs.Tag as tag
 use Rattle.cmark_grammar.specs.Tag.{Tag}
 use Rattle.cmark_inline_model.specs.SlotRows as row
 use Rattle.cmark_leaf_text.specs.declared.leaf_text.LeafText.{LeafText}
-use Rattle.cmark_text_parts.specs.declared.text.CowStr.{CowStr}
+use Rattle.cmark_values.specs.declared.text.CowStr.{CowStr}
 use Rattle.cmark_slots.specs.SlotViews.{IsThere, bytes_or_none, first_of, item_slot, link_named, link_of, linked_or_none, shown_element, shown_slot, shown_slots, slot_as, slot_end, text_named}
 use Rattle.cmark_slots.specs.Standing.{AreNamed}
 use Rattle.cmark_references.specs.declared.link.Link.{Link}

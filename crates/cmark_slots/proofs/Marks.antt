@@ -15,7 +15,7 @@ use Rattle.cmark_inline_model.specs.SlotRows as row
 use Rattle.cmark_inline_model.specs.SlotRows.{Mark, marked, spanned, start_in, end_in, used_up}
 use Rattle.cmark_leaf_text.specs.Reads.{place_of}
 use Rattle.cmark_leaf_text.specs.declared.leaf_text.LeafText.{LeafText}
-use Rattle.cmark_text_parts.specs.declared.text.CowStr.{CowStr}
+use Rattle.cmark_values.specs.declared.text.CowStr.{CowStr}
 use Rattle.cmark_slots.specs.MarkedSlots.{AreAhead, AreBegun, AreReady, AreWhole, BeganFrom, EndWithin, Merges, SameBefore, begun_as, ended, last_in, shown_mark, whole_to}
 use Rattle.cmark_slots.specs.SlotViews.{slot_as, shown_slot, shown_slots, shown_element, item_slot, first_of, slot_end}
 use Rattle.cmark_slots.specs.Cuts.{Hides, hidden}
@@ -62,7 +62,7 @@ whole-hides from to old new h whole i k d ik kl within =
     let there : k < length old = omega (arith, within, n) in
     ⊎_elim
     (λ (low : k < from). kept i k d ik kl there (h.before k d low))
-    (λ (high : from ≤ k). ⊎_elim (λ (l : k < to). ap (λ (x : Slot). x.kind) (h.inside k d high l)) (λ (g : to ≤ k). kept i k d ik kl there (h.behind k d g)) (cases_lt k to))
+    (λ (high : from ≤ k). ⊎_elim (λ (l : k < to). ap (λ (x : Slot). x.kind) (h.inside k d high l)) (λ (g : to ≤ k). kept i k d ik kl there (h.following k d g)) (cases_lt k to))
     (cases_lt k from)
   where
     reach : (i k : ℕ) (d : Slot) → i < k → k ≤ last_in (get_or new i d).kind i → k ≤ last_in (get_or old i d).kind i
@@ -71,7 +71,7 @@ whole-hides from to old new h whole i k d ik kl within =
         (λ (low : i < from). subst (λ (x : Slot). k ≤ last_in x.kind i) (h.before i d low) kl)
         (λ (high : from ≤ i). ⊎_elim
         (λ (l : i < to). let no : k ≤ i = subst (λ (x : Slot). k ≤ last_in x.kind i) (h.inside i d high l) kl in absurd (omega (arith, ik, no)))
-        (λ (g : to ≤ i). subst (λ (x : Slot). k ≤ last_in x.kind i) (h.behind i d g) kl)
+        (λ (g : to ≤ i). subst (λ (x : Slot). k ≤ last_in x.kind i) (h.following i d g) kl)
         (cases_lt i to))
         (cases_lt i from)
 
@@ -120,7 +120,7 @@ whole-merges first last old new m whole lt within text =
 pub record SameAround (low high : ℕ) (old new : List Slot) : Type 0 where
   pub size : length new ≡ length old
   pub before : (k : ℕ) (d : Slot) → k < low → get_or new k d ≡ get_or old k d
-  pub behind : (k : ℕ) (d : Slot) → high ≤ k → get_or new k d ≡ get_or old k d
+  pub following : (k : ℕ) (d : Slot) → high ≤ k → get_or new k d ≡ get_or old k d
 
 pub begun-further : (slots : List Slot) (below below1 end end1 : ℕ) (begun : List ℕ) → AreBegun slots below end begun → below ≤ below1 → end ≤ end1 → AreBegun slots below1 end1 begun
 begun-further slots below below1 end end1 [] h b e = tt
@@ -145,8 +145,8 @@ ahead-around low high from end old new (at ∷ places) same le h =
       h.0,
       f,
       (let q : at < length new = omega (arith, w, n) in q),
-      (λ d. ap (λ (x : Slot). x.kind) (same.behind at d b) ∙ h.3 d),
-      (λ d. ap (λ (x : Slot). x.end) (same.behind at d b) ∙ h.4 d),
+      (λ d. ap (λ (x : Slot). x.kind) (same.following at d b) ∙ h.3 d),
+      (λ d. ap (λ (x : Slot). x.end) (same.following at d b) ∙ h.4 d),
       h.5,
       ahead-around low high (suc at) h.0 old new places same (let q : high ≤ suc at = omega (arith, b) in q) h.6,
     )
@@ -155,14 +155,14 @@ same-set : (at : ℕ) (s : Slot) (slots : List Slot) → SameAround at (suc at) 
 same-set at s slots = record {
   size = length-set slots at s;
   before = λ k d lt. get_or-set_other slots at k s d (λ (q : k ≡ at). absurd (omega (arith, q, lt)));
-  behind = λ k d le. get_or-set_other slots at k s d (λ (q : k ≡ at). absurd (omega (arith, q, le)));
+  following = λ k d le. get_or-set_other slots at k s d (λ (q : k ≡ at). absurd (omega (arith, q, le)));
 }
 
 same-sets : (first at : ℕ) (s t : Slot) (slots : List Slot) → first < at → SameAround first (suc at) slots (set (set slots at s) first t)
 same-sets first at s t slots lt = record {
   size = length-set (set slots at s) first t ∙ length-set slots at s;
   before = λ k d l. get_or-set_other (set slots at s) first k t d (λ (q : k ≡ first). absurd (omega (arith, q, l))) ∙ get_or-set_other slots at k s d (λ (q : k ≡ at). absurd (omega (arith, q, l, lt)));
-  behind = λ k d le. get_or-set_other (set slots at s) first k t d (λ (q : k ≡ first). absurd (omega (arith, q, le, lt))) ∙ get_or-set_other slots at k s d (λ (q : k ≡ at). absurd (omega (arith, q, le)));
+  following = λ k d le. get_or-set_other (set slots at s) first k t d (λ (q : k ≡ first). absurd (omega (arith, q, le, lt))) ∙ get_or-set_other slots at k s d (λ (q : k ≡ at). absurd (omega (arith, q, le)));
 }
 
 same-merges : (first last : ℕ) (old new : List Slot) → Merges first last old new → first < last → SameAround first (suc last) old new
@@ -171,7 +171,7 @@ same-merges first last old new m lt =
     subst (SameAround first (suc last) old) (sym (m.slots_are no-slot)) (record {
       size = length-set m.between first s ∙ m.hides.size;
       before = λ k d l. get_or-set_other m.between first k s d (λ (q : k ≡ first). absurd (omega (arith, q, l))) ∙ m.hides.before k d (omega (arith, l));
-      behind = λ k d le. get_or-set_other m.between first k s d (λ (q : k ≡ first). absurd (omega (arith, q, le, lt))) ∙ m.hides.behind k d (omega (arith, le));
+      following = λ k d le. get_or-set_other m.between first k s d (λ (q : k ≡ first). absurd (omega (arith, q, le, lt))) ∙ m.hides.following k d (omega (arith, le));
     })
 
 -- ## One mark
@@ -187,17 +187,17 @@ module _ (slots : List Slot) (begun : List ℕ) (at : ℕ) (places : List ℕ) (
       record {
         from = suc at;
         end = r.ahead.0;
-        behind = begun-further slots r.from (suc at) r.end r.ahead.0 begun r.behind (let q : r.from ≤ suc at = omega (arith, f) in q) e;
+        following = begun-further slots r.from (suc at) r.end r.ahead.0 begun r.following (let q : r.from ≤ suc at = omega (arith, f) in q) e;
         ahead = r.ahead.6;
         whole = r.whole;
         kinds = r.kinds;
-        balanced = single-behind r.kinds r.balanced;
+        balanced = single-following r.kinds r.balanced;
         as_many = r.as_many;
       }
     where
-      single-behind : (kinds : List code_kind.SpanKind) → AreBalanced kinds (mark.Single ∷ others) → AreBalanced kinds others
-      single-behind [] b = b
-      single-behind (k ∷ kinds) b = b
+      single-following : (kinds : List code_kind.SpanKind) → AreBalanced kinds (mark.Single ∷ others) → AreBalanced kinds others
+      single-following [] b = b
+      single-following (k ∷ kinds) b = b
 
   pub ready-begin : (k : code_kind.SpanKind) → Ready (mark.Begin k) → AreReady slots (at ∷ begun) places others
   ready-begin k r =
@@ -207,17 +207,17 @@ module _ (slots : List Slot) (begun : List ℕ) (at : ℕ) (places : List ℕ) (
       record {
         from = suc at;
         end = r.ahead.0;
-        behind = (omega arith, r.ahead.3, (λ d. let t = there d in let q : (get_or slots at d).end ≤ r.ahead.0 = omega (arith, t) in q), begun-further slots r.from at r.end r.ahead.0 begun r.behind f e);
+        following = (omega arith, r.ahead.3, (λ d. let t = there d in let q : (get_or slots at d).end ≤ r.ahead.0 = omega (arith, t) in q), begun-further slots r.from at r.end r.ahead.0 begun r.following f e);
         ahead = r.ahead.6;
         whole = r.whole;
         kinds = k ∷ r.kinds;
-        balanced = begin-behind r.kinds r.balanced;
+        balanced = begin-following r.kinds r.balanced;
         as_many = ap suc r.as_many;
       }
     where
-      begin-behind : (kinds : List code_kind.SpanKind) → AreBalanced kinds (mark.Begin k ∷ others) → AreBalanced (k ∷ kinds) others
-      begin-behind [] b = b
-      begin-behind (x ∷ kinds) b = b
+      begin-following : (kinds : List code_kind.SpanKind) → AreBalanced kinds (mark.Begin k ∷ others) → AreBalanced (k ∷ kinds) others
+      begin-following [] b = b
+      begin-following (x ∷ kinds) b = b
 
   pub ready-blank : (new : List Slot) → Ready mark.Blank → ((d : Slot) → new ≡ set slots at (hidden (get_or slots at d))) → AreReady new begun places others
   ready-blank new r is =
@@ -228,17 +228,17 @@ module _ (slots : List Slot) (begun : List ℕ) (at : ℕ) (places : List ℕ) (
       subst (λ (l : List Slot). AreReady l begun places others) (sym (is no-slot)) (record {
         from = suc at;
         end = r.ahead.0;
-        behind = begun-further (set slots at s) at (suc at) r.ahead.0 r.ahead.0 begun (begun-around at (suc at) at r.ahead.0 slots (set slots at s) begun same (omega arith) (begun-further slots r.from at r.end r.ahead.0 begun r.behind f e)) (omega arith) (omega arith);
+        following = begun-further (set slots at s) at (suc at) r.ahead.0 r.ahead.0 begun (begun-around at (suc at) at r.ahead.0 slots (set slots at s) begun same (omega arith) (begun-further slots r.from at r.end r.ahead.0 begun r.following f e)) (omega arith) (omega arith);
         ahead = ahead-around at (suc at) (suc at) r.ahead.0 slots (set slots at s) places same (omega arith) r.ahead.6;
         whole = whole-set slots at s no-slot r.whole r.ahead.2 (r.ahead.3 no-slot) (λ i. refl);
         kinds = r.kinds;
-        balanced = blank-behind r.kinds r.balanced;
+        balanced = blank-following r.kinds r.balanced;
         as_many = r.as_many;
       })
     where
-      blank-behind : (kinds : List code_kind.SpanKind) → AreBalanced kinds (mark.Blank ∷ others) → AreBalanced kinds others
-      blank-behind [] b = b
-      blank-behind (k ∷ kinds) b = b
+      blank-following : (kinds : List code_kind.SpanKind) → AreBalanced kinds (mark.Blank ∷ others) → AreBalanced kinds others
+      blank-following [] b = b
+      blank-following (k ∷ kinds) b = b
 
 -- at the end of a span: the span that began last
 pub record EndsLast (slots : List Slot) (begun : List ℕ) (at : ℕ) (places : List ℕ) (others : List code_mark.Slot) : Type 0 where
@@ -255,15 +255,15 @@ pub record EndsLast (slots : List Slot) (begun : List ℕ) (at : ℕ) (places : 
 
 ends-last : (slots : List Slot) (begun : List ℕ) (at : ℕ) (places : List ℕ) (others : List code_mark.Slot) (k : code_kind.SpanKind) → (r : AreReady slots begun (at ∷ places) (mark.End k ∷ others))
     → (kinds : List code_kind.SpanKind) → AreBalanced kinds (mark.End k ∷ others) → length kinds ≡ length begun → AreBegun slots r.from r.end begun → EndsLast slots begun at places others
-ends-last slots [] at places others k r [] b n behind = absurd b
-ends-last slots [] at places others k r (x ∷ kinds) b n behind = absurd (omega (arith, n))
-ends-last slots (first ∷ before) at places others k r [] b n behind = absurd b
-ends-last slots (first ∷ before) at places others k r (x ∷ kinds) b n behind =
+ends-last slots [] at places others k r [] b n following = absurd b
+ends-last slots [] at places others k r (x ∷ kinds) b n following = absurd (omega (arith, n))
+ends-last slots (first ∷ before) at places others k r [] b n following = absurd b
+ends-last slots (first ∷ before) at places others k r (x ∷ kinds) b n following =
     let f = r.ahead.1 in
     let e = r.ahead.5 in
-    let l = behind.0 in
+    let l = following.0 in
     let below : first < at = omega (arith, l, f) in
-    let ends = behind.2 in
+    let ends = following.2 in
     let there = r.ahead.4 in
     record {
       first = first;
@@ -272,13 +272,13 @@ ends-last slots (first ∷ before) at places others k r (x ∷ kinds) b n behind
       below = below;
       within = r.ahead.2;
       whole = r.whole;
-      first_text = behind.1;
+      first_text = following.1;
       last_text = r.ahead.3;
       order = λ d. let x = ends d in let y = there d in let q : (get_or slots first d).end ≤ (get_or slots at d).end = omega (arith, x, y, e) in q;
       goes_on = λ new same whole. record {
         from = suc at;
         end = r.ahead.0;
-        behind = begun-further new first (suc at) r.end r.ahead.0 before (begun-around first (suc at) first r.end slots new before same (omega arith) behind.3) (let q : first ≤ suc at = omega (arith, below) in q) e;
+        following = begun-further new first (suc at) r.end r.ahead.0 before (begun-around first (suc at) first r.end slots new before same (omega arith) following.3) (let q : first ≤ suc at = omega (arith, below) in q) e;
         ahead = ahead-around first (suc at) (suc at) r.ahead.0 slots new places same (omega arith) r.ahead.6;
         whole = whole;
         kinds = kinds;
@@ -288,7 +288,7 @@ ends-last slots (first ∷ before) at places others k r (x ∷ kinds) b n behind
     }
 
 pub ends-one : (slots : List Slot) (begun : List ℕ) (at : ℕ) (places : List ℕ) (others : List code_mark.Slot) (k : code_kind.SpanKind) → AreReady slots begun (at ∷ places) (mark.End k ∷ others) → EndsLast slots begun at places others
-ends-one slots begun at places others k r = ends-last slots begun at places others k r r.kinds r.balanced r.as_many r.behind
+ends-one slots begun at places others k r = ends-last slots begun at places others k r r.kinds r.balanced r.as_many r.following
 
 -- ## The same lemmas for slots of the model
 
@@ -301,10 +301,10 @@ used-before zero at k rows d lt = refl
 used-before (suc count) at k rows d lt =
     used-before count (suc at) k (set rows at row.NothingSlot) d (omega (arith, lt)) ∙ get_or-set_other rows at k row.NothingSlot d (λ (q : k ≡ at). absurd (omega (arith, q, lt)))
 
-used-behind : (count at k : ℕ) (rows : List row.Slot) (d : row.Slot) → at + count ≤ k → get_or (used_up at count rows) k d ≡ get_or rows k d
-used-behind zero at k rows d le = refl
-used-behind (suc count) at k rows d le =
-    used-behind count (suc at) k (set rows at row.NothingSlot) d (omega (arith, le)) ∙ get_or-set_other rows at k row.NothingSlot d (λ (q : k ≡ at). absurd (omega (arith, q, le)))
+used-following : (count at k : ℕ) (rows : List row.Slot) (d : row.Slot) → at + count ≤ k → get_or (used_up at count rows) k d ≡ get_or rows k d
+used-following zero at k rows d le = refl
+used-following (suc count) at k rows d le =
+    used-following count (suc at) k (set rows at row.NothingSlot) d (omega (arith, le)) ∙ get_or-set_other rows at k row.NothingSlot d (λ (q : k ≡ at). absurd (omega (arith, q, le)))
 
 used-in : (count at k : ℕ) (rows : List row.Slot) (d : row.Slot) → at ≤ k → k < at + count → k < length rows → get_or (used_up at count rows) k d ≡ row.NothingSlot
 used-in zero at k rows d low high within = absurd (omega (arith, low, high))
@@ -368,7 +368,7 @@ module _ (leaf : LeafText) (texts : List CowStr) (links : List Link) where
       (λ (low : k < from). ap view (h.before k no-slot low) ∙ sym (get_or-map (shown_slot leaf texts links) old k no-slot d in-old) ∙ sym (used-before count from k (views old) d low))
       (λ (high : from ≤ k). ⊎_elim
       (λ (l : k < to). ap view (h.inside k no-slot high l) ∙ sym (used-in count from k (views old) d high (let q : k < from + count = omega (arith, l, is) in q) in-rows))
-      (λ (g : to ≤ k). ap view (h.behind k no-slot g) ∙ sym (get_or-map (shown_slot leaf texts links) old k no-slot d in-old) ∙ sym (used-behind count from k (views old) d (let q : from + count ≤ k = omega (arith, g, is) in q)))
+      (λ (g : to ≤ k). ap view (h.following k no-slot g) ∙ sym (get_or-map (shown_slot leaf texts links) old k no-slot d in-old) ∙ sym (used-following count from k (views old) d (let q : from + count ≤ k = omega (arith, g, is) in q)))
       (cases_lt k to))
       (cases_lt k from))
 
@@ -429,10 +429,10 @@ module _ (slots new : List Slot) (begun begun1 : List ℕ) (at : ℕ) (places : 
       (e.goes_on new (same-merges e.first at slots new m e.below) (whole-merges e.first at slots new m e.whole e.below e.within e.first_text))
 
 -- the first slot of an element, after its end
-pub begun-behind : (old mid new : List Slot) (first last at end : ℕ) (e : Element) (d : Slot) → last ≡ first → mid ≡ set old at (ended (get_or old at d)) → end ≡ (get_or old at d).end
+pub begun-following : (old mid new : List Slot) (first last at end : ℕ) (e : Element) (d : Slot) → last ≡ first → mid ≡ set old at (ended (get_or old at d)) → end ≡ (get_or old at d).end
     → ((d1 : Slot) → new ≡ set mid last (begun_as e end (get_or mid last d1))) → first < at
     → new ≡ set (set old at (ended (get_or old at d))) first (begun_as e (get_or old at d).end (get_or old first d))
-begun-behind old mid new first last at end e d same m n is lt =
+begun-following old mid new first last at end e d same m n is lt =
     let a : Slot = ended (get_or old at d) in
     is d
     ∙ ap (λ (l : List Slot). set l last (begun_as e end (get_or l last d))) m
@@ -484,7 +484,7 @@ within-hides from to old new x h i d lt =
     let same : get_or new i d ≡ get_or old i d → last_in (get_or new i d).kind i < length new =
     λ e. subst (λ m. last_in (get_or new i d).kind i < m) (sym n) (subst (λ (s : Slot). last_in s.kind i < length old) (sym e) (h i d there)) in
     ⊎_elim (λ (low : i < from). same (x.before i d low))
-    (λ (high : from ≤ i). ⊎_elim (λ (l : i < to). subst (λ (s : Slot). last_in s.kind i < length new) (sym (x.inside i d high l)) lt) (λ (g : to ≤ i). same (x.behind i d g)) (cases_lt i to))
+    (λ (high : from ≤ i). ⊎_elim (λ (l : i < to). subst (λ (s : Slot). last_in s.kind i < length new) (sym (x.inside i d high l)) lt) (λ (g : to ≤ i). same (x.following i d g)) (cases_lt i to))
     (cases_lt i from)
 
 pub within-merges : (first last : ℕ) (old new : List Slot) → Merges first last old new → first < last → last < length old → EndWithin old → EndWithin new

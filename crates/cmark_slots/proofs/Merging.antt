@@ -21,7 +21,7 @@ module _ (first at last end : ℕ) (old ss : List Slot) (d0 : Slot) (h : Hides (
   next-as d =
       let m = h.size in
       let there : at + 1 < length ss = omega (arith, m, lt, within) in
-      get_or_default ss (at + 1) d0 d there ∙ h.behind (at + 1) d (omega arith)
+      get_or_default ss (at + 1) d0 d there ∙ h.following (at + 1) d (omega arith)
 
   -- no whole text between reaches over the last one, which is a text
   pub ends-by : ((d : Slot) → (get_or old last d).kind ≡ kind.Text) → end ≡ last_in (get_or ss (at + 1) d0).kind (at + 1) → end ≤ last
@@ -50,11 +50,11 @@ module _ (first at last end : ℕ) (old ss : List Slot) (d0 : Slot) (h : Hides (
         size = one.size;
         inside = λ k d l g. ⊎_elim (λ (x : k < at + 1 + 1). one.inside k d l x) (λ (x : at + 1 + 1 ≤ k). gone k d x g one) (cases_lt k (at + 1 + 1));
         before = one.before;
-        behind = λ k d l. one.behind k d (omega (arith, l, order));
+        following = λ k d l. one.following k d (omega (arith, l, order));
       }
     where
       gone : (k : ℕ) (d : Slot) → at + 1 + 1 ≤ k → k < end + 1 → Hides (first + 1) (at + 1 + 1) old ts → get_or ts k d ≡ hidden (get_or old k d)
       gone k d l g one =
           let far : end ≡ last_in (get_or old (at + 1) d).kind (at + 1) = reach ∙ ap (λ (s : Slot). last_in s.kind (at + 1)) (next-as d) in
           let high : k ≤ last_in (get_or old (at + 1) d).kind (at + 1) = subst (λ x. k ≤ x) far (let q : k ≤ end = omega (arith, g) in q) in
-          one.behind k d l ∙ already-hidden (get_or old k d) (whole (at + 1) k d (omega (arith, l)) high (let q : k < length old = omega (arith, g, by, within) in q))
+          one.following k d l ∙ already-hidden (get_or old k d) (whole (at + 1) k d (omega (arith, l)) high (let q : k < length old = omega (arith, g, by, within) in q))

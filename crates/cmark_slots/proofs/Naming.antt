@@ -159,7 +159,7 @@ no-more-hides from to old new h = λ k d lt.
     go : (k : ℕ) (d : Slot) → k < length old → (k < from) ⊎ (from ≤ k) → (k < to) ⊎ (to ≤ k) → IsPlain (get_or new k d).kind ⊎ ((k < length old) × NamesAs (get_or old k d) (get_or new k d))
     go k d there (inl low) other = inr (there, same-as (get_or old k d) (get_or new k d) (h.before k d low))
     go k d there (inr high) (inl lt) = inl (gone k d (h.inside k d high lt))
-    go k d there (inr high) (inr past) = inr (there, same-as (get_or old k d) (get_or new k d) (h.behind k d past))
+    go k d there (inr high) (inr past) = inr (there, same-as (get_or old k d) (get_or new k d) (h.following k d past))
 
 pub no-more-merges : (first last : ℕ) (old new : List Slot) (d : Slot) → Merges first last old new → NamesNoMore old new
 no-more-merges first last old new d m =

@@ -68,7 +68,7 @@ doubles-are o brackets is_image start inside old new e = go (not is_image && o.w
 -- ## One more bracket
 
 module _ (texts links : ℕ) (before : List Slot) (runs : List PlacedRun) (quotes : List PlacedQuote) (standing doubled : List Bracket) (h : AreSound texts links before runs quotes standing doubled)
-    (text : List ℕ) (pending : ℕ) (are : AreBrackets text pending standing) (pairs : AreBrackets text pending doubled) (s : Slot) (is : s.kind ≡ kind.Text) (b : Bracket) (behind : pending ≤ b.start) (some : b.start < b.inside)
+    (text : List ℕ) (pending : ℕ) (are : AreBrackets text pending standing) (pairs : AreBrackets text pending doubled) (s : Slot) (is : s.kind ≡ kind.Text) (b : Bracket) (following : pending ≤ b.start) (some : b.start < b.inside)
     (slot : b.slot ≡ length before) (runs_is : b.runs ≡ length runs) (quotes_is : b.quotes ≡ length quotes) where
   abbrev slots : List Slot
   slots = before ++ (s ∷ [])
@@ -88,10 +88,10 @@ module _ (texts links : ℕ) (before : List Slot) (runs : List PlacedRun) (quote
         text = λ d. ap (λ (x : Slot). x.kind) (get_or_push before s d b.slot (sym slot)) ∙ is;
         runs_there = omega (arith, runs_is);
         runs_before = λ k d lt. let w = within k d (omega (arith, lt, runs_is)) in omega (arith, w, slot);
-        runs_behind = λ k d le lt. absurd (omega (arith, le, lt, runs_is));
+        runs_after = λ k d le lt. absurd (omega (arith, le, lt, runs_is));
         quotes_there = omega (arith, quotes_is);
         quotes_before = λ k d lt. let w = (h.quotes_are k d (omega (arith, lt, quotes_is))).0 in omega (arith, w, slot);
-        quotes_behind = λ k d le lt. absurd (omega (arith, le, lt, quotes_is));
+        quotes_after = λ k d le lt. absurd (omega (arith, le, lt, quotes_is));
       }
 
   -- every open bracket ends before the new one begins, and has an earlier slot
@@ -101,7 +101,7 @@ module _ (texts links : ℕ) (before : List Slot) (runs : List PlacedRun) (quote
       let w = x.before in
       let o = x.part.some in
       let t = (p k d lt).there in
-      (omega (arith, w, o, behind), omega (arith, w, behind), omega (arith, t, slot))
+      (omega (arith, w, o, following), omega (arith, w, following), omega (arith, t, slot))
 
   in-order : AreInOrder more
   in-order i j d less lt = let n = length_push standing b in go (let q : j ≤ length standing = omega (arith, lt, n) in q) (cases_lt j (length standing))
@@ -166,7 +166,7 @@ module _ (texts links : ℕ) (before : List Slot) (runs : List PlacedRun) (quote
     pair-placed : IsPlaced slots runs quotes pair
     pair-placed =
         let p = subst (λ (x : Bracket). IsPlaced slots runs quotes x) (first-at b) (plain.standing_are (length standing - 1) b first-there) in
-        record { there = p.there; text = p.text; runs_there = p.runs_there; runs_before = p.runs_before; runs_behind = p.runs_behind; quotes_there = p.quotes_there; quotes_before = p.quotes_before; quotes_behind = p.quotes_behind }
+        record { there = p.there; text = p.text; runs_there = p.runs_there; runs_before = p.runs_before; runs_after = p.runs_after; quotes_there = p.quotes_there; quotes_before = p.quotes_before; quotes_after = p.quotes_after }
 
     crosses-pair : (k : ℕ) (d : Bracket) → k < length standing → BeginsBefore (get_or standing k d) pair × BeginsBefore pair (get_or standing k d)
     crosses-pair k d lt = go (cases_lt k (length standing - 1))

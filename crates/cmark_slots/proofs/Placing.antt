@@ -162,14 +162,14 @@ module _ (slots : List Slot) (runs : List PlacedRun) (quotes : List PlacedQuote)
     text = λ d. ap (λ (s : Slot). s.kind) (same d) ∙ p.text d;
     runs_there = p.runs_there;
     runs_before = p.runs_before;
-    runs_behind = p.runs_behind;
+    runs_after = p.runs_after;
     quotes_there = p.quotes_there;
     quotes_before = p.quotes_before;
-    quotes_behind = p.quotes_behind;
+    quotes_after = p.quotes_after;
   }
 
   pub placed-run : (new : PlacedRun) → b.slot < new.slot → IsPlaced slots (runs ++ (new ∷ [])) quotes b
-  placed-run new behind =
+  placed-run new following =
       let n = length_push runs new in
       let t = p.runs_there in
       record {
@@ -177,18 +177,18 @@ module _ (slots : List Slot) (runs : List PlacedRun) (quotes : List PlacedQuote)
         text = p.text;
         runs_there = omega (arith, n, t);
         runs_before = λ k d lt. subst (λ (r : PlacedRun). r.slot + r.run.run_length ≤ b.slot) (sym (get_or_append_left runs (new ∷ []) d k (let q : k < length runs = omega (arith, lt, t) in q))) (p.runs_before k d lt);
-        runs_behind = λ k d le lt. go k d le (let q : k ≤ length runs = omega (arith, lt, n) in q) (cases_lt k (length runs));
+        runs_after = λ k d le lt. go k d le (let q : k ≤ length runs = omega (arith, lt, n) in q) (cases_lt k (length runs));
         quotes_there = p.quotes_there;
         quotes_before = p.quotes_before;
-        quotes_behind = p.quotes_behind;
+        quotes_after = p.quotes_after;
       }
     where
       go : (k : ℕ) (d : PlacedRun) → b.runs ≤ k → k ≤ length runs → (k < length runs) ⊎ (length runs ≤ k) → b.slot < (get_or (runs ++ (new ∷ [])) k d).slot
-      go k d le most (inl lt) = subst (λ (r : PlacedRun). b.slot < r.slot) (sym (get_or_append_left runs (new ∷ []) d k lt)) (p.runs_behind k d le lt)
-      go k d le most (inr g) = subst (λ (r : PlacedRun). b.slot < r.slot) (sym (get_or_push runs new d k (let q : length runs ≡ k = omega (arith, g, most) in q))) behind
+      go k d le most (inl lt) = subst (λ (r : PlacedRun). b.slot < r.slot) (sym (get_or_append_left runs (new ∷ []) d k lt)) (p.runs_after k d le lt)
+      go k d le most (inr g) = subst (λ (r : PlacedRun). b.slot < r.slot) (sym (get_or_push runs new d k (let q : length runs ≡ k = omega (arith, g, most) in q))) following
 
   pub placed-quote : (new : PlacedQuote) → b.slot < new.slot → IsPlaced slots runs (quotes ++ (new ∷ [])) b
-  placed-quote new behind =
+  placed-quote new following =
       let n = length_push quotes new in
       let t = p.quotes_there in
       record {
@@ -196,15 +196,15 @@ module _ (slots : List Slot) (runs : List PlacedRun) (quotes : List PlacedQuote)
         text = p.text;
         runs_there = p.runs_there;
         runs_before = p.runs_before;
-        runs_behind = p.runs_behind;
+        runs_after = p.runs_after;
         quotes_there = omega (arith, n, t);
         quotes_before = λ k d lt. subst (λ (r : PlacedQuote). r.slot < b.slot) (sym (get_or_append_left quotes (new ∷ []) d k (let q : k < length quotes = omega (arith, lt, t) in q))) (p.quotes_before k d lt);
-        quotes_behind = λ k d le lt. go k d le (let q : k ≤ length quotes = omega (arith, lt, n) in q) (cases_lt k (length quotes));
+        quotes_after = λ k d le lt. go k d le (let q : k ≤ length quotes = omega (arith, lt, n) in q) (cases_lt k (length quotes));
       }
     where
       go : (k : ℕ) (d : PlacedQuote) → b.quotes ≤ k → k ≤ length quotes → (k < length quotes) ⊎ (length quotes ≤ k) → b.slot < (get_or (quotes ++ (new ∷ [])) k d).slot
-      go k d le most (inl lt) = subst (λ (r : PlacedQuote). b.slot < r.slot) (sym (get_or_append_left quotes (new ∷ []) d k lt)) (p.quotes_behind k d le lt)
-      go k d le most (inr g) = subst (λ (r : PlacedQuote). b.slot < r.slot) (sym (get_or_push quotes new d k (let q : length quotes ≡ k = omega (arith, g, most) in q))) behind
+      go k d le most (inl lt) = subst (λ (r : PlacedQuote). b.slot < r.slot) (sym (get_or_append_left quotes (new ∷ []) d k lt)) (p.quotes_after k d le lt)
+      go k d le most (inr g) = subst (λ (r : PlacedQuote). b.slot < r.slot) (sym (get_or_push quotes new d k (let q : length quotes ≡ k = omega (arith, g, most) in q))) following
 
   -- the runs and the quotes after a later bracket are removed
   pub placed-cut : (c : Bracket) → IsPlaced slots runs quotes c → b.slot < c.slot → IsPlaced slots (take c.runs runs) (take c.quotes quotes) b
@@ -218,10 +218,10 @@ module _ (slots : List Slot) (runs : List PlacedRun) (quotes : List PlacedQuote)
         text = p.text;
         runs_there = omega (arith, rn, rs);
         runs_before = λ k d lt. subst (λ (r : PlacedRun). r.slot + r.run.run_length ≤ b.slot) (sym (get_or-take c.runs runs k d (let q : k < c.runs = omega (arith, lt, rs) in q))) (p.runs_before k d lt);
-        runs_behind = λ k d le lt. let kc : k < c.runs = omega (arith, lt, rn) in let t = pc.runs_there in subst (λ (r : PlacedRun). b.slot < r.slot) (sym (get_or-take c.runs runs k d kc)) (p.runs_behind k d le (let q : k < length runs = omega (arith, kc, t) in q));
+        runs_after = λ k d le lt. let kc : k < c.runs = omega (arith, lt, rn) in let t = pc.runs_there in subst (λ (r : PlacedRun). b.slot < r.slot) (sym (get_or-take c.runs runs k d kc)) (p.runs_after k d le (let q : k < length runs = omega (arith, kc, t) in q));
         quotes_there = omega (arith, qn, qs);
         quotes_before = λ k d lt. subst (λ (r : PlacedQuote). r.slot < b.slot) (sym (get_or-take c.quotes quotes k d (let q : k < c.quotes = omega (arith, lt, qs) in q))) (p.quotes_before k d lt);
-        quotes_behind = λ k d le lt. let kc : k < c.quotes = omega (arith, lt, qn) in let t = pc.quotes_there in subst (λ (r : PlacedQuote). b.slot < r.slot) (sym (get_or-take c.quotes quotes k d kc)) (p.quotes_behind k d le (let q : k < length quotes = omega (arith, kc, t) in q));
+        quotes_after = λ k d le lt. let kc : k < c.quotes = omega (arith, lt, qn) in let t = pc.quotes_there in subst (λ (r : PlacedQuote). b.slot < r.slot) (sym (get_or-take c.quotes quotes k d kc)) (p.quotes_after k d le (let q : k < length quotes = omega (arith, kc, t) in q));
       }
     where
       fewer-runs : (c.runs < b.runs) ⊎ (b.runs ≤ c.runs) → b.runs ≤ c.runs
@@ -229,7 +229,7 @@ module _ (slots : List Slot) (runs : List PlacedRun) (quotes : List PlacedQuote)
       fewer-runs (inl lt) =
           let t = p.runs_there in
           let one = p.runs_before c.runs no-run lt in
-          let other = pc.runs_behind c.runs no-run (omega arith) (omega (arith, lt, t)) in
+          let other = pc.runs_after c.runs no-run (omega arith) (omega (arith, lt, t)) in
           absurd (omega (arith, one, other, before))
 
       fewer-quotes : (c.quotes < b.quotes) ⊎ (b.quotes ≤ c.quotes) → b.quotes ≤ c.quotes
@@ -237,5 +237,5 @@ module _ (slots : List Slot) (runs : List PlacedRun) (quotes : List PlacedQuote)
       fewer-quotes (inl lt) =
           let t = p.quotes_there in
           let one = p.quotes_before c.quotes no-quote lt in
-          let other = pc.quotes_behind c.quotes no-quote (omega arith) (omega (arith, lt, t)) in
+          let other = pc.quotes_after c.quotes no-quote (omega arith) (omega (arith, lt, t)) in
           absurd (omega (arith, one, other, before))

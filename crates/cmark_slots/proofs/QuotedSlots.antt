@@ -9,7 +9,7 @@ use Rattle.cmark_grammar.specs.Quotes.{Quote, quote_character, quote_characters}
 use Rattle.cmark_inline_model.specs.SlotRows as row
 use Rattle.cmark_inline_model.specs.SlotRows.{quoted, start_in, end_in, character_slot}
 use Rattle.cmark_leaf_text.specs.declared.leaf_text.LeafText.{LeafText}
-use Rattle.cmark_text_parts.specs.declared.text.CowStr.{CowStr}
+use Rattle.cmark_values.specs.declared.text.CowStr.{CowStr}
 use Rattle.cmark_slots.specs.MarkedSlots.{HaveTexts}
 use Rattle.cmark_slots.specs.QuoteSlots.{with_character, with_characters}
 use Rattle.cmark_slots.specs.SlotViews.{slot_as, shown_slot, shown_slots, item_slot, first_of, slot_end}

@@ -13,13 +13,13 @@ use Rattle.cmark_emphasis.proofs.FewRuns.{one_run}
 use Rattle.cmark_emphasis.specs.declared.slot.Slot as code_mark
 use Rattle.cmark_emphasis.specs.declared.slot.Slot.TheVariants as mark
 use Rattle.cmark_grammar.specs.Emphasis.{Pair, IsEmphasis, StandFrom, kinds_of, places_taken, runs_of}
-use Rattle.cmark_grammar.specs.EmphasisModel.{pairs_of, spans_of}
+use Rattle.cmark_inline_model.specs.EmphasisModel.{pairs_of, spans_of}
 use Rattle.cmark_grammar.specs.Options.{Options}
-use Rattle.cmark_grammar.specs.SpanEntries as entries
+use Rattle.cmark_inline_model.specs.SpanEntries as entries
 use Rattle.cmark_grammar.specs.Spans.{SpanKind, Emphasis, Strong, SingleTilde, DoubleTilde, Caret, DoubleEquals, Spans, span_width}
-use Rattle.cmark_grammar.proofs.EmphasisOne.{one}
-use Rattle.cmark_grammar.proofs.EmphasisSound.{sound as emphasis}
-use Rattle.cmark_grammar.proofs.SpanEntries.{pairs-marked}
+use Rattle.cmark_inline_model.proofs.EmphasisOne.{one}
+use Rattle.cmark_inline_model.proofs.EmphasisSound.{sound as emphasis}
+use Rattle.cmark_inline_model.proofs.SpanEntries.{pairs-marked}
 use Rattle.cmark_inline_model.specs.SlotRows as row
 use Rattle.cmark_inline_model.specs.SlotRows.{Mark, Stays, opening, closing, marked, marks_by, run_places}
 use Rattle.cmark_inline_model.proofs.SlotLaws.{entries-say}
@@ -35,9 +35,9 @@ pub stand-so : (at : ℕ) (placed : List PlacedRun) → StandFrom at (siblings_f
 stand-so at [] = tt
 stand-so at (p ∷ placed) = (refl, refl, stand-so (at + p.run.run_length) placed)
 
-pub length-run : (at size : ℕ) (behind : List ℕ) → length (run_places at size behind) ≡ size + length behind
-length-run at zero behind = let e : length behind ≡ 0 + length behind = omega arith in e
-length-run at (suc size) behind = let h = length-run (suc at) size behind in let e : suc (length (run_places (suc at) size behind)) ≡ suc size + length behind = omega (arith, h) in e
+pub length-run : (at size : ℕ) (following : List ℕ) → length (run_places at size following) ≡ size + length following
+length-run at zero following = let e : length following ≡ 0 + length following = omega arith in e
+length-run at (suc size) following = let h = length-run (suc at) size following in let e : suc (length (run_places (suc at) size following)) ≡ suc size + length following = omega (arith, h) in e
 
 pub length-places : (at : ℕ) (placed : List PlacedRun) → length (places_of placed) ≡ places_taken (siblings_from at placed)
 length-places at [] = refl
@@ -159,23 +159,23 @@ ahead-earlier slots from from1 end end1 (at ∷ places) f e h = let a = h.1 in l
 abbrev byte : (at : ℕ) → Slot
 byte at = record { kind = kind.Text; start = at; end = at + 1 }
 
-bytes-ahead : (size s at from end : ℕ) (slots : List Slot) (behind : List ℕ) → from ≤ s → end ≤ at → take size (drop s slots) ≡ byte_slots at size → AreAhead slots (s + size) (at + size) behind
-    → AreAhead slots from end (run_places s size behind)
-bytes-ahead zero s at from end slots behind f e is h = ahead-earlier slots (s + 0) from (at + 0) end behind (omega (arith, f)) (omega (arith, e)) h
-bytes-ahead (suc size) s at from end slots behind f e is h =
-    ⊎_elim (λ (lt : s < length slots). there lt (λ others more. bytes-ahead size (suc s) (at + 1) (suc s) (at + 1) slots behind (omega arith) (omega arith) others more)) (λ (le : length slots ≤ s). absurd (none (sym (ap (take (suc size)) (drop_all s slots le)) ∙ is))) (cases_lt s (length slots))
+bytes-ahead : (size s at from end : ℕ) (slots : List Slot) (following : List ℕ) → from ≤ s → end ≤ at → take size (drop s slots) ≡ byte_slots at size → AreAhead slots (s + size) (at + size) following
+    → AreAhead slots from end (run_places s size following)
+bytes-ahead zero s at from end slots following f e is h = ahead-earlier slots (s + 0) from (at + 0) end following (omega (arith, f)) (omega (arith, e)) h
+bytes-ahead (suc size) s at from end slots following f e is h =
+    ⊎_elim (λ (lt : s < length slots). there lt (λ others more. bytes-ahead size (suc s) (at + 1) (suc s) (at + 1) slots following (omega arith) (omega arith) others more)) (λ (le : length slots ≤ s). absurd (none (sym (ap (take (suc size)) (drop_all s slots le)) ∙ is))) (cases_lt s (length slots))
   where
     none : [] ≡ byte at ∷ byte_slots (at + 1) size → ⊥
     none q = cc
 
-    there : s < length slots → (take size (drop (suc s) slots) ≡ byte_slots (at + 1) size → AreAhead slots (suc s + size) ((at + 1) + size) behind → AreAhead slots (suc s) (at + 1) (run_places (suc s) size behind))
-        → AreAhead slots from end (s ∷ run_places (suc s) size behind)
+    there : s < length slots → (take size (drop (suc s) slots) ≡ byte_slots (at + 1) size → AreAhead slots (suc s + size) ((at + 1) + size) following → AreAhead slots (suc s) (at + 1) (run_places (suc s) size following))
+        → AreAhead slots from end (s ∷ run_places (suc s) size following)
     there lt go =
         let split : get_or slots s (byte 0) ∷ take size (drop (suc s) slots) ≡ byte at ∷ byte_slots (at + 1) size = sym (ap (take (suc size)) (drop-cons slots s (byte 0) lt)) ∙ is in
         let first : get_or slots s (byte 0) ≡ byte at = cc in
         let others : take size (drop (suc s) slots) ≡ byte_slots (at + 1) size = cc in
         let same : (d : Slot) → get_or slots s d ≡ byte at = λ d. get_or_default slots s d (byte 0) lt ∙ first in
-        let more : AreAhead slots (suc s + size) ((at + 1) + size) behind = subst (λ n. AreAhead slots n ((at + 1) + size) behind) (let q : s + suc size ≡ suc s + size = omega arith in q) (subst (λ n. AreAhead slots (s + suc size) n behind) (let q : at + suc size ≡ (at + 1) + size = omega arith in q) h) in (
+        let more : AreAhead slots (suc s + size) ((at + 1) + size) following = subst (λ n. AreAhead slots n ((at + 1) + size) following) (let q : s + suc size ≡ suc s + size = omega arith in q) (subst (λ n. AreAhead slots (s + suc size) n following) (let q : at + suc size ≡ (at + 1) + size = omega arith in q) h) in (
           at + 1,
           f,
           lt,
@@ -199,7 +199,7 @@ pub ready-first : (slots : List Slot) (from place : ℕ) (placed : List PlacedRu
 ready-first slots from place placed marks h whole balanced = record {
   from = from;
   end = place;
-  behind = tt;
+  following = tt;
   ahead = all-ahead slots from place placed h;
   whole = whole;
   kinds = [];
@@ -221,28 +221,28 @@ pushed old new last e = ap reverse e ∙ reverse-append old (last ∷ [])
 -- ## The bytes of one run
 
 -- the first byte of the rest of a run
-run-next : (at next left less : ℕ) (behind : List ℕ) → left ≡ suc less → next ≡ suc at → run_places at left behind ≡ at ∷ run_places next less behind
-run-next at next left less behind l n = ap (λ k. run_places at k behind) l ∙ ap (λ k. at ∷ run_places k less behind) (sym n)
+run-next : (at next left less : ℕ) (following : List ℕ) → left ≡ suc less → next ≡ suc at → run_places at left following ≡ at ∷ run_places next less following
+run-next at next left less following l n = ap (λ k. run_places at k following) l ∙ ap (λ k. at ∷ run_places k less following) (sym n)
 
-pub places-next : (slot size byte : ℕ) (behind : List ℕ) → byte < size → run_places (slot + byte) (size - byte) behind ≡ (slot + byte) ∷ run_places (slot + (byte + 1)) (size - (byte + 1)) behind
-places-next slot size byte behind lt = run-next (slot + byte) (slot + (byte + 1)) (size - byte) (size - (byte + 1)) behind (omega (arith, lt)) (omega arith)
+pub places-next : (slot size byte : ℕ) (following : List ℕ) → byte < size → run_places (slot + byte) (size - byte) following ≡ (slot + byte) ∷ run_places (slot + (byte + 1)) (size - (byte + 1)) following
+places-next slot size byte following lt = run-next (slot + byte) (slot + (byte + 1)) (size - byte) (size - (byte + 1)) following (omega (arith, lt)) (omega arith)
 
 pub mark-next : (marks : List code_mark.Slot) (byte : ℕ) (d : code_mark.Slot) → byte < length marks → drop byte marks ≡ get_or marks byte d ∷ drop (byte + 1) marks
 mark-next marks byte d lt = drop-cons marks byte d lt ∙ ap (λ n. get_or marks byte d ∷ drop n marks) (let q : suc byte ≡ byte + 1 = omega arith in q)
 
-pub ready-next : (slots : List Slot) (begun : List ℕ) (slot size byte : ℕ) (behind : List ℕ) (marks : List code_mark.Slot) (d : code_mark.Slot) → byte < size → size ≤ length marks
-    → AreReady slots begun (run_places (slot + byte) (size - byte) behind) (drop byte marks) → AreReady slots begun ((slot + byte) ∷ run_places (slot + (byte + 1)) (size - (byte + 1)) behind) (get_or marks byte d ∷ drop (byte + 1) marks)
-ready-next slots begun slot size byte behind marks d lt many r =
-    subst (λ ms. AreReady slots begun ((slot + byte) ∷ run_places (slot + (byte + 1)) (size - (byte + 1)) behind) ms) (mark-next marks byte d (omega (arith, lt, many)))
-    (subst (λ ps. AreReady slots begun ps (drop byte marks)) (places-next slot size byte behind lt) r)
+pub ready-next : (slots : List Slot) (begun : List ℕ) (slot size byte : ℕ) (following : List ℕ) (marks : List code_mark.Slot) (d : code_mark.Slot) → byte < size → size ≤ length marks
+    → AreReady slots begun (run_places (slot + byte) (size - byte) following) (drop byte marks) → AreReady slots begun ((slot + byte) ∷ run_places (slot + (byte + 1)) (size - (byte + 1)) following) (get_or marks byte d ∷ drop (byte + 1) marks)
+ready-next slots begun slot size byte following marks d lt many r =
+    subst (λ ms. AreReady slots begun ((slot + byte) ∷ run_places (slot + (byte + 1)) (size - (byte + 1)) following) ms) (mark-next marks byte d (omega (arith, lt, many)))
+    (subst (λ ps. AreReady slots begun ps (drop byte marks)) (places-next slot size byte following lt) r)
 
 -- the marks after those of a run
-pub behind-all : (marks : List code_mark.Slot) (size : ℕ) → take (length marks - size) (drop size marks) ≡ drop size marks
-behind-all marks size = take_all (length marks - size) (drop size marks) (let n = length-drop size marks in let q : length (drop size marks) ≤ length marks - size = omega (arith, n) in q)
+pub following-all : (marks : List code_mark.Slot) (size : ℕ) → take (length marks - size) (drop size marks) ≡ drop size marks
+following-all marks size = take_all (length marks - size) (drop size marks) (let n = length-drop size marks in let q : length (drop size marks) ≤ length marks - size = omega (arith, n) in q)
 
 -- no byte of a run is left
-pub run-over : (at left : ℕ) (behind : List ℕ) → left ≡ 0 → run_places at left behind ≡ behind
-run-over at left behind e = ap (λ n. run_places at n behind) e
+pub run-over : (at left : ℕ) (following : List ℕ) → left ≡ 0 → run_places at left following ≡ following
+run-over at left following e = ap (λ n. run_places at n following) e
 
 pub none-left : {X : Type 0} (xs : List X) → length xs ≡ 0 → xs ≡ []
 none-left [] e = refl

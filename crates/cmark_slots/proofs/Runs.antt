@@ -68,13 +68,13 @@ gathered-known [] (p ∷ ps) n e = absurd (let q : ⊥ = cc in q)
 gathered-known (r ∷ rs) [] n e = absurd (let q : ⊥ = cc in q)
 gathered-known (r ∷ rs) (p ∷ ps) n e =
     let head : is_run_of r.delimiter r.run_length ≡ is_run_of p.run.delimiter p.run.run_length = ap first e in
-    let i = gathered-known rs ps (n + p.run.run_length) (ap behind e) in
+    let i = gathered-known rs ps (n + p.run.run_length) (ap following e) in
     (ap suc i.0, λ known. All-cons IsKnown r rs (head ∙ known 0 p (omega arith)) (i.1 (λ k d lt. known (suc k) d (omega (arith, lt)))))
   where
     first : List Run → Bool
     first [] = is_run_of r.delimiter r.run_length
     first (x ∷ xs) = is_run_of x.delimiter x.run_length
 
-    behind : List Run → List Run
-    behind [] = []
-    behind (x ∷ xs) = xs
+    following : List Run → List Run
+    following [] = []
+    following (x ∷ xs) = xs

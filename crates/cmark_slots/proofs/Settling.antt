@@ -129,7 +129,7 @@ module _ (low : ℕ) (slots : List Slot) (runs : List PlacedRun) (quotes : List 
         whole = whole-push slots s alone h.whole h.within;
         within = within-push slots s alone h.within;
         quotes_are = texts-kept slots new quotes longer (λ k d lt e. same (get_or quotes k d).slot e (h.quotes_are k d lt).0) h.quotes_are;
-        quotes_behind = h.quotes_behind;
+        quotes_after = h.quotes_after;
         runs_are = have-kept slots new low 0 runs longer h.sizes (keeps-before (length slots) slots new runs same (runs-within slots low 0 runs h.sizes h.runs_are)) h.runs_are;
         sizes = h.sizes;
         known = h.known;
@@ -160,7 +160,7 @@ module _ (low : ℕ) (slots : List Slot) (runs : List PlacedRun) (quotes : List 
     where
       go : (k : ℕ) (d : Slot) → k < low → Lettered quotes slots (Letters characters) k d → get_or (Letters characters) k d ≡ get_or slots k d
       go k d lt (inl e) = e
-      go k d lt (inr (i, there, is, within, made)) = let le = h.quotes_behind i no-quote there in absurd (omega (arith, lt, is, le))
+      go k d lt (inr (i, there, is, within, made)) = let le = h.quotes_after i no-quote there in absurd (omega (arith, lt, is, le))
 
   letters-keep : (characters : List ℕ) → KeepsRuns slots (Letters characters) runs
   letters-keep characters = λ j e lt. λ k d from to. go j e lt k d from to (are-lettered quotes characters slots k d)
@@ -168,7 +168,7 @@ module _ (low : ℕ) (slots : List Slot) (runs : List PlacedRun) (quotes : List 
       go : (j : ℕ) (e : PlacedRun) → j < length runs → (k : ℕ) (d : Slot) → (get_or runs j e).slot ≤ k → k < (get_or runs j e).slot + (get_or runs j e).run.run_length → Lettered quotes slots (Letters characters) k d → get_or (Letters characters) k d ≡ get_or slots k d
       go j e lt k d from to (inl same) = same
       go j e lt k d from to (inr (i, there, is, within, made)) =
-          ⊎_elim (λ (before : (get_or quotes i no-quote).slot < (get_or runs j e).slot). absurd (omega (arith, before, is, from))) (λ (behind : (get_or runs j e).slot + (get_or runs j e).run.run_length ≤ (get_or quotes i no-quote).slot). absurd (omega (arith, behind, is, to)))
+          ⊎_elim (λ (before : (get_or quotes i no-quote).slot < (get_or runs j e).slot). absurd (omega (arith, before, is, from))) (λ (following : (get_or runs j e).slot + (get_or runs j e).run.run_length ≤ (get_or quotes i no-quote).slot). absurd (omega (arith, following, is, to)))
           (h.apart i no-quote there j e lt)
 
   -- the characters are written

@@ -127,7 +127,7 @@ within-hides from to old new h within i d lt =
     go : (i : ℕ) (d : Slot) → i < length old → (i < from) ⊎ (from ≤ i) → (i < to) ⊎ (to ≤ i) → last_in (get_or new i d).kind i < length old
     go i d there (inl low) other = subst (λ (s : Slot). last_in s.kind i < length old) (sym (h.before i d low)) (within i d there)
     go i d there (inr high) (inl lt) = subst (λ (s : Slot). last_in s.kind i < length old) (sym (h.inside i d high lt)) there
-    go i d there (inr high) (inr past) = subst (λ (s : Slot). last_in s.kind i < length old) (sym (h.behind i d past)) (within i d there)
+    go i d there (inr high) (inr past) = subst (λ (s : Slot). last_in s.kind i < length old) (sym (h.following i d past)) (within i d there)
 
 -- the runs from an index on, whose slots are after an offset
 have-rest : (slots : List Slot) (from place low n : ℕ) (runs : List PlacedRun) → HaveBytes slots from place runs → ((d : PlacedRun) → n < length runs → low ≤ (get_or runs n d).slot) → HaveBytes slots low 0 (drop n runs)
@@ -189,8 +189,8 @@ module _ (texts links : ℕ) (slots : List Slot) (runs : List PlacedRun) (quotes
     whole = whole-stays between shown (cut-length text place at between) stays (whole-hides low at slots between hides h.whole);
     within = within-stays between shown (cut-length text place at between) stays (within-hides low at slots between hides h.within);
     quotes_are = λ k d lt. let a = length-drop m quotes in
-        subst (λ (q : PlacedQuote). (q.slot < length shown) × ((e : Slot) → (get_or shown q.slot e).kind ≡ kind.Text)) (sym (get_or-drop m quotes k d)) (one (m + k) d (quote-behind k d lt) (h.quotes_are (m + k) d (omega (arith, lt, a))));
-    quotes_behind = λ k d lt. let g = quote-behind k d lt in
+        subst (λ (q : PlacedQuote). (q.slot < length shown) × ((e : Slot) → (get_or shown q.slot e).kind ≡ kind.Text)) (sym (get_or-drop m quotes k d)) (one (m + k) d (quote-following k d lt) (h.quotes_are (m + k) d (omega (arith, lt, a))));
+    quotes_after = λ k d lt. let g = quote-following k d lt in
         subst (λ (q : PlacedQuote). low ≤ q.slot) (sym (get_or-drop m quotes k d)) (let q : low ≤ (get_or quotes (m + k) d).slot = omega (arith, g, order) in q);
     runs_are = have-kept slots shown low 0 (drop n runs) (let e = shown-length in let q : length slots ≤ length shown = omega (arith, e) in q) sizes keeps (have-rest slots 0 0 low n runs h.runs_are (λ d lt. let g = run_at d lt in omega (arith, g, order)));
     sizes = sizes;
@@ -202,9 +202,9 @@ module _ (texts links : ℕ) (slots : List Slot) (runs : List PlacedRun) (quotes
       sizes : HaveSizes (drop n runs)
       sizes = all-drop (λ (r : PlacedRun). 0 < r.run.run_length) n runs h.sizes
 
-      quote-behind : (k : ℕ) (d : PlacedQuote) → k < length (drop m quotes) → at ≤ (get_or quotes (m + k) d).slot
-      quote-behind zero d lt = let a = length-drop m quotes in subst (λ j. at ≤ (get_or quotes j d).slot) (let q : m ≡ m + 0 = omega arith in q) (quote_at d (omega (arith, lt, a)))
-      quote-behind (suc k) d lt =
+      quote-following : (k : ℕ) (d : PlacedQuote) → k < length (drop m quotes) → at ≤ (get_or quotes (m + k) d).slot
+      quote-following zero d lt = let a = length-drop m quotes in subst (λ j. at ≤ (get_or quotes j d).slot) (let q : m ≡ m + 0 = omega arith in q) (quote_at d (omega (arith, lt, a)))
+      quote-following (suc k) d lt =
           let a = length-drop m quotes in
           let first = quote_at d (omega (arith, lt, a)) in
           let less = h.quotes_order m (m + suc k) d (omega arith) (omega (arith, lt, a)) in
@@ -216,18 +216,18 @@ module _ (texts links : ℕ) (slots : List Slot) (runs : List PlacedRun) (quotes
           let k : ℕ = (get_or quotes j d).slot in
           let w = t.0 in
           let l = shown-length in
-          ((let q : k < length shown = omega (arith, w, l) in q), λ e. go k e (ap (λ (s : Slot). s.kind) (hides.behind k e le) ∙ t.1 e) (cut-get text place at between k e))
+          ((let q : k < length shown = omega (arith, w, l) in q), λ e. go k e (ap (λ (s : Slot). s.kind) (hides.following k e le) ∙ t.1 e) (cut-get text place at between k e))
         where
           go : (k : ℕ) (e : Slot) → (get_or between k e).kind ≡ kind.Text → Cut text place at between shown k e → (get_or shown k e).kind ≡ kind.Text
           go k e is (inl same) = ap (λ (s : Slot). s.kind) same ∙ is
           go k e is (inr (a, there, made)) = ap (λ (s : Slot). s.kind) made ∙ cut-text text place (get_or between k e) is
 
-      behind-all : All (λ (r : PlacedRun). at ≤ r.slot) (drop n runs)
-      behind-all = runs-low slots at 0 (drop n runs) (have-rest slots 0 0 at n runs h.runs_are run_at) at (omega arith)
+      following-all : All (λ (r : PlacedRun). at ≤ r.slot) (drop n runs)
+      following-all = runs-low slots at 0 (drop n runs) (have-rest slots 0 0 at n runs h.runs_are run_at) at (omega arith)
 
       keeps : KeepsRuns slots shown (drop n runs)
-      keeps = λ j e lt. λ k d le high. let b = behind-all j e lt in let ends = are-bytes slots at 0 (drop n runs) sizes (have-rest slots 0 0 at n runs h.runs_are run_at) j e lt k d le high in
-          go k d (hides.behind k d (omega (arith, b, le))) ends (cut-get text place at between k d)
+      keeps = λ j e lt. λ k d le high. let b = following-all j e lt in let ends = are-bytes slots at 0 (drop n runs) sizes (have-rest slots 0 0 at n runs h.runs_are run_at) j e lt k d le high in
+          go k d (hides.following k d (omega (arith, b, le))) ends (cut-get text place at between k d)
         where
           go : (k : ℕ) (d : Slot) → get_or between k d ≡ get_or slots k d → (get_or slots k d).end ≡ (get_or slots k d).start + 1 → Cut text place at between shown k d → get_or shown k d ≡ get_or slots k d
           go k d same one (inl e) = e ∙ same

@@ -259,13 +259,13 @@ module _ (texts links : ℕ) (slots : List Slot) (runs : List PlacedRun) (quotes
     whole = h.whole;
     within = h.within;
     quotes_are = all-drop (λ (q : PlacedQuote). (q.slot < length slots) × ((d : Slot) → (get_or slots q.slot d).kind ≡ kind.Text)) bracket.quotes quotes h.quotes_are;
-    quotes_behind = λ k d lt. let a = length-drop bracket.quotes quotes in
+    quotes_after = λ k d lt. let a = length-drop bracket.quotes quotes in
         subst (λ (q : PlacedQuote). bracket.slot + 1 ≤ q.slot) (sym (get_or-drop bracket.quotes quotes k d))
-        (let b = p.quotes_behind (bracket.quotes + k) d (omega arith) (omega (arith, lt, a)) in let q : bracket.slot + 1 ≤ (get_or quotes (bracket.quotes + k) d).slot = omega (arith, b) in q);
+        (let b = p.quotes_after (bracket.quotes + k) d (omega arith) (omega (arith, lt, a)) in let q : bracket.slot + 1 ≤ (get_or quotes (bracket.quotes + k) d).slot = omega (arith, b) in q);
     runs_are = have-drop slots 0 0 (bracket.slot + 1) bracket.runs runs h.runs_are
         (λ k d lt. let a = length-drop bracket.runs runs in
         subst (λ (r : PlacedRun). bracket.slot + 1 ≤ r.slot) (sym (get_or-drop bracket.runs runs k d))
-        (let b = p.runs_behind (bracket.runs + k) d (omega arith) (omega (arith, lt, a)) in let q : bracket.slot + 1 ≤ (get_or runs (bracket.runs + k) d).slot = omega (arith, b) in q));
+        (let b = p.runs_after (bracket.runs + k) d (omega arith) (omega (arith, lt, a)) in let q : bracket.slot + 1 ≤ (get_or runs (bracket.runs + k) d).slot = omega (arith, b) in q));
     sizes = all-drop (λ (r : PlacedRun). 0 < r.run.run_length) bracket.runs runs h.sizes;
     known = all-drop (λ (r : PlacedRun). IsKnown r.run) bracket.runs runs h.known;
     apart = all-drop (λ (q : PlacedQuote). All (λ (r : PlacedRun). (q.slot < r.slot) ⊎ (r.slot + r.run.run_length ≤ q.slot)) (drop bracket.runs runs)) bracket.quotes quotes
@@ -278,7 +278,7 @@ sound-settles-all texts links slots runs quotes standing doubled h = subst (λ l
   whole = h.whole;
   within = h.within;
   quotes_are = h.quotes_are;
-  quotes_behind = λ k d lt. omega arith;
+  quotes_after = λ k d lt. omega arith;
   runs_are = h.runs_are;
   sizes = h.sizes;
   known = h.known;

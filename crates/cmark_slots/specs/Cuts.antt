@@ -7,23 +7,23 @@ use Rattle.cmark_slots.specs.declared.slot.SlotKind.{SlotKind}
 use Rattle.cmark_slots.specs.declared.slot.SlotKind.TheVariants as kind
 
 -- End and Nothing have no bytes, and an empty text ends where it begins
-abbrev pub has_none_behind : (place start : ℕ) → SlotKind → Bool
-has_none_behind place start kind.End = true
-has_none_behind place start kind.Nothing = true
-has_none_behind place start kind.Empty = nat_le start place
-has_none_behind place start _ = false
+abbrev pub has_none_after : (place start : ℕ) → SlotKind → Bool
+has_none_after place start kind.End = true
+has_none_after place start kind.Nothing = true
+has_none_after place start kind.Empty = nat_le start place
+has_none_after place start _ = false
 
 -- a slot has no bytes after an offset
 abbrev pub ends_by : (place : ℕ) → Slot → Bool
-ends_by place slot = has_none_behind place slot.start slot.kind || nat_le slot.end place
+ends_by place slot = has_none_after place slot.start slot.kind || nat_le slot.end place
 
 -- the first slot, from one index on, that ends after an offset
-pub record IsFirstBehind (slots : List Slot) (from place at : ℕ) : Type 0 where
+pub record IsFirstAfter (slots : List Slot) (from place at : ℕ) : Type 0 where
   pub order : from ≤ at
   pub within : at ≤ length slots
   pub before : (k : ℕ) (d : Slot) → from ≤ k → k < at → ends_by place (get_or slots k d) ≡ true
   pub shown : (d : Slot) → at < length slots → ends_by place (get_or slots at d) ≡ false
-  pub behind : (d : Slot) → at < length slots → place < (get_or slots at d).end
+  pub following : (d : Slot) → at < length slots → place < (get_or slots at d).end
 
 -- the slots from one index up to another, exclusive, became Nothing
 abbrev pub hidden : Slot → Slot
@@ -33,7 +33,7 @@ pub record Hides (from to : ℕ) (old new : List Slot) : Type 0 where
   pub size : length new ≡ length old
   pub inside : (k : ℕ) (d : Slot) → from ≤ k → k < to → get_or new k d ≡ hidden (get_or old k d)
   pub before : (k : ℕ) (d : Slot) → k < from → get_or new k d ≡ get_or old k d
-  pub behind : (k : ℕ) (d : Slot) → to ≤ k → get_or new k d ≡ get_or old k d
+  pub following : (k : ℕ) (d : Slot) → to ≤ k → get_or new k d ≡ get_or old k d
 
 -- the meaning of a slot that begins at an offset inside it: a tag over several lines stays whole, and a text is a part of the source
 abbrev pub cut_kind : (text : List ℕ) → (start end : ℕ) → SlotKind → SlotKind

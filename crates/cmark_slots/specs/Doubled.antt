@@ -24,12 +24,12 @@ doubles options brackets is_image start inside doubled =
     if not is_image && options.wikilinks then with_double (touching start brackets) inside doubled else doubled
 
 -- the brackets at the end of the list that end after an offset were removed
-pub record DropsBehind (place : ℕ) (old new : List Bracket) : Type 0 where
+pub record DropsAfter (place : ℕ) (old new : List Bracket) : Type 0 where
   pub count : ℕ
   pub within : count ≤ length old
   pub is : new ≡ take count old
   pub before : (d : Bracket) → 0 < count → (get_or old (count - 1) d).inside ≤ place
-  pub behind : (k : ℕ) (d : Bracket) → count ≤ k → k < length old → place < (get_or old k d).inside
+  pub following : (k : ℕ) (d : Bracket) → count ≤ k → k < length old → place < (get_or old k d).inside
 
 -- the last bracket, and whether it can form a link or an image: an image always, a link only if none was formed after it
 abbrev pub nearest_of : Option Bracket → (is_active : Bool) → Option (Bracket × Bool)

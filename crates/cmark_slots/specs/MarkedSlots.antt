@@ -100,7 +100,7 @@ AreAhead slots from end (at ∷ places) =
 pub record AreReady (slots : List Slot) (begun places : List ℕ) (marks : List code_mark.Slot) : Type 0 where
   pub from : ℕ
   pub end : ℕ
-  pub behind : AreBegun slots from end begun
+  pub following : AreBegun slots from end begun
   pub ahead : AreAhead slots from end places
   pub whole : AreWhole slots
   pub kinds : List code_kind.SpanKind

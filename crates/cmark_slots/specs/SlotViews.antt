@@ -15,8 +15,8 @@ use Rattle.cmark_inline_model.specs.SlotRows.{slot_events}
 use Rattle.cmark_leaf_text.specs.Reads.{is_cell_of, place_of, source_of, text_of}
 use Rattle.cmark_leaf_text.specs.declared.leaf_text.LeafText.{LeafText}
 use Rattle.cmark_references.specs.Links.{shown_link}
-use Rattle.cmark_text_parts.specs.Shown.{text_bytes}
-use Rattle.cmark_text_parts.specs.declared.text.CowStr.{CowStr}
+use Rattle.cmark_values.specs.Shown.{text_bytes}
+use Rattle.cmark_values.specs.declared.text.CowStr.{CowStr}
 use Rattle.cmark_references.specs.declared.link.Link.{Link}
 use Rattle.cmark_slots.specs.declared.slot.Element.{Element}
 use Rattle.cmark_slots.specs.declared.slot.Element.TheVariants as element
@@ -121,7 +121,7 @@ abbrev pub IsThere : (count : ℕ) → Option ℕ → Type 0
 IsThere count None = Unit {0}
 IsThere count (Some index) = index < count
 
--- two slots do not name the same thing
+-- no two slots name one thing
 abbrev pub Differ : (one other : Option ℕ) → Type 0
 Differ None other = Unit {0}
 Differ (Some index) other = other ≢ Some index
@@ -130,10 +130,10 @@ abbrev pub AreOnce : (SlotKind → Option ℕ) → List Slot → Type 0
 AreOnce named slots = (i j : ℕ) (d : Slot) → i < j → j < length slots → Differ (named (get_or slots i d).kind) (named (get_or slots j d).kind)
 
 -- HTML and a text of the source end after their start, at a character boundary
-abbrev pub EndsBehind : LeafText → Slot → SlotKind → Type 0
-EndsBehind leaf slot (kind.SourceHtml end) = (first_of leaf slot < end) × IsCharBoundary (source_of leaf) end
-EndsBehind leaf slot (kind.SourceText end) = (first_of leaf slot < end) × IsCharBoundary (source_of leaf) end
-EndsBehind leaf slot _ = Unit {0}
+abbrev pub EndsAfter : LeafText → Slot → SlotKind → Type 0
+EndsAfter leaf slot (kind.SourceHtml end) = (first_of leaf slot < end) × IsCharBoundary (source_of leaf) end
+EndsAfter leaf slot (kind.SourceText end) = (first_of leaf slot < end) × IsCharBoundary (source_of leaf) end
+EndsAfter leaf slot _ = Unit {0}
 
 -- each text and each link that these slots name exists, and is named once
 pub record CanBeGiven (leaf : LeafText) (texts : List CowStr) (links : List Link) (slots : List Slot) : Type 0 where
@@ -141,4 +141,4 @@ pub record CanBeGiven (leaf : LeafText) (texts : List CowStr) (links : List Link
   pub links_there : All (λ (slot : Slot). IsThere (length links) (link_named slot.kind)) slots
   pub texts_once : AreOnce text_named slots
   pub links_once : AreOnce link_named slots
-  pub ends : All (λ (slot : Slot). EndsBehind leaf slot slot.kind) slots
+  pub ends : All (λ (slot : Slot). EndsAfter leaf slot slot.kind) slots

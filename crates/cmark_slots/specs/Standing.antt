@@ -42,11 +42,11 @@ AreEnded leaf slots = All (λ (slot : Slot). EndsIn leaf slot.end (source_end sl
 abbrev pub IsPlain : SlotKind → Type 0
 IsPlain kind = (text_named kind ≡ None) × (link_named kind ≡ None) × (source_end kind ≡ None)
 
--- a slot names the same things as another one, and has the same end
+-- a slot names what another one names, and has its end
 abbrev pub NamesAs : (old new : Slot) → Type 0
 NamesAs old new = (text_named new.kind ≡ text_named old.kind) × (link_named new.kind ≡ link_named old.kind) × (source_end new.kind ≡ source_end old.kind) × (new.end ≡ old.end)
 
--- each slot names the same things as before, or nothing
+-- each slot names what it named before, or nothing
 abbrev pub NamesNoMore : (old new : List Slot) → Type 0
 NamesNoMore old new = (k : ℕ) (d : Slot) → k < length new → IsPlain (get_or new k d).kind ⊎ ((k < length old) × NamesAs (get_or old k d) (get_or new k d))
 
@@ -73,10 +73,10 @@ pub record IsPlaced (slots : List Slot) (runs : List PlacedRun) (quotes : List P
   pub text : (d : Slot) → (get_or slots bracket.slot d).kind ≡ kind.Text
   pub runs_there : bracket.runs ≤ length runs
   pub runs_before : (k : ℕ) (d : PlacedRun) → k < bracket.runs → (get_or runs k d).slot + (get_or runs k d).run.run_length ≤ bracket.slot
-  pub runs_behind : (k : ℕ) (d : PlacedRun) → bracket.runs ≤ k → k < length runs → bracket.slot < (get_or runs k d).slot
+  pub runs_after : (k : ℕ) (d : PlacedRun) → bracket.runs ≤ k → k < length runs → bracket.slot < (get_or runs k d).slot
   pub quotes_there : bracket.quotes ≤ length quotes
   pub quotes_before : (k : ℕ) (d : PlacedQuote) → k < bracket.quotes → (get_or quotes k d).slot < bracket.slot
-  pub quotes_behind : (k : ℕ) (d : PlacedQuote) → bracket.quotes ≤ k → k < length quotes → bracket.slot < (get_or quotes k d).slot
+  pub quotes_after : (k : ℕ) (d : PlacedQuote) → bracket.quotes ≤ k → k < length quotes → bracket.slot < (get_or quotes k d).slot
 
 -- a bracket that begins before another one has an earlier slot
 abbrev pub BeginsBefore : (one other : Bracket) → Type 0
@@ -115,7 +115,7 @@ pub record CanSettle (low : ℕ) (slots : List Slot) (runs : List PlacedRun) (qu
   pub whole : AreWhole slots
   pub within : EndWithin slots
   pub quotes_are : HaveTexts slots quotes
-  pub quotes_behind : All (λ (q : PlacedQuote). low ≤ q.slot) quotes
+  pub quotes_after : All (λ (q : PlacedQuote). low ≤ q.slot) quotes
   pub runs_are : HaveBytes slots low 0 runs
   pub sizes : HaveSizes runs
   pub known : AreKnown runs

@@ -1,13 +1,13 @@
 //! Opening brackets, and those that may still form a link or an image (CommonMark 6.3 and 6.4).
 
 ghost use Rattle.std.specs.Prelude.{◌≡◌, ◌≤◌, min, true, false, ◌-◌, ◌++◌, ◌∷◌, [], ℕ, List, length, take, OnOk, IfSome};
-ghost use Rattle.cmark_slots.specs.Doubled.{DropsBehind, doubles, nearest, touching};
+ghost use Rattle.cmark_slots.specs.Doubled.{DropsAfter, doubles, nearest, touching};
 ghost use Rattle.cmark_slots.specs.Slots.{AreBrackets, AreFree, HoldNoLink, IsBracket};
 ghost use Rattle.cmark_slots.specs.declared.slot.Slot.{Slot};
-ghost use Rattle.cmark_text_parts.specs.Shown.{shown_options};
+ghost use Rattle.cmark_values.specs.Shown.{shown_options};
 
 use bitflags::Flags;
-use cmark_text_parts::Options;
+use cmark_values::Options;
 use std::alloc::{AllocError, Global};
 
 /// An opening bracket that no closing bracket has taken yet.
@@ -120,8 +120,8 @@ impl Brackets {
     }
 
     /// Removes all brackets at the end of the list that end after an offset.
-    pub fn drop_behind(&mut self, place: usize)
-        ensures drops { DropsBehind place self.old.standing.items self.new.standing.items }
+    pub fn drop_after(&mut self, place: usize)
+        ensures drops { DropsAfter place self.old.standing.items self.new.standing.items }
         ensures inactive_below { self.new.inactive_below ≡ min self.old.inactive_below (length self.new.standing.items) }
         ensures brackets { (text : List ℕ) (at : ℕ) → AreBrackets text at self.old.standing.items → AreBrackets text at self.new.standing.items }
         ensures free { (slots : List Slot) → AreFree slots self.old.standing.items self.old.inactive_below → AreFree slots self.new.standing.items self.new.inactive_below }

@@ -7,12 +7,12 @@ ghost use Rattle.cmark_emphasis.specs.Shown.{shown_kind, shown_run};
 ghost use Rattle.cmark_emphasis.specs.Slots.{AreBalanced, AreRuns, slots_of};
 ghost use Rattle.cmark_emphasis.specs.declared.slot.Slot.{Slot as Marks};
 ghost use Rattle.cmark_grammar.specs.Emphasis.{IsEmphasis, Pair, places_taken, runs_of};
-ghost use Rattle.cmark_grammar.specs.EmphasisModel.{spans_of};
+ghost use Rattle.cmark_inline_model.specs.EmphasisModel.{spans_of};
 ghost use Rattle.cmark_grammar.specs.Spans.{Spans, span_tag};
 ghost use Rattle.cmark_inline_model.specs.SlotRows.{marked, marks_by, run_places};
 ghost use Rattle.cmark_leaf_text.specs.declared.leaf_text.LeafText.{LeafText};
-ghost use Rattle.cmark_text_parts.specs.Shown.{shown_options};
-ghost use Rattle.cmark_text_parts.specs.declared.text.CowStr.{CowStr};
+ghost use Rattle.cmark_values.specs.Shown.{shown_options};
+ghost use Rattle.cmark_values.specs.declared.text.CowStr.{CowStr};
 ghost use Rattle.cmark_slots.specs.Elements.{IsElementOf};
 ghost use Rattle.cmark_slots.specs.MarkedSlots.{AreReady, AreWhole, BeganFrom, EndWithin, HaveBytes, Merges, SameBefore, begun_as, ended, places_of, shown_mark, siblings_from};
 ghost use Rattle.cmark_slots.specs.SlotViews.{link_of, shown_element, shown_slots};
@@ -26,7 +26,7 @@ ghost use Rattle.cmark_slots.specs.declared.slot.SlotKind.TheVariants as kind;
 use crate::slot::{Element, Slot, begin, merge, use_up};
 use bitflags::Flags;
 use cmark_emphasis::{PairingRoom, Run, Slot as Mark, SpanKind, slots_of_runs, slots_of_two};
-use cmark_text_parts::Options;
+use cmark_values::Options;
 use std::alloc::{AllocError, Global};
 
 /// A delimiter run and the index of its first slot. The slots of its other bytes follow it.
@@ -90,7 +90,7 @@ impl Delimiters {
         ensures order { first ≤ result }
         ensures within { result ≤ length self.now.placed.items }
         ensures before { (k : ℕ) (d : Placed) → first ≤ k → k < result → (get_or self.now.placed.items k d).slot < slot }
-        ensures behind { (d : Placed) → result < length self.now.placed.items → slot ≤ (get_or self.now.placed.items result d).slot }
+        ensures following { (d : Placed) → result < length self.now.placed.items → slot ≤ (get_or self.now.placed.items result d).slot }
     {
         let mut at = first;
         while at < self.placed.len() && self.placed[at].slot < slot {
@@ -174,10 +174,10 @@ impl Delimiters {
         ensures placed { self.new.placed ≡ self.old.placed }
     {
         if let [one, other] = runs_from(self.placed.as_slice(), first) {
-            let behind = counted_from(other.run, one.run.run_length);
+            let following = counted_from(other.run, one.run.run_length);
             if slots_of_two(
                 counted_from(one.run, 0),
-                behind,
+                following,
                 &mut self.marks,
                 &mut self.examined,
             )? {
@@ -255,21 +255,21 @@ fn write_run<'m>(
     slots: &mut Vec<Slot>,
     begun: &mut Vec<usize>,
 ) -> Result<&'m [Mark], AllocError>
-    requires ready { (behind : List ℕ) × AreReady slots.old.items (reverse begun.old.items) (run_places placed.slot placed.run.run_length behind) marks.now }
+    requires ready { (following : List ℕ) × AreReady slots.old.items (reverse begun.old.items) (run_places placed.slot placed.run.run_length following) marks.now }
     requires marks { placed.run.run_length ≤ length marks.now }
     ensures rest { IfOk result (λ rest. rest.now ≡ drop placed.run.run_length marks.entry.now) }
     ensures slots { IfOk result (λ rest. (text : List ℕ) (place : ℕ) → AreSlots text place slots.old.items → AreSlots text place slots.new.items) }
     ensures length { IfOk result (λ rest. length slots.new.items ≡ length slots.old.items) }
     ensures links { IfOk result (λ rest. NoNewLink slots.old.items slots.new.items) }
-    ensures ready { IfOk result (λ rest. (behind : List ℕ) → AreReady slots.old.items (reverse begun.old.items) (run_places placed.slot placed.run.run_length behind) marks.entry.now
-        → AreReady slots.new.items (reverse begun.new.items) behind rest.now) }
+    ensures ready { IfOk result (λ rest. (following : List ℕ) → AreReady slots.old.items (reverse begun.old.items) (run_places placed.slot placed.run.run_length following) marks.entry.now
+        → AreReady slots.new.items (reverse begun.new.items) following rest.now) }
     ensures within { IfOk result (λ rest. EndWithin slots.old.items → EndWithin slots.new.items) }
     ensures names { IfOk result (λ rest. NamesNoMore slots.old.items slots.new.items) }
     ensures before { IfOk result (λ rest. (low : ℕ) → BeganFrom low (reverse begun.old.items) → low ≤ placed.slot → SameBefore low slots.old.items slots.new.items × BeganFrom low (reverse begun.new.items)) }
-    ensures marks { IfOk result (λ rest. (leaf : LeafText) (texts : List CowStr) (links : List Link) (behind : List ℕ)
-        → AreReady slots.old.items (reverse begun.old.items) (run_places placed.slot placed.run.run_length behind) marks.entry.now
-        → marked (shown_options options) (run_places placed.slot placed.run.run_length behind) (map shown_mark marks.entry.now) (shown_slots leaf texts links slots.old.items) (reverse begun.old.items)
-        ≡ marked (shown_options options) behind (map shown_mark rest.now) (shown_slots leaf texts links slots.new.items) (reverse begun.new.items)) }
+    ensures marks { IfOk result (λ rest. (leaf : LeafText) (texts : List CowStr) (links : List Link) (following : List ℕ)
+        → AreReady slots.old.items (reverse begun.old.items) (run_places placed.slot placed.run.run_length following) marks.entry.now
+        → marked (shown_options options) (run_places placed.slot placed.run.run_length following) (map shown_mark marks.entry.now) (shown_slots leaf texts links slots.old.items) (reverse begun.old.items)
+        ≡ marked (shown_options options) following (map shown_mark rest.now) (shown_slots leaf texts links slots.new.items) (reverse begun.new.items)) }
 {
     for byte in 0..placed.run.run_length {
         write_mark(marks[byte], placed.slot + byte, options, slots, begun)?;
@@ -285,19 +285,19 @@ fn write_mark(
     slots: &mut Vec<Slot>,
     begun: &mut Vec<usize>,
 ) -> Result<(), AllocError>
-    requires { (behind : List ℕ) × (others : List Marks) × AreReady slots.old.items (reverse begun.old.items) (slot ∷ behind) (mark ∷ others) }
+    requires { (following : List ℕ) × (others : List Marks) × AreReady slots.old.items (reverse begun.old.items) (slot ∷ following) (mark ∷ others) }
     ensures slots { OnOk result ((text : List ℕ) (place : ℕ) → AreSlots text place slots.old.items → AreSlots text place slots.new.items) }
     ensures length { OnOk result (length slots.new.items ≡ length slots.old.items) }
     ensures links { OnOk result (NoNewLink slots.old.items slots.new.items) }
-    ensures ready { OnOk result ((behind : List ℕ) (others : List Marks) → AreReady slots.old.items (reverse begun.old.items) (slot ∷ behind) (mark ∷ others)
-        → AreReady slots.new.items (reverse begun.new.items) behind others) }
+    ensures ready { OnOk result ((following : List ℕ) (others : List Marks) → AreReady slots.old.items (reverse begun.old.items) (slot ∷ following) (mark ∷ others)
+        → AreReady slots.new.items (reverse begun.new.items) following others) }
     ensures within { OnOk result (EndWithin slots.old.items → EndWithin slots.new.items) }
     ensures names { OnOk result (NamesNoMore slots.old.items slots.new.items) }
     ensures before { OnOk result ((low : ℕ) → BeganFrom low (reverse begun.old.items) → low ≤ slot → SameBefore low slots.old.items slots.new.items × BeganFrom low (reverse begun.new.items)) }
-    ensures marks { OnOk result ((leaf : LeafText) (texts : List CowStr) (links : List Link) (behind : List ℕ) (others : List Marks)
-        → AreReady slots.old.items (reverse begun.old.items) (slot ∷ behind) (mark ∷ others)
-        → marked (shown_options options) (slot ∷ behind) (shown_mark mark ∷ map shown_mark others) (shown_slots leaf texts links slots.old.items) (reverse begun.old.items)
-        ≡ marked (shown_options options) behind (map shown_mark others) (shown_slots leaf texts links slots.new.items) (reverse begun.new.items)) }
+    ensures marks { OnOk result ((leaf : LeafText) (texts : List CowStr) (links : List Link) (following : List ℕ) (others : List Marks)
+        → AreReady slots.old.items (reverse begun.old.items) (slot ∷ following) (mark ∷ others)
+        → marked (shown_options options) (slot ∷ following) (shown_mark mark ∷ map shown_mark others) (shown_slots leaf texts links slots.old.items) (reverse begun.old.items)
+        ≡ marked (shown_options options) following (map shown_mark others) (shown_slots leaf texts links slots.new.items) (reverse begun.new.items)) }
 {
     match mark {
         Mark::Single => {}

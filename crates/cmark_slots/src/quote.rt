@@ -3,7 +3,7 @@
 ghost use Rattle.std.specs.Prelude.{◌≡◌, ◌<◌, ◌≤◌, ◌++◌, ◌∷◌, ℕ, List, [], drop, take, get_or, length, map, IsOk, OnOk};
 ghost use Rattle.cmark_inline_model.specs.SlotRows.{quoted};
 ghost use Rattle.cmark_leaf_text.specs.declared.leaf_text.LeafText.{LeafText};
-ghost use Rattle.cmark_text_parts.specs.declared.text.CowStr.{CowStr};
+ghost use Rattle.cmark_values.specs.declared.text.CowStr.{CowStr};
 ghost use Rattle.cmark_slots.specs.MarkedSlots.{HaveTexts};
 ghost use Rattle.cmark_slots.specs.QuoteSlots.{characters_of, with_characters};
 ghost use Rattle.cmark_slots.specs.SlotViews.{shown_slots};
@@ -65,7 +65,7 @@ impl Quotes {
         ensures order { first ≤ result }
         ensures within { result ≤ length self.now.placed.items }
         ensures before { (k : ℕ) (d : PlacedQuote) → first ≤ k → k < result → (get_or self.now.placed.items k d).slot < slot }
-        ensures behind { (d : PlacedQuote) → result < length self.now.placed.items → slot ≤ (get_or self.now.placed.items result d).slot }
+        ensures following { (d : PlacedQuote) → result < length self.now.placed.items → slot ≤ (get_or self.now.placed.items result d).slot }
     {
         let mut at = first;
         while at < self.placed.len() && self.placed[at].slot < slot {

@@ -1,6 +1,6 @@
 //! Slots: the parts of a leaf's text, one after the other.
 
-ghost use Rattle.std.specs.Prelude.{◌≡◌, ◌<◌, ◌≤◌, ◌+◌, ◌++◌, ◌∷◌, ◌&&◌, nat_lt, true, false, [], ℕ, List, get_or, length, set, IsOk, OnOk};
+ghost use Rattle.std.specs.Prelude.{◌≡◌, ◌<◌, ◌≤◌, ◌+◌, ◌++◌, ◌∷◌, ◌&&◌, nat_lt, true, false, [], ℕ, List, get_or, length, set, vec_capacity, IsOk, OnOk};
 ghost use Rattle.std.specs.Str.{IsCharBoundary};
 ghost use Rattle.cmark_grammar.specs.InlineHtml.{takes_lines};
 ghost use Rattle.cmark_grammar.specs.Tokens.{slice};
@@ -8,7 +8,7 @@ ghost use Rattle.cmark_slots.specs.Slots.{put_at, AreSlots, HoldNoLink, IsConten
 ghost use Rattle.cmark_slots.specs.MarkedSlots.{AreWhole, Merges, begun_as, ended, last_in, whole_to};
 ghost use Rattle.cmark_slots.specs.QuoteSlots.{with_character};
 ghost use Rattle.cmark_leaf_text.specs.Reads.{IsPart};
-ghost use Rattle.cmark_slots.specs.Cuts.{Hides, IsFirstBehind, cut_at, cut_kind, cut_slot, ends_by, hidden};
+ghost use Rattle.cmark_slots.specs.Cuts.{Hides, IsFirstAfter, cut_at, cut_kind, cut_slot, ends_by, hidden};
 ghost use Rattle.cmark_slots.specs.declared.slot.Slot.{Slot as Slots};
 ghost use Rattle.cmark_slots.specs.declared.slot.SlotKind.TheVariants as kind;
 
@@ -80,6 +80,9 @@ pub struct Slot {
     pub end: usize,
 }
 
+// How many slots more there is room for when a list of slots is full. Most leaves have fewer, so their list grows once.
+const SLOTS_AT_ONCE: usize = 24;
+
 /// Appends a slot.
 pub fn push_slot(
     slots: &mut Vec<Slot>,
@@ -89,7 +92,20 @@ pub fn push_slot(
 ) -> Result<(), AllocError>
     ensures { OnOk result (slots.new.items ≡ slots.old.items ++ (record { kind = kind; start = start; end = end } ∷ [])) }
 {
-    slots.push(Slot { kind, start, end })?;
+    if slots.len() >= slots.capacity() {
+        make_room(slots)?;
+    }
+    slots.push_reserved(Slot { kind, start, end });
+    Ok(())
+}
+
+/// Makes room for at least one more slot.
+#[inline(never)]
+fn make_room(slots: &mut Vec<Slot>) -> Result<(), AllocError>
+    ensures slots { slots.new.items ≡ slots.old.items }
+    ensures room { OnOk result (length slots.new.items < vec_capacity slots.new) }
+{
+    slots.reserve(SLOTS_AT_ONCE)?;
     Ok(())
 }
 
@@ -110,7 +126,7 @@ pub fn begin(slots: &mut Vec<Slot>, at: usize, element: Element, end: usize)
     ensures slots { (text : List ℕ) (place : ℕ) → AreSlots text place slots.old.items → IsCharBoundary text end → end ≤ place → AreSlots text place slots.new.items }
     ensures length { length slots.new.items ≡ length slots.old.items }
     ensures links { is_link element ≡ false → NoNewLink slots.old.items slots.new.items }
-    ensures behind { HoldNoLink slots.old.items at → HoldNoLink slots.new.items (at + 1) }
+    ensures following { HoldNoLink slots.old.items at → HoldNoLink slots.new.items (at + 1) }
     ensures value { (d : Slots) → slots.new.items ≡ set slots.old.items at (begun_as element end (get_or slots.old.items at d)) }
 {
     let slot = slots[at];
@@ -238,9 +254,9 @@ fn use_up_between(slots: &mut Vec<Slot>, first: usize, last: usize)
 }
 
 /// The index of the first slot, from `from` on, that ends after the offset `place`; the number of slots if there is none.
-pub fn first_behind(slots: &[Slot], from: usize, place: usize) -> usize
+pub fn first_after(slots: &[Slot], from: usize, place: usize) -> usize
     requires { from ≤ length slots.now }
-    ensures { IsFirstBehind slots.now from place result }
+    ensures { IsFirstAfter slots.now from place result }
 {
     let mut at = from;
     while at < slots.len() && ends_by(slots[at], place) {
@@ -252,7 +268,7 @@ pub fn first_behind(slots: &[Slot], from: usize, place: usize) -> usize
 // Whether a slot has no bytes after an offset. `End` and `Nothing` have no bytes, and an empty text ends where it begins.
 fn ends_by(slot: Slot, place: usize) -> bool
     ensures value { result ≡ ends_by place slot }
-    ensures behind { result ≡ false → place < slot.end }
+    ensures following { result ≡ false → place < slot.end }
 {
     let has_none = match slot.kind {
         SlotKind::End | SlotKind::Nothing => true,

@@ -3,11 +3,11 @@
 ghost use Rattle.std.specs.Prelude.{◌≡◌, ◌⊎◌, ◌+◌, ◌-◌, IfOk};
 ghost use Rattle.cmark_grammar.specs.Tokens.{slice};
 ghost use Rattle.cmark_leaf_text.specs.Reads.{IsPart, IsRead, place_of, source_of, text_of};
-ghost use Rattle.cmark_text_parts.specs.Lending.{IsBorrowed, IsLentBy};
-ghost use Rattle.cmark_text_parts.specs.Shown.{IsBoxed, IsInlined, text_bytes};
+ghost use Rattle.cmark_values.specs.Lending.{IsBorrowed, IsLentBy};
+ghost use Rattle.cmark_values.specs.Shown.{IsBoxed, IsInlined, text_bytes};
 
 use cmark_leaf_text::LeafText;
-use cmark_text_parts::CowStr;
+use cmark_values::CowStr;
 use std::alloc::{AllocError, Global};
 
 /// The bytes of a leaf's text from `from` up to `to`: borrowed if they are in the source without a gap. Fails if memory is refused.

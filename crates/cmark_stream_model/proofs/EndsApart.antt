@@ -10,16 +10,17 @@ use Rattle.cmark_grammar.specs.Containers.{Container, BlockQuote as BlockQuotePr
 use Rattle.cmark_grammar.specs.Openings.{texts, lazily, opens_at}
 use Rattle.cmark_grammar.specs.Places.{Apart}
 use Rattle.cmark_grammar.specs.Blocks.{Blocks, Nil as NoBlocks, BlankLine, Paragraph as ParagraphBlock, SetextHeading, LeafBlock, ContainerBlock, join as join_blocks, place_in}
-use Rattle.cmark_grammar.specs.BlocksModel.{within, place_behind}
-use Rattle.cmark_grammar.specs.BlocksByLine.{leaf_in, continuation_if, OpenLines, Between, BehindTag, InParagraph, InLeaf, InVerbatim, InContainer, blank_lines, close_lines, lines_take_lazy, lines_underline_or, lines_go_on_or, lines_kept_or, verbatim_line, lines_begin_in, lines_begin, lines_feed, lines_feed_all, blocks_by_line}
-use Rattle.cmark_grammar.specs.Lists.{ListBefore, definition_delimiter, is_title, ends_blank, is_parted_item, loose_from, is_tight, tight_behind, goes_on}
+use Rattle.cmark_block_model.specs.BlocksModel.{within, place_after}
+use Rattle.cmark_block_model.specs.BlocksByLine.{leaf_in, continuation_if, OpenLines, Between, AfterTag, InParagraph, InLeaf, InVerbatim, InContainer, blank_lines, close_lines, lines_take_lazy, lines_underline_or, lines_go_on_or, lines_kept_or, verbatim_line, lines_begin_in, lines_begin, lines_feed, lines_feed_all, blocks_by_line}
+use Rattle.cmark_grammar.specs.Lists.{ListBefore, definition_delimiter, is_title, ends_blank, is_parted_item, loose_from, is_tight, tight_after, goes_on}
 use Rattle.cmark_grammar.specs.Tokens.{paragraph_tokens}
 use Rattle.cmark_grammar.specs.BlockDocument.{BlockDocument, Heading, BlockQuote, FootnoteDefinition, ListItem, Node, node, join}
-use Rattle.cmark_grammar.specs.Derivation.{leaf_then, list_kind, item_then, task_then, paragraph_kind, document_of, document}
-use Rattle.cmark_grammar.specs.TaskItems.{behind_box}
+use Rattle.cmark_grammar.specs.Derivation.{leaf_then, list_kind, item_then, task_then, paragraph_kind, document_of}
+use Rattle.cmark_block_model.specs.DocumentModel.{document}
+use Rattle.cmark_grammar.specs.TaskItems.{after_box}
 use Rattle.cmark_grammar.specs.SetextAttributes.{content_of, setext_attributes, setext_tokens}
 use Rattle.cmark_grammar.specs.Labels.{normal_form}
-use Rattle.cmark_grammar.proofs.BlocksByLine.{by_line-same}
+use Rattle.cmark_block_model.proofs.BlocksByLine.{by_line-same}
 use Rattle.cmark_stream_model.specs.Growth.{ends_whole, last_list, continues, blocks_at, IsCut, document_before, document_of_tail}
 use Rattle.cmark_stream_model.proofs.GrowingLines.{blocks-grow}
 use Rattle.cmark_stream_model.proofs.JoinedDocuments.{item-join, leaf-join, goes-some}
@@ -53,7 +54,7 @@ module _ (c : Blocks) (free : NoDefinitions c) where
       go true = refl
       go false = refl
 
-  -- a list that is not continued is not loose for what follows
+  -- a list that does not continue is not made loose by the blocks after it
   ended-loose : (d : ℕ) (blank : Bool) (b : Blocks) → NoDefinitions b → goes_on d b ≡ false → loose_from d blank b ≡ false
   ended-loose d blank NoBlocks h e = refl
   ended-loose d blank (BlankLine line after) h e = ended-loose d true after h e
@@ -83,11 +84,11 @@ module _ (c : Blocks) (free : NoDefinitions c) where
       go false q same = refl
   loose-same d blank (ContainerBlock (ListDefinition width) first more inside after) h e = absurd (true≢false h.0)
 
-  tight-same : (list : Option ListBefore) (d : ℕ) (inside a : Blocks) → NoDefinitions a → continues (last_list (Some d) a) c ≡ false → tight_behind list d inside (join_blocks a c) ≡ tight_behind list d inside a
+  tight-same : (list : Option ListBefore) (d : ℕ) (inside a : Blocks) → NoDefinitions a → continues (last_list (Some d) a) c ≡ false → tight_after list d inside (join_blocks a c) ≡ tight_after list d inside a
   tight-same None d inside a h e = ap (λ l. not (is_parted_item inside || l)) (loose-same d (ends_blank true false inside) a h e)
   tight-same (Some before) d inside a h e = ap (λ l. if before.delimiter == d then before.tight else not (is_parted_item inside || l)) (loose-same d (ends_blank true false inside) a h e)
 
-  -- the character of the list before
+  -- the character of the list before the blocks
   abbrev character : Option ListBefore → Option ℕ
   character None = None
   character (Some before) = Some before.delimiter
@@ -97,7 +98,7 @@ module _ (c : Blocks) (free : NoDefinitions c) where
         → document_of text options lookup direct list (ParagraphBlock first more b) ≡ Node (node (paragraph_kind direct) (start_of first) (last_line_end first more)) (paragraph_tokens text first more) (document_of text options lookup direct None b)
     plain direct list first more b h = rw (no-title b h) refl
 
-    -- blocks that do not continue the list before do not depend on it
+    -- if the blocks do not continue the list before them, their document does not depend on it
     list-ended : (direct : Bool) (before : ListBefore) (b : Blocks) → NoDefinitions b → goes_on before.delimiter b ≡ false
         → document_of text options lookup direct (Some before) b ≡ document_of text options lookup direct None b
     list-ended direct before NoBlocks h e = refl
@@ -113,7 +114,7 @@ module _ (c : Blocks) (free : NoDefinitions c) where
         form : Bool → BlockDocument
         form tight =
             item_then (goes_on m after) (list_kind m number tight) (node ListItem (begin_of first) (last_line_end first more))
-            (task_then task (begin_of (without width first)) (begin_of (without (behind_box task width) first)) (document_of text options lookup tight None inside))
+            (task_then task (begin_of (without width first)) (begin_of (without (after_box task width) first)) (document_of text options lookup tight None inside))
             (document_of text options lookup direct (Some (record { delimiter = m; tight = tight })) after)
     list-ended direct before (ContainerBlock (ListDefinition width) first more inside after) h e = absurd (true≢false h.0)
 
@@ -136,35 +137,35 @@ module _ (c : Blocks) (free : NoDefinitions c) where
     document-ends direct list (ContainerBlock (Footnote label old size) first more inside after) h e =
         ap (Node (node (FootnoteDefinition (normal_form label)) (start_of first) (last_line_end first more)) (document_of text options lookup false None inside)) (document-ends direct None after h.1 e)
     document-ends direct list (ContainerBlock (Item m number width task) first more inside after) h e =
-        ap (λ z. form z (tight_behind list m inside (join_blocks after c)) (join_blocks after c)) (goes-same m after h.1 e)
+        ap (λ z. form z (tight_after list m inside (join_blocks after c)) (join_blocks after c)) (goes-same m after h.1 e)
         ∙ ap (λ t. form (goes_on m after) t (join_blocks after c)) (tight-same list m inside after h.1 e)
         ∙ ap (item_then (goes_on m after) (list_kind m number tight) (node ListItem (begin_of first) (last_line_end first more)) (held tight)) (document-ends direct (Some (record { delimiter = m; tight = tight })) after h.1 e)
         ∙ item-join (goes_on m after) (list_kind m number tight) (node ListItem (begin_of first) (last_line_end first more)) (held tight) (document_of text options lookup direct (Some (record { delimiter = m; tight = tight })) after) (document_of text options lookup direct None c)
         (λ q. goes-some text options lookup direct (Some (record { delimiter = m; tight = tight })) m after q)
       where
         held : Bool → BlockDocument
-        held tight = task_then task (begin_of (without width first)) (begin_of (without (behind_box task width) first)) (document_of text options lookup tight None inside)
+        held tight = task_then task (begin_of (without width first)) (begin_of (without (after_box task width) first)) (document_of text options lookup tight None inside)
 
         form : Bool → Bool → Blocks → BlockDocument
         form z tight b = item_then z (list_kind m number tight) (node ListItem (begin_of first) (last_line_end first more)) (held tight) (document_of text options lookup direct (Some (record { delimiter = m; tight = tight })) b)
 
         tight : Bool
-        tight = tight_behind list m inside after
+        tight = tight_after list m inside after
     document-ends direct list (ContainerBlock (ListDefinition width) first more inside after) h e = absurd (true≢false h.0)
 
--- ## No definitions along the lines
+-- ## No definitions, line by line
 
 module _ (options : Options) (off : options.definition_list ≡ false) where
   begin-none : (closed : Blocks) (r : Row) (ahead : List Row) → NoDefinitions closed → NoneOpen (lines_begin options closed r ahead)
   unfolding lines_begin
-  begin-none closed r ahead n = begun-none (opens_at options (place_behind Apart closed) r ahead) inside closed r (no-at options off closed r ahead) n
+  begin-none closed r ahead n = begun-none (opens_at options (place_after Apart closed) r ahead) inside closed r (no-at options off closed r ahead) n
     where
       inside : Container → OpenLines
       inside k = lines_begin_in options (length r.columns) (place_in k) NoBlocks (enter k r) (within k (is_bare_start k r) ahead)
 
   feed-none : (o : OpenLines) (r : Row) (ahead : List Row) → NoneOpen o → NoneOpen (lines_feed options o r ahead)
   feed-none (Between closed) r ahead g = begin-none closed r ahead g
-  feed-none BehindTag r ahead g = absurd g
+  feed-none AfterTag r ahead g = absurd g
   feed-none (InParagraph closed first more) r ahead g = go (underlines r) (texts options r ahead) (begin-none (join_blocks closed (ParagraphBlock first more NoBlocks)) r ahead (close-none (InParagraph closed first more) g))
     where
       go : (u : Option ℕ) (t : Bool) → NoneOpen (lines_begin options (join_blocks closed (ParagraphBlock first more NoBlocks)) r ahead)
@@ -202,10 +203,10 @@ module _ (options : Options) (off : options.definition_list ≡ false) where
   at-none : (at : ℕ) (text : List ℕ) → NoDefinitions (blocks_at options at text)
   at-none at text = let o = lines_feed_all options (Between NoBlocks) (rows_from at (lines text)) in close-none o (all-none (Between NoBlocks) (rows_from at (lines text)) tt)
 
-  pub ends-grow : (lookup : Lookup) (front behind : List ℕ) (r : Row) (rs : List Row) → ends_whole front behind ≡ true → rows_from (length front) (lines behind) ≡ r ∷ rs → IsCut options front r rs → continues (last_list None (blocks_at options 0 front)) (blocks_at options (length front) behind) ≡ false
-      → document (front ++ behind) options lookup ≡ join (document_before options lookup (front ++ behind) front) (document_of_tail options lookup (front ++ behind) (length front) behind)
+  pub ends-grow : (lookup : Lookup) (front following : List ℕ) (r : Row) (rs : List Row) → ends_whole front following ≡ true → rows_from (length front) (lines following) ≡ r ∷ rs → IsCut options front r rs → continues (last_list None (blocks_at options 0 front)) (blocks_at options (length front) following) ≡ false
+      → document (front ++ following) options lookup ≡ join (document_before options lookup (front ++ following) front) (document_of_tail options lookup (front ++ following) (length front) following)
   unfolding blocks_by_line
-  ends-grow lookup front behind r rs whole are cut e =
-      ap (document_of (front ++ behind) options lookup false None) (blocks-grow options front behind r rs whole are cut ∙ ap (λ b. join_blocks b (blocks_at options (length front) behind)) (sym (by_line-same options front)))
-      ∙ document-ends (blocks_at options (length front) behind) (at-none (length front) behind) (front ++ behind) options lookup false None (blocks_at options 0 front) (at-none 0 front) e
-      ∙ ap (λ b. join (document_of (front ++ behind) options lookup false None b) (document_of_tail options lookup (front ++ behind) (length front) behind)) (by_line-same options front)
+  ends-grow lookup front following r rs whole are cut e =
+      ap (document_of (front ++ following) options lookup false None) (blocks-grow options front following r rs whole are cut ∙ ap (λ b. join_blocks b (blocks_at options (length front) following)) (sym (by_line-same options front)))
+      ∙ document-ends (blocks_at options (length front) following) (at-none (length front) following) (front ++ following) options lookup false None (blocks_at options 0 front) (at-none 0 front) e
+      ∙ ap (λ b. join (document_of (front ++ following) options lookup false None b) (document_of_tail options lookup (front ++ following) (length front) following)) (by_line-same options front)

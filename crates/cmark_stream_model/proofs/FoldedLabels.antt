@@ -1,4 +1,4 @@
--- The normal form of a label, folded, is the folded label.
+-- The folded form of a label's normal form is the folded label.
 use Rattle.std.proofs.Common.{◌≡◌, ℕ, Bool, true, false, List, [], ◌∷◌, All, cond, filter, refl, ap, ◌∙◌, arith}
 use Rattle.std.specs.Char.{is_ascii_whitespace}
 use Rattle.std.specs.List.{slice_split, join_with_byte, onto_first}
@@ -6,7 +6,7 @@ use Rattle.std.proofs.lemmas.List.Elements.{All-cons}
 use Rattle.std.proofs.lemmas.List.Splits.{slice_split_none, slice_split_at}
 use Rattle.cmark_grammar.specs.Labels.{is_nonempty, words, normal_form, case_folded, fold}
 
--- words of a label
+-- a word of a label has no white space
 abbrev pub IsWord : List ℕ → Type 0
 IsWord bs = All (λ b. is_ascii_whitespace b ≡ false) bs
 
@@ -52,7 +52,7 @@ words-again (p ∷ q ∷ ps) h =
     ∙ kept p (slice_split is_ascii_whitespace (join_with_byte 32 (q ∷ ps))) h.1
     ∙ ap (λ ws. p ∷ ws) (words-again (q ∷ ps) h.2)
 
--- a normal form is its own normal form
+-- the normal form of a label folds like the label
 pub fold-again : (label : List ℕ) → fold (normal_form label) ≡ fold label
 fold-again label =
     ap (λ ws. case_folded (join_with_byte 32 ws)) (words-again (words label) (filter-words (slice_split is_ascii_whitespace label) (split-parts label)))

@@ -1,10 +1,11 @@
--- A leaf among the first bytes of a text is read as the same events where the text goes on, if the labels that it may ask for lead to the same.
+-- A leaf among the first bytes of a text is read as the same events if the text grows. The labels that it may look up must lead to the same
+-- definitions.
 use Rattle.std.proofs.Common.{◌≡◌, inl, inr, ℕ, zero, suc, ◌+◌, ◌-◌, ◌≤◌, Bool, true, false, not, ◌==◌, ◌&&◌, ◌||◌, List, [], ◌∷◌, ◌++◌, length, drop, take, refl, sym, ap, ◌∙◌, subst, arith, true≢false, length-drop, Option, Some, None}
 use Rattle.std.specs.Prelude.{if◌then◌else◌, min, max, reverse, chars, codes, map}
 use Rattle.std.specs.List.{prefix_len}
 use Rattle.cmark_grammar.specs.BlockDocument.{Reference as Definition}
 use Rattle.cmark_grammar.specs.Autolinks.{autolink_in}
-use Rattle.cmark_grammar.specs.BracketDecisions.{Named, behind, between, place, stays, question, answered, with_answer, defined_or_asked, refers, one_line_footnotes, is_footnote_label, footnote_reference, as_label, collapsed_or_shortcut, by_own_label, full_reference, reference_or, unless_footnote, link_or, with_taken, wiki_text, wikilink_or, decide, is_there, forms, name_in, behind_pipe}
+use Rattle.cmark_grammar.specs.BracketDecisions.{Named, following, between, place, stays, question, answered, with_answer, defined_or_asked, refers, one_line_footnotes, is_footnote_label, footnote_reference, as_label, collapsed_or_shortcut, by_own_label, full_reference, reference_or, unless_footnote, link_or, with_taken, wiki_text, wikilink_or, decide, is_there, forms, name_in, after_pipe}
 use Rattle.cmark_grammar.specs.BracketReading.{Reads, Comes}
 use Rattle.cmark_grammar.specs.BracketStates.{Opener, State, moved, opened, Result, StaysText, Forms, Outcome, Decision, Settled, Asks}
 use Rattle.cmark_grammar.specs.CodeSpans.{is_backtick, backticks, code_in}
@@ -12,8 +13,8 @@ use Rattle.cmark_grammar.specs.Columns.{is_blank_byte}
 use Rattle.cmark_grammar.specs.Event.{Start, End, Text, InlineHtml, Ranged}
 use Rattle.cmark_grammar.specs.TagEnd as tag_end
 use Rattle.cmark_grammar.specs.Flanking.{flanking, is_run_delimiter}
-use Rattle.cmark_grammar.specs.Formulas.{is_dollar, Braces, no_braces, braces_behind, inline_in, display_in}
-use Rattle.cmark_grammar.specs.InlineHtml.{behind_markup}
+use Rattle.cmark_grammar.specs.Formulas.{is_dollar, Braces, no_braces, braces_after, inline_in, display_in}
+use Rattle.cmark_grammar.specs.InlineHtml.{after_markup}
 use Rattle.cmark_grammar.specs.InlineReading.{event_of, inline_events}
 use Rattle.cmark_grammar.specs.InlineTokens.{item_at, is_plain, first_of, from, before, place_of, character_before, character_at, line_begins, read_on, break_to, break_or, code_or, escaped_backtick, escape_at, entity_or, autolink_or, tag_kind, tag_or_text, source_from, markup_to, markup_or, less_than, run_or, run_at, formula_or, dollar, hyphens, smart_or, begins, begins_at, goes_on, plain_end, longest, token}
 use Rattle.cmark_grammar.specs.Items as items
@@ -25,19 +26,19 @@ use Rattle.cmark_grammar.specs.Letters.{first_is, starts}
 use Rattle.cmark_grammar.specs.LinkType.{Reference}
 use Rattle.cmark_grammar.specs.LineBreaks.{LineBreak, backslash_break_in, blank_break_in}
 use Rattle.cmark_grammar.specs.Lines.{is_content}
-use Rattle.cmark_grammar.specs.LinkDefinitions.{Parsed, behind_blanks}
-use Rattle.cmark_grammar.specs.LinkTails.{LinkTail, link_tail_in, behind_collapsed, is_bracketed_label, reference_label_in}
+use Rattle.cmark_grammar.specs.LinkDefinitions.{Parsed, after_leading_blanks}
+use Rattle.cmark_grammar.specs.LinkTails.{LinkTail, link_tail_in, after_collapsed, is_bracketed_label, reference_label_in}
 use Rattle.cmark_grammar.specs.OpenBrackets.{Taken, nearest, used_up, doubled, undoubled, tried, inactive, dropped}
 use Rattle.cmark_grammar.specs.Parts.{Footnote, Wiki, Parts, Nil as NoParts, Single as SinglePart, Form, Closing, Opening, openings}
 use Rattle.cmark_grammar.specs.Questions.{Exchange, Saying}
 use Rattle.cmark_grammar.specs.Quotes.{quote_beside}
 use Rattle.cmark_grammar.specs.Readers.{Reader}
 use Rattle.cmark_grammar.specs.Siblings.{Inline, Nil as NoSpans, Single as SingleItem, Around as SpanAround}
-use Rattle.cmark_grammar.specs.SiblingsModel.{spans_in}
+use Rattle.cmark_inline_model.specs.SiblingsModel.{spans_in}
 use Rattle.cmark_grammar.specs.SpanDocuments.{Profile, Segment, Given, Content, ReadsAll}
-use Rattle.cmark_grammar.specs.Tags.{behind_tag, no_prefix}
+use Rattle.cmark_grammar.specs.Tags.{after_tag, no_prefix}
 use Rattle.cmark_grammar.specs.Tokens.{Entity, entity_in, slice}
-use Rattle.cmark_inline_model.specs.CutRanges.{IsBehindPipe}
+use Rattle.cmark_inline_model.specs.CutRanges.{IsAfterPipe}
 use Rattle.cmark_inline_model.specs.LeafModel.{HaveLineEnds}
 use Rattle.cmark_inline_model.specs.NestedLinks.{Persist, ResultsApart, KeepsApart}
 use Rattle.cmark_inline_model.specs.Progress.{Always, FitsBy, Fits}
@@ -55,7 +56,7 @@ use Rattle.cmark_inline_model.proofs.WikiGaps.{decide-far, reading-gaps}
 use Rattle.cmark_stream_model.proofs.FoldedLabels.{fold-again}
 use Rattle.cmark_stream_model.specs.Continued.{Agree, reader_with, MayAskFor, AreKept, AreKeptButLabels}
 
--- a choice of two that are the same each
+-- a choice has the same result if each of its cases has
 either-token : (z : Bool) (a b c d : Token) → a ≡ b → c ≡ d → (if z then a else c) ≡ (if z then b else d)
 either-token true a b c d e f = e
 either-token false a b c d e f = f
@@ -68,7 +69,7 @@ either-place : (z : Bool) (a b c d : ℕ) → a ≡ b → c ≡ d → (if z then
 either-place true a b c d e f = e
 either-place false a b c d e f = f
 
--- stretches in turn end within so many bytes
+-- stretches in turn end within `size` bytes
 turn-low : (at size : ℕ) (st : List Stretch) → InTurn at st size → at ≤ size
 turn-low at size [] h = h
 turn-low at size (x ∷ more) h = let a = h.0 in let b = h.1 in let c = turn-low x.end size more h.2 in omega (arith, a, b, c)
@@ -108,14 +109,14 @@ module _ (profile : Profile) (size : ℕ) (s t : List ℕ) (agree : Agree size s
 
   read_on-same : (at : ℕ) → read_on one leaf at ≡ read_on other leaf at
   read_on-same at =
-      ap (λ b. place_of one leaf (if first_is (λ c. not (is_content c)) (reverse b) then behind_blanks (from one leaf at) else from one leaf at)) (before-same at)
-      ∙ ap (λ l. place_of one leaf (if line_begins other leaf at then behind_blanks l else l)) (from-same at)
+      ap (λ b. place_of one leaf (if first_is (λ c. not (is_content c)) (reverse b) then after_leading_blanks (from one leaf at) else from one leaf at)) (before-same at)
+      ∙ ap (λ l. place_of one leaf (if line_begins other leaf at then after_leading_blanks l else l)) (from-same at)
 
   break_or-same : (at : ℕ) (o : Option LineBreak) (x y : Token) → x ≡ y → break_or one leaf at o x ≡ break_or other leaf at o y
   break_or-same at None x y h = h
   break_or-same at (Some found) x y h =
-      ap (λ (l : List ℕ). break_to one leaf at found (at + (length l - length found.behind))) (from-same at)
-      ∙ ap (λ n. Stands (record { kind = if found.is_hard then HardBreak else SoftBreak; start = at + found.before; end = at + (length (from other leaf at) - length found.behind) }) n) (read_on-same (at + (length (from other leaf at) - length found.behind)))
+      ap (λ (l : List ℕ). break_to one leaf at found (at + (length l - length found.following))) (from-same at)
+      ∙ ap (λ n. Stands (record { kind = if found.is_hard then HardBreak else SoftBreak; start = at + found.before; end = at + (length (from other leaf at) - length found.following) }) n) (read_on-same (at + (length (from other leaf at) - length found.following)))
 
   code_or-same : (at n : ℕ) (o : Option Parsed) → code_or one leaf at n o ≡ code_or other leaf at n o
   code_or-same at n None = refl
@@ -150,8 +151,8 @@ module _ (profile : Profile) (size : ℕ) (s t : List ℕ) (agree : Agree size s
   less_than-same at bs =
       either-token (first_is (λ c. c == 92) bs) _ _ _ _ refl
       (autolink_or-same at (autolink_in profile.options.email_autolinks bs) _ _
-      (ap (λ l. markup_or one leaf at (behind_markup l) (tag_or_text one leaf at (behind_tag no_prefix (from one leaf at)))) (source-same at)
-      ∙ markup_or-same at (behind_markup (source_from other leaf at)) _ _ (ap (λ l. tag_or_text one leaf at (behind_tag no_prefix l)) (from-same at) ∙ tag_or_text-same at (behind_tag no_prefix (from other leaf at)))))
+      (ap (λ l. markup_or one leaf at (after_markup l) (tag_or_text one leaf at (after_tag no_prefix (from one leaf at)))) (source-same at)
+      ∙ markup_or-same at (after_markup (source_from other leaf at)) _ _ (ap (λ l. tag_or_text one leaf at (after_tag no_prefix l)) (from-same at) ∙ tag_or_text-same at (after_tag no_prefix (from other leaf at)))))
 
   character_before-same : (at : ℕ) → character_before one leaf at ≡ character_before other leaf at
   character_before-same at = ap (λ l. first_of (reverse (chars l))) (before-same at)
@@ -192,7 +193,7 @@ module _ (profile : Profile) (size : ℕ) (s t : List ℕ) (agree : Agree size s
       (either-token (b == 91) _ _ _ _ refl
       (either-token (b == 93) _ _ _ _ refl
       (either-token (is_run_delimiter b) _ _ _ _ (run_at-same at b (prefix_len (λ c. c == b) (b ∷ bs)))
-      (either-token (profile.options.math && is_dollar b) _ _ _ _ (dollar-same at bs _ _ (ap (λ l. braces_behind false l no_braces) (before-same at)))
+      (either-token (profile.options.math && is_dollar b) _ _ _ _ (dollar-same at bs _ _ (ap (λ l. braces_after false l no_braces) (before-same at)))
       (either-token profile.options.smart_punctuation _ _ _ _ (smart_or-same at b) refl))))))))))
 
   begins_at-same : (at : ℕ) → begins_at one leaf at ≡ begins_at other leaf at
@@ -224,7 +225,7 @@ module _ (profile : Profile) (size : ℕ) (s t : List ℕ) (agree : Agree size s
 
   between-same : (start end : ℕ) → between one leaf start end ≡ between other leaf start end
   between-same start end =
-      ap (λ (l : List ℕ). take (length l - length (behind one leaf end)) l) (from-same start) ∙ ap (λ (l : List ℕ). take (length (behind other leaf start) - length l) (behind other leaf start)) (from-same end)
+      ap (λ (l : List ℕ). take (length l - length (following one leaf end)) l) (from-same start) ∙ ap (λ (l : List ℕ). take (length (following other leaf start) - length l) (following other leaf start)) (from-same end)
 
   wiki_text-same : (first : Taken) (closer : Bracket) → closer.start ≤ size → wiki_text one leaf first closer ≡ wiki_text other leaf first closer
   wiki_text-same first closer w = agree (suc first.opener.bracket.end) closer.start w
@@ -233,14 +234,14 @@ module _ (profile : Profile) (size : ℕ) (s t : List ℕ) (agree : Agree size s
   defined-same None named taken closer st = refl
   defined-same (Some found) named taken closer st = refl
 
-  -- the labels that the leaf may ask for lead to the same
+  -- the labels that the leaf may look up lead to the same definitions and footnotes
   abbrev pub Alike : Type 0
   Alike = (label : List ℕ) → MayAskFor one leaf label → (d (fold label) ≡ e (fold label)) × (f (fold label) ≡ g (fold label))
 
   abbrev pub FootnotesAlike : Type 0
   FootnotesAlike = (label : List ℕ) → MayAskFor one leaf label → f (fold label) ≡ g (fold label)
 
-  -- a reference is decided about in the same way
+  -- the decision about a reference is the same in both texts
   abbrev pub SameReference : Named → Taken → Bracket → State → Type 0
   SameReference named taken closer st = refers one leaf named taken closer st ≡ refers other leaf named taken closer st
 
@@ -275,12 +276,12 @@ module _ (profile : Profile) (size : ℕ) (s t : List ℕ) (agree : Agree size s
   unless-same None = refl
   unless-same (Some x) = refl
 
-  -- the taken bracket is one of the leaf
+  -- the taken bracket is an opening bracket of the leaf
   abbrev IsTakenOpener : Option Taken → Type 0
   IsTakenOpener None = Unit {0}
   IsTakenOpener (Some taken) = IsOpener taken.opener.bracket
 
-  -- references are decided about in the same way if this holds of a decision
+  -- if `Holds` is true of a decision about a reference, the decision is the same in both texts
   module _ (Holds : Decision → Type 0) (footnotes : FootnotesAlike)
       (refers-same : (named : Named) (taken : Taken) (closer : Bracket) (st : State) → MayAskFor one leaf named.label → Holds (refers one leaf named taken closer st) → SameReference named taken closer st) where
     either-held : (z : Bool) (a b x y : Decision) → Holds (if z then a else b) → (Holds a → a ≡ x) → (Holds b → b ≡ y) → (if z then a else b) ≡ (if z then x else y)
@@ -293,9 +294,9 @@ module _ (profile : Profile) (size : ℕ) (s t : List ℕ) (agree : Agree size s
         either-held (is_footnote_label one leaf (between one leaf start end)) _ _ _ _ k
         (λ h. footnote-same (as_label one leaf (drop 1 (between one leaf start end))) taken closer st (footnotes _ (at, closer, q, inr (o.0, taken.opener.bracket, o.1, inr refl))))
         (λ h. either-held (is_bracketed_label (between one leaf start end)) _ _ _ _ h
-        (λ h. refers-same named taken closer st (subst (MayAskFor one leaf) (sym (named-label label closer.end (behind_collapsed (behind one leaf closer.end)))) (at, closer, q, inr (o.0, taken.opener.bracket, o.1, inl refl))) h
-        ∙ ap (λ l. refers other leaf (collapsed_or_shortcut one leaf label closer.end (behind_collapsed l)) taken closer st) (from-same closer.end)
-        ∙ ap (λ n. refers other leaf n taken closer st) (named-same label closer.end (behind_collapsed (behind other leaf closer.end))))
+        (λ h. refers-same named taken closer st (subst (MayAskFor one leaf) (sym (named-label label closer.end (after_collapsed (following one leaf closer.end)))) (at, closer, q, inr (o.0, taken.opener.bracket, o.1, inl refl))) h
+        ∙ ap (λ l. refers other leaf (collapsed_or_shortcut one leaf label closer.end (after_collapsed l)) taken closer st) (from-same closer.end)
+        ∙ ap (λ n. refers other leaf n taken closer st) (named-same label closer.end (after_collapsed (following other leaf closer.end))))
         (λ h. refl))
         ∙ ap (λ l. by_own_label other leaf l taken closer st) (between-same start end)
       where
@@ -309,12 +310,12 @@ module _ (profile : Profile) (size : ℕ) (s t : List ℕ) (agree : Agree size s
         label = as_label one leaf (between one leaf taken.opener.bracket.end closer.start)
 
         named : Named
-        named = collapsed_or_shortcut one leaf label closer.end (behind_collapsed (behind one leaf closer.end))
+        named = collapsed_or_shortcut one leaf label closer.end (after_collapsed (following one leaf closer.end))
 
     full-same : (found : Parsed) (at : ℕ) (taken : Taken) (closer : Bracket) (st : State) → token one leaf at ≡ Closes closer → reference_label_in (from one leaf closer.end) ≡ Some found → Holds (full_reference one leaf found taken closer st)
         → full_reference one leaf found taken closer st ≡ full_reference other leaf found taken closer st
     full-same found at taken closer st c q k =
-        refers-same (record { label = as_label one leaf found.bytes; link_type = Reference; end = place one leaf found.behind; resume = place one leaf found.behind }) taken closer (record st { label_close = Some (place one leaf found.behind - 1) })
+        refers-same (record { label = as_label one leaf found.bytes; link_type = Reference; end = place one leaf found.following; resume = place one leaf found.following }) taken closer (record st { label_close = Some (place one leaf found.following - 1) })
         (at, closer, c, inl (found, q, refl)) k
 
     reference-same : (o : Option Parsed) (at : ℕ) (taken : Taken) (closer : Bracket) (st : State) → token one leaf at ≡ Closes closer → IsOpener taken.opener.bracket → ((found : Parsed) → o ≡ Some found → reference_label_in (from one leaf closer.end) ≡ Some found)
@@ -322,16 +323,16 @@ module _ (profile : Profile) (size : ℕ) (s t : List ℕ) (agree : Agree size s
     reference-same None at taken closer st c b h k = either-held (is_there closer.start st.label_close) _ _ _ _ k (λ z. refl) (λ z. own-same at taken closer st c b z)
     reference-same (Some found) at taken closer st c b h k = full-same found at taken closer st c (h found refl) k
 
-    link-same : (at : ℕ) (taken : Taken) (closer : Bracket) (st : State) → token one leaf at ≡ Closes closer → IsOpener taken.opener.bracket → Holds (link_or one leaf (link_tail_in (behind one leaf closer.end)) taken closer st)
-        → link_or one leaf (link_tail_in (behind one leaf closer.end)) taken closer st ≡ link_or other leaf (link_tail_in (behind other leaf closer.end)) taken closer st
-    link-same at taken closer st c b k = go (link_tail_in (behind one leaf closer.end)) k ∙ ap (λ l. link_or other leaf (link_tail_in l) taken closer st) (from-same closer.end)
+    link-same : (at : ℕ) (taken : Taken) (closer : Bracket) (st : State) → token one leaf at ≡ Closes closer → IsOpener taken.opener.bracket → Holds (link_or one leaf (link_tail_in (following one leaf closer.end)) taken closer st)
+        → link_or one leaf (link_tail_in (following one leaf closer.end)) taken closer st ≡ link_or other leaf (link_tail_in (following other leaf closer.end)) taken closer st
+    link-same at taken closer st c b k = go (link_tail_in (following one leaf closer.end)) k ∙ ap (λ l. link_or other leaf (link_tail_in l) taken closer st) (from-same closer.end)
       where
         go : (o : Option LinkTail) → Holds (link_or one leaf o taken closer st) → link_or one leaf o taken closer st ≡ link_or other leaf o taken closer st
         go (Some tail) k = refl
         go None k =
-            reference-same (unless_footnote one leaf (reference_label_in (behind one leaf closer.end))) at taken closer st c b (λ found q. unless-found (reference_label_in (behind one leaf closer.end)) found q) k
+            reference-same (unless_footnote one leaf (reference_label_in (following one leaf closer.end))) at taken closer st c b (λ found q. unless-found (reference_label_in (following one leaf closer.end)) found q) k
             ∙ ap (λ l. reference_or other leaf (unless_footnote one leaf (reference_label_in l)) taken closer st) (from-same closer.end)
-            ∙ ap (λ o. reference_or other leaf o taken closer st) (unless-same (reference_label_in (behind other leaf closer.end)))
+            ∙ ap (λ o. reference_or other leaf o taken closer st) (unless-same (reference_label_in (following other leaf closer.end)))
 
     taken-same : (at : ℕ) (o : Option Taken) (closer : Bracket) (st : State) → token one leaf at ≡ Closes closer → IsTakenOpener o → Holds (with_taken one leaf o closer st) → with_taken one leaf o closer st ≡ with_taken other leaf o closer st
     taken-same at None closer st c b k = refl
@@ -348,12 +349,12 @@ module _ (profile : Profile) (size : ℕ) (s t : List ℕ) (agree : Agree size s
         form reader l =
             if first.opener.is_inactive || (length (name_in l) == 0)
             then with_taken reader leaf o closer (record st { openers = tried first.nearer st.openers })
-            else Settled (forms reader leaf first (Wiki (name_in l) (behind_pipe (suc first.opener.bracket.end) l) (suc closer.end)) (suc closer.end) (λ os. map undoubled (map inactive os)) st)
+            else Settled (forms reader leaf first (Wiki (name_in l) (after_pipe (suc first.opener.bracket.end) l) (suc closer.end)) (suc closer.end) (λ os. map undoubled (map inactive os)) st)
 
     decide-same : (at : ℕ) (st : State) (closer : Bracket) → closer.start ≤ size → token one leaf at ≡ Closes closer → IsTakenOpener (nearest st.openers) → Holds (decide one leaf st closer) → decide one leaf st closer ≡ decide other leaf st closer
     unfolding decide
     decide-same at st closer w c b k =
-        either-held (profile.options.wikilinks && first_is (λ b. b == 93) (behind one leaf closer.end)) _ _ _ _ k (λ h. wikilink-same at (doubled now.openers) (nearest st.openers) closer now w c b h) (λ h. taken-same at (nearest st.openers) closer now c b h)
+        either-held (profile.options.wikilinks && first_is (λ b. b == 93) (following one leaf closer.end)) _ _ _ _ k (λ h. wikilink-same at (doubled now.openers) (nearest st.openers) closer now w c b h) (λ h. taken-same at (nearest st.openers) closer now c b h)
         ∙ ap (λ l. if profile.options.wikilinks && first_is (λ b. b == 93) l then wikilink_or other leaf (doubled now.openers) (nearest st.openers) closer now else with_taken other leaf (nearest st.openers) closer now) (from-same closer.end)
       where
         now : State
@@ -366,7 +367,7 @@ module _ (profile : Profile) (size : ℕ) (s t : List ℕ) (agree : Agree size s
       let k = (leaf-ranges one leaf size turn).closes at closer q in
       let a = k.0.ordered in let b = k.0.ends in let c = end-low in omega (arith, a, b, c)
 
-  -- the opening brackets of a state are brackets of the leaf
+  -- the openers of a state are opening brackets of the leaf
   abbrev AreOpeners : List Opener → Type 0
   AreOpeners [] = Unit {0}
   AreOpeners (o ∷ os) = IsOpener o.bracket × AreOpeners os
@@ -400,22 +401,22 @@ module _ (profile : Profile) (size : ℕ) (s t : List ℕ) (agree : Agree size s
       go [] e = let z : length (drop nearer os) ≡ 0 = ap length e in let d = length-drop nearer os in absurd (omega (arith, z, d, f))
       go (t ∷ b) e = openers-persist b after (k t b e).persist (subst AreOpeners e (openers-drop nearer os h)).1
 
-  openers-behind : (Says : Saying) (asked : List Exchange) (st : State) (closer : Bracket) (o : Outcome) → Comes Says asked (decide one leaf st closer) o → AreOpeners st.openers → AreOpeners o.after.openers
-  openers-behind Says asked st closer o k h =
+  openers-following : (Says : Saying) (asked : List Exchange) (st : State) (closer : Bracket) (o : Outcome) → Comes Says asked (decide one leaf st closer) o → AreOpeners st.openers → AreOpeners o.after.openers
+  openers-following Says asked st closer o k h =
       openers-left st.openers o.after.openers o.result (always-comes Says asked (KeepsApart st.openers) (decide one leaf st closer) o ((decide-apart one leaf).keeps st closer) k)
       (always-comes Says asked (Fits (length st.openers)) (decide one leaf st closer) o ((leaf-forward one leaf size turn).fits st closer) k) h
 
-  -- what was read leads to a state of which this holds too
+  -- after the parts, the openers of the state still are
   openers-kept : (Says : Saying) (a : State) (parts : Parts) (b : State) → Reads (token one leaf) (decide one leaf) Says a parts b → AreOpeners a.openers → AreOpeners b.openers
   openers-kept Says a NoParts b h k = subst (λ (x : State). AreOpeners x.openers) (sym h) k
   openers-kept Says a (SinglePart item after) b h k = openers-kept Says (moved h.0 a) after b h.2 k
   openers-kept Says a (Form opener inside closer formed after) b h k =
       openers-kept Says h.next after b h.after
-      (openers-behind Says h.until.asked h.until closer (record { result = Forms (openings inside) formed; after = h.next }) h.comes (openers-kept Says (opened opener a) inside h.until h.inside ((a.at, h.opens), k)))
-  openers-kept Says a (Closing closer after) b h k = openers-kept Says h.next after b h.after (openers-behind Says a.asked a closer (record { result = StaysText; after = h.next }) h.comes k)
+      (openers-following Says h.until.asked h.until closer (record { result = Forms (openings inside) formed; after = h.next }) h.comes (openers-kept Says (opened opener a) inside h.until h.inside ((a.at, h.opens), k)))
+  openers-kept Says a (Closing closer after) b h k = openers-kept Says h.next after b h.after (openers-following Says a.asked a closer (record { result = StaysText; after = h.next }) h.comes k)
   openers-kept Says a (Opening opener after) b h k = openers-kept Says (opened opener a) after b h.1 ((a.at, h.0), k)
 
-  -- each closing bracket of a reading is decided about in the same way
+  -- the decision about each closing bracket of a reading is the same in both texts
   abbrev pub SameDecisions : Saying → Type 0
   SameDecisions Says =
       (at : ℕ) (st : State) (closer : Bracket) (o : Outcome) → closer.start ≤ size → token one leaf at ≡ Closes closer → IsTakenOpener (nearest st.openers) → Comes Says st.asked (decide one leaf st closer) o → decide one leaf st closer ≡ decide other leaf st closer
@@ -433,7 +434,7 @@ module _ (profile : Profile) (size : ℕ) (s t : List ℕ) (agree : Agree size s
         inside = reads-same Says same (opened opener a) inside h.until ((a.at, h.opens), k) h.inside;
         closes = sym (token-same h.until.at) ∙ h.closes;
         comes = subst (λ x. Comes Says h.until.asked x o) (same h.until.at h.until closer o (closer-low h.until.at closer h.closes) h.closes (nearest-opener h.until.openers until_openers) h.comes) h.comes;
-        after = reads-same Says same h.next after b (openers-behind Says h.until.asked h.until closer o h.comes until_openers) h.after;
+        after = reads-same Says same h.next after b (openers-following Says h.until.asked h.until closer o h.comes until_openers) h.after;
       }
   reads-same Says same a (Closing closer after) b k h =
       let o : Outcome = record { result = StaysText; after = h.next } in
@@ -441,7 +442,7 @@ module _ (profile : Profile) (size : ℕ) (s t : List ℕ) (agree : Agree size s
         next = h.next;
         closes = sym (token-same a.at) ∙ h.closes;
         comes = subst (λ x. Comes Says a.asked x o) (same a.at a closer o (closer-low a.at closer h.closes) h.closes (nearest-opener a.openers k) h.comes) h.comes;
-        after = reads-same Says same h.next after b (openers-behind Says a.asked a closer o h.comes k) h.after;
+        after = reads-same Says same h.next after b (openers-following Says a.asked a closer o h.comes k) h.after;
       }
   reads-same Says same a (Opening opener after) b k h = (sym (token-same a.at) ∙ h.0, reads-same Says same (opened opener a) after b ((a.at, h.0), k) h.1)
 
@@ -474,9 +475,9 @@ module _ (profile : Profile) (size : ℕ) (s t : List ℕ) (agree : Agree size s
       ap (λ l. record { event = Start tag; start = start; end = end } ∷ (l ++ (record { event = End (tag_end.end_of tag); start = start; end = end } ∷ inline_events s after))) (inline-same Pipe h.0 inside end h.4 (omega (arith, up, w)))
       ∙ ap (λ l. record { event = Start tag; start = start; end = end } ∷ (inline_events t inside ++ (record { event = End (tag_end.end_of tag); start = start; end = end } ∷ l))) (inline-same Pipe end after to h.5 w)
 
-  -- where the stretches but the last end with line endings, the spans stand in the leaf
+  -- if all stretches but the last end with line endings, the spans are in the leaf
   spans-stand : size ≤ length s → HaveLineEnds s leaf.stretches → (Says : Saying) (before after : Between) (events : List Ranged) (h : ReadsLeaf one Says leaf before events after)
-      → InlineOrder (IsBehindPipe profile.options s) (begin_of leaf.stretches) (spans_in profile.options h.parts) h.last.at × (h.last.at ≤ size)
+      → InlineOrder (IsAfterPipe profile.options s) (begin_of leaf.stretches) (spans_in profile.options h.parts) h.last.at × (h.last.at ≤ size)
   spans-stand bound lines Says before after events h =
       let start = entering leaf before in
       let stands = reading-stands (token one leaf) (decide one leaf) Says (end_of leaf.stretches) (leaf-ranges one leaf size turn) start h.parts h.last start.at (omega arith) (leaf-up leaf.stretches size turn) h.reads.reads in
@@ -502,18 +503,18 @@ module _ (profile : Profile) (size : ℕ) (s t : List ℕ) (agree : Agree size s
         reads = record { reads = reads-same Says same (entering leaf before) h.parts h.last tt h.reads.reads; ends = sym (token-same h.last.at) ∙ h.reads.ends };
         are = h.are;
         events_are =
-            h.events_are ∙ ap (inline_events s) are ∙ inline-same (IsBehindPipe profile.options s) (begin_of leaf.stretches) (spans_in profile.options h.parts) h.last.at k.0 k.1 ∙ ap (inline_events t) (sym are);
+            h.events_are ∙ ap (inline_events s) are ∙ inline-same (IsAfterPipe profile.options s) (begin_of leaf.stretches) (spans_in profile.options h.parts) h.last.at k.0 k.1 ∙ ap (inline_events t) (sym are);
         after_is = h.after_is;
       }
 
-  -- by the labels that the leaf may ask for
+  -- if the labels that the leaf may look up lead to the same definitions
   pub leaf-same : size ≤ length s → HaveLineEnds s leaf.stretches → Alike → (Says : Saying) (before after : Between) (events : List Ranged) → ReadsLeaf one Says leaf before events after → ReadsLeaf other Says leaf before events after
   leaf-same bound lines alike Says before after events h =
       leaf-read bound lines Says
       (λ at st closer o w c b k.
       decide-same (λ x. Unit {0}) (λ label may. (alike label may).1) (λ named taken closer st may h. refers-alike named taken closer st (alike named.label may).0) at st closer w c b tt) before after events h
 
-  -- by the questions that were put: none of them is about a label that has a definition now
+  -- by the questions that were asked: a question is not about a label that has a definition now
   abbrev pub Unanswered : Decision → Type 0
   Unanswered (Settled o) = Unit {0}
   Unanswered (Asks question answered) = e (fold question.reference) ≡ None
@@ -535,7 +536,7 @@ module _ (profile : Profile) (size : ℕ) (s t : List ℕ) (agree : Agree size s
           let none = ap e (sym (fold-again named.label)) ∙ asked profile.has_callback refl on k in
           ap (λ o. defined_or_asked one leaf o named taken closer st) (p ∙ sym none) ∙ defined-same (e (fold named.label)) named taken closer st
 
-  -- the answers are not about labels that have a definition now
+  -- these answers are not about labels that have a definition now
   abbrev pub SaysOfUndefined : Saying → Saying
   SaysOfUndefined Says asked question answer = Says asked question answer × (e (fold question.reference) ≡ None)
 

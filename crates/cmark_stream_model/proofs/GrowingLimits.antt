@@ -1,9 +1,10 @@
--- Where something of the reference expansion limit is left behind what was read, a greater limit reads the same, and leaves so much more.
+-- If some of the reference expansion limit is left after a reading, a greater limit gives the same reading. The increase is left in
+-- addition.
 use Rattle.std.proofs.Common.{◌≡◌, ℕ, zero, suc, ◌+◌, ◌-◌, ◌≤◌, ◌<◌, Bool, true, false, not, ◌==◌, ◌&&◌, ◌||◌, List, [], ◌∷◌, length, drop, refl, sym, ap, ◌∙◌, subst, arith, Option, Some, None, true≢false}
 use Rattle.std.specs.Prelude.{if◌then◌else◌, map}
 use Rattle.cmark_grammar.specs.Answers.{Destination}
 use Rattle.cmark_grammar.specs.BlockDocument.{Reference as Definition}
-use Rattle.cmark_grammar.specs.BracketDecisions.{Named, or_empty, linked, behind, between, place, stays, links, question, answered, with_answer, ask, leads, defined_or_asked, refers, one_line_footnotes, is_footnote_label, footnote_reference, as_label, collapsed_or_shortcut, by_own_label, reference_or, unless_footnote, link_or, with_taken, wiki_text, wikilink, wikilink_or, decide, is_there, forms, name_in}
+use Rattle.cmark_grammar.specs.BracketDecisions.{Named, or_empty, linked, following, between, place, stays, links, question, answered, with_answer, ask, leads, defined_or_asked, refers, one_line_footnotes, is_footnote_label, footnote_reference, as_label, collapsed_or_shortcut, by_own_label, reference_or, unless_footnote, link_or, with_taken, wiki_text, wikilink, wikilink_or, decide, is_there, forms, name_in}
 use Rattle.cmark_grammar.specs.BracketReading.{Reads, Comes}
 use Rattle.cmark_grammar.specs.BracketStates.{State, moved, opened, StaysText, Forms, Outcome, Decision, Settled, Asks}
 use Rattle.cmark_grammar.specs.Event.{Ranged}
@@ -14,7 +15,7 @@ use Rattle.cmark_grammar.specs.LeafReading.{Between, entering, ReadsLeaf}
 use Rattle.cmark_grammar.specs.LeafText.{Leaf}
 use Rattle.cmark_grammar.specs.Letters.{first_is}
 use Rattle.cmark_grammar.specs.LinkDefinitions.{Parsed}
-use Rattle.cmark_grammar.specs.LinkTails.{LinkTail, link_tail_in, behind_collapsed, is_bracketed_label, reference_label_in}
+use Rattle.cmark_grammar.specs.LinkTails.{LinkTail, link_tail_in, after_collapsed, is_bracketed_label, reference_label_in}
 use Rattle.cmark_grammar.specs.LinkType.{LinkType, Reference, to_unknown}
 use Rattle.cmark_grammar.specs.OpenBrackets.{Taken, nearest, used_up, doubled, tried, dropped}
 use Rattle.cmark_grammar.specs.Parts.{Footnote, Parts, Nil as NoParts, Single as SinglePart, Form, Closing, Opening, openings}
@@ -40,7 +41,7 @@ module _ (reader : Reader) (leaf : Leaf) (k : ℕ) where
   abbrev richer_outcome : Outcome → Outcome
   richer_outcome o = record { result = o.result; after = richer o.after }
 
-  -- the second decides as the first does, where something is left behind that
+  -- the second decision is the same as the first, if some of the limit is left after it
   abbrev Follows : Decision → Decision → Type 0
   Follows (Settled o) (Settled p) = 0 < o.after.expansion_left → p ≡ richer_outcome o
   Follows (Settled o) (Asks r b) = 0 < o.after.expansion_left → ⊥
@@ -76,7 +77,7 @@ module _ (reader : Reader) (leaf : Leaf) (k : ℕ) where
   defined-follows None named taken closer st = ask-follows named taken closer st
   defined-follows (Some found) named taken closer st = leads-follow named named.link_type (record { url = found.destination; title = or_empty found.title }) taken st
 
-  -- where nothing is left there is nothing to say
+  -- if nothing of the limit is left, there is nothing to prove
   spent-follows : (closer : Bracket) (st : State) (y : Decision) → st.expansion_left ≡ 0 → Follows (Settled (stays reader leaf closer st)) y
   spent-follows closer st (Settled p) e = λ h. absurd (let some : 0 < st.expansion_left = h in omega (arith, some, e))
   spent-follows closer st (Asks r b) e = λ h. let some : 0 < st.expansion_left = h in omega (arith, some, e)
@@ -102,21 +103,21 @@ module _ (reader : Reader) (leaf : Leaf) (k : ℕ) where
       (follows-if (is_bracketed_label label) (refers reader leaf named taken closer st) (refers reader leaf named taken closer (richer st)) (Settled (stays reader leaf closer st)) (Settled (stays reader leaf closer (richer st))) (refers-follow named taken closer st) (λ h. refl))
     where
       named : Named
-      named = collapsed_or_shortcut reader leaf (as_label reader leaf label) closer.end (behind_collapsed (behind reader leaf closer.end))
+      named = collapsed_or_shortcut reader leaf (as_label reader leaf label) closer.end (after_collapsed (following reader leaf closer.end))
 
   reference-follows : (o : Option Parsed) (taken : Taken) (closer : Bracket) (st : State) → Follows (reference_or reader leaf o taken closer st) (reference_or reader leaf o taken closer (richer st))
   reference-follows (Some found) taken closer st =
-      refers-follow (record { label = as_label reader leaf found.bytes; link_type = Reference; end = place reader leaf found.behind; resume = place reader leaf found.behind }) taken closer (record st { label_close = Some (place reader leaf found.behind - 1) })
+      refers-follow (record { label = as_label reader leaf found.bytes; link_type = Reference; end = place reader leaf found.following; resume = place reader leaf found.following }) taken closer (record st { label_close = Some (place reader leaf found.following - 1) })
   reference-follows None taken closer st =
       follows-if (is_there closer.start st.label_close) (Settled (stays reader leaf closer st)) (Settled (stays reader leaf closer (richer st))) _ _ (λ h. refl) (own-follows (between reader leaf taken.opener.bracket.end closer.start) taken closer st)
 
   link-follows : (o : Option LinkTail) (taken : Taken) (closer : Bracket) (st : State) → Follows (link_or reader leaf o taken closer st) (link_or reader leaf o taken closer (richer st))
   link-follows (Some tail) taken closer st = λ h. refl
-  link-follows None taken closer st = reference-follows (unless_footnote reader leaf (reference_label_in (behind reader leaf closer.end))) taken closer st
+  link-follows None taken closer st = reference-follows (unless_footnote reader leaf (reference_label_in (following reader leaf closer.end))) taken closer st
 
   taken-follows : (o : Option Taken) (closer : Bracket) (st : State) → Follows (with_taken reader leaf o closer st) (with_taken reader leaf o closer (richer st))
   taken-follows None closer st = λ h. refl
-  taken-follows (Some taken) closer st = follows-if taken.opener.is_inactive (Settled (stays reader leaf closer st)) (Settled (stays reader leaf closer (richer st))) _ _ (λ h. refl) (link-follows (link_tail_in (behind reader leaf closer.end)) taken closer st)
+  taken-follows (Some taken) closer st = follows-if taken.opener.is_inactive (Settled (stays reader leaf closer st)) (Settled (stays reader leaf closer (richer st))) _ _ (λ h. refl) (link-follows (link_tail_in (following reader leaf closer.end)) taken closer st)
 
   wikilink-follows : (first o : Option Taken) (closer : Bracket) (st : State) → Follows (wikilink_or reader leaf first o closer st) (wikilink_or reader leaf first o closer (richer st))
   wikilink-follows None o closer st = taken-follows o closer st
@@ -128,7 +129,7 @@ module _ (reader : Reader) (leaf : Leaf) (k : ℕ) where
   unfolding decide
   decide-follows st closer =
       let now = record st { openers = used_up st.openers } in
-      follows-if (reader.options.wikilinks && first_is (λ b. b == 93) (behind reader leaf closer.end)) _ _ _ _ (wikilink-follows (doubled now.openers) (nearest st.openers) closer now) (taken-follows (nearest st.openers) closer now)
+      follows-if (reader.options.wikilinks && first_is (λ b. b == 93) (following reader leaf closer.end)) _ _ _ _ (wikilink-follows (doubled now.openers) (nearest st.openers) closer now) (taken-follows (nearest st.openers) closer now)
 
   comes-follows : (Says : Saying) (asked : List Exchange) (x y : Decision) (o : Outcome) → Follows x y → Comes Says asked x o → 0 < o.after.expansion_left → Comes Says asked y (richer_outcome o)
   comes-follows Says asked (Settled s) (Settled p) o f c h = ap richer_outcome c ∙ sym (f (subst (λ (z : Outcome). 0 < z.after.expansion_left) c h))
@@ -137,7 +138,7 @@ module _ (reader : Reader) (leaf : Leaf) (k : ℕ) where
   comes-follows Says asked (Asks q a) (Asks r b) o f c h =
       (c.0, subst (λ z. Says asked z c.0) (sym f.0) c.1, ap richer_outcome c.2 ∙ sym (f.1 c.0 (subst (λ (z : Outcome). 0 < z.after.expansion_left) c.2 h)))
 
-  -- ## What is left grows less
+  -- ## The rest of the limit never grows
 
   abbrev Spends : State → Outcome → Type 0
   Spends st o = o.after.expansion_left ≤ st.expansion_left

@@ -5,13 +5,13 @@ use Rattle.cmark_grammar.specs.Lines.{line_feed, carriage_return, begins_with_li
 use Rattle.cmark_grammar.specs.Options.{Options}
 use Rattle.cmark_grammar.specs.Rows.{Row, row_at, rows_from, rows, shown}
 use Rattle.cmark_grammar.specs.Blocks.{Blocks, Nil, join}
-use Rattle.cmark_grammar.specs.BlocksModel.{blocks}
-use Rattle.cmark_grammar.specs.BlocksByLine.{OpenLines, Between, close_lines, lines_begin, lines_feed_all, blocks_by_line}
-use Rattle.cmark_grammar.proofs.BlocksByLine.{by_line-same}
+use Rattle.cmark_block_model.specs.BlocksModel.{blocks}
+use Rattle.cmark_block_model.specs.BlocksByLine.{OpenLines, Between, close_lines, lines_begin, lines_feed_all, blocks_by_line}
+use Rattle.cmark_block_model.proofs.BlocksByLine.{by_line-same}
 use Rattle.cmark_stream_model.specs.Growth.{ends_whole, blocks_at, open_after, IsCut}
 use Rattle.cmark_stream_model.proofs.Fronts.{Steady, all-front, all-steady, close-front, parts-begin, apart-front, apart-steady, fed-append}
 
--- a text with a byte has a line
+-- a text that is not empty has a line
 pub record Parted (text : List ℕ) : Type 0 where
   pub first : List ℕ
   pub others : List (List ℕ)
@@ -31,8 +31,8 @@ lines-parted b bs = go (ends_line b bs) refl
 onto-append : (b : ℕ) (ls first : List (List ℕ)) (l : List ℕ) (ms : List (List ℕ)) → ls ≡ l ∷ ms → onto b (ls ++ first) ≡ onto b ls ++ first
 onto-append b ls first l ms e = rw e refl
 
--- a byte that ends a line before some bytes ends one at the end
-ends-alone : (b : ℕ) (bs : List ℕ) → ends_line b bs ≡ true → ends_line b [] ≡ true
+-- if a byte ends a line before some bytes, it also ends a line at the end of a text
+pub ends-alone : (b : ℕ) (bs : List ℕ) → ends_line b bs ≡ true → ends_line b [] ≡ true
 ends-alone b bs e = go (b == line_feed) (b == carriage_return) (begins_with_line_feed bs) e
   where
     go : (x y z : Bool) → (x || (y && not z)) ≡ true → (x || (y && true)) ≡ true
@@ -40,17 +40,17 @@ ends-alone b bs e = go (b == line_feed) (b == carriage_return) (begins_with_line
     go false true z e = refl
     go false false z e = e
 
-pub lines-append : (front behind : List ℕ) → ends_whole front behind ≡ true → lines (front ++ behind) ≡ lines front ++ lines behind
-lines-append [] behind e = refl
-lines-append (b ∷ []) behind e = rw (e, ends-alone b behind e) refl
-lines-append (b ∷ (c ∷ bs)) behind e = go (ends_line b (c ∷ bs)) (lines-append (c ∷ bs) behind e) (lines-parted c bs)
+pub lines-append : (front following : List ℕ) → ends_whole front following ≡ true → lines (front ++ following) ≡ lines front ++ lines following
+lines-append [] following e = refl
+lines-append (b ∷ []) following e = rw (e, ends-alone b following e) refl
+lines-append (b ∷ (c ∷ bs)) following e = go (ends_line b (c ∷ bs)) (lines-append (c ∷ bs) following e) (lines-parted c bs)
   where
-    go : (z : Bool) → lines ((c ∷ bs) ++ behind) ≡ lines (c ∷ bs) ++ lines behind → Parted (c ∷ bs)
-        → (if z then (b ∷ []) ∷ lines ((c ∷ bs) ++ behind) else onto b (lines ((c ∷ bs) ++ behind))) ≡ (if z then (b ∷ []) ∷ lines (c ∷ bs) else onto b (lines (c ∷ bs))) ++ lines behind
+    go : (z : Bool) → lines ((c ∷ bs) ++ following) ≡ lines (c ∷ bs) ++ lines following → Parted (c ∷ bs)
+        → (if z then (b ∷ []) ∷ lines ((c ∷ bs) ++ following) else onto b (lines ((c ∷ bs) ++ following))) ≡ (if z then (b ∷ []) ∷ lines (c ∷ bs) else onto b (lines (c ∷ bs))) ++ lines following
     go true ih p = ap (λ l. (b ∷ []) ∷ l) ih
-    go false ih p = ap (onto b) ih ∙ onto-append b (lines (c ∷ bs)) (lines behind) p.first p.others p.are
+    go false ih p = ap (onto b) ih ∙ onto-append b (lines (c ∷ bs)) (lines following) p.first p.others p.are
 
--- the lines of a text have all its bytes
+-- the number of bytes in all lines
 abbrev total : List (List ℕ) → ℕ
 total [] = 0
 total (l ∷ ls) = length l + total ls
@@ -74,22 +74,22 @@ rows-append at (l ∷ ls) ms = ap (λ rs. row_at at l ∷ rs) (rows-append (at +
     sum : (a b c : ℕ) → a + b + c ≡ a + (b + c)
     sum a b c = omega arith
 
--- the rows of a text that grows behind a whole line ending
-pub rows-grow : (front behind : List ℕ) → ends_whole front behind ≡ true → rows (front ++ behind) ≡ rows front ++ rows_from (length front) (lines behind)
-rows-grow front behind e =
-    ap (rows_from 0) (lines-append front behind e) ∙ rows-append 0 (lines front) (lines behind) ∙ ap (λ n. rows front ++ rows_from n (lines behind)) (from-zero (total (lines front)) (length front) (lines-total front))
+-- the rows of a text that grows after a whole line ending
+pub rows-grow : (front following : List ℕ) → ends_whole front following ≡ true → rows (front ++ following) ≡ rows front ++ rows_from (length front) (lines following)
+rows-grow front following e =
+    ap (rows_from 0) (lines-append front following e) ∙ rows-append 0 (lines front) (lines following) ∙ ap (λ n. rows front ++ rows_from n (lines following)) (from-zero (total (lines front)) (length front) (lines-total front))
   where
     from-zero : (n m : ℕ) → n ≡ m → 0 + n ≡ m
     from-zero n m h = omega (arith, h)
 
 module _ (options : Options) where
-  -- the blocks before a cut stay, and those behind it are those of its lines alone
-  pub blocks-grow : (front behind : List ℕ) (r : Row) (rs : List Row) → ends_whole front behind ≡ true → rows_from (length front) (lines behind) ≡ r ∷ rs → IsCut options front r rs
-      → blocks options (front ++ behind) ≡ join (blocks options front) (blocks_at options (length front) behind)
+  -- the blocks before a cut stay, and the blocks after it are those of its lines alone
+  pub blocks-grow : (front following : List ℕ) (r : Row) (rs : List Row) → ends_whole front following ≡ true → rows_from (length front) (lines following) ≡ r ∷ rs → IsCut options front r rs
+      → blocks options (front ++ following) ≡ join (blocks options front) (blocks_at options (length front) following)
   unfolding blocks_by_line
-  blocks-grow front behind r rs whole are cut =
-      sym (by_line-same options (front ++ behind))
-      ∙ ap (λ ls. close_lines (lines_feed_all options (Between Nil) ls)) (rows-grow front behind whole ∙ ap (λ ls. rows front ++ ls) are)
+  blocks-grow front following r rs whole are cut =
+      sym (by_line-same options (front ++ following))
+      ∙ ap (λ ls. close_lines (lines_feed_all options (Between Nil) ls)) (rows-grow front following whole ∙ ap (λ ls. rows front ++ ls) are)
       ∙ ap close_lines (fed-append options (r ∷ rs) (Between Nil) (rows front) ∙ ap (λ o. lines_feed_all options o (r ∷ rs)) cut.settled)
       ∙ ap (λ o. close_lines (lines_feed_all options o rs)) (parts-begin options (open_after options front) r (shown rs) cut.parts ∙ apart-front options b r (shown rs) cut.same)
       ∙ ap close_lines (all-front options b begun rs steady)

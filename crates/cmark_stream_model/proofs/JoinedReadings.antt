@@ -1,4 +1,4 @@
--- What is read of documents one behind the other.
+-- The readings of documents that are joined.
 use Rattle.std.proofs.Common.{◌≡◌, ℕ, Bool, true, false, ◌==◌, List, [], ◌∷◌, ◌++◌, length, refl, sym, ap, ◌∙◌, subst, append_assoc, Option, Some, None}
 use Rattle.std.specs.Prelude.{if◌then◌else◌}
 use Rattle.cmark_grammar.specs.Answers.{Lookup}
@@ -13,19 +13,20 @@ use Rattle.cmark_grammar.specs.Rows.{Row, start_of, last_line_end, rows_from}
 use Rattle.cmark_grammar.specs.Containers.{BlockQuote as BlockQuotePrefix, Item, Footnote, ListDefinition}
 use Rattle.cmark_grammar.specs.Openings.{Leaf, ThematicBreak as ThematicBreakLeaf, AtxHeading as AtxHeadingLeaf, IndentedCode as IndentedCodeLeaf, FencedCode as FencedCodeLeaf, HtmlBlock as HtmlBlockLeaf, LinkDefinition as LinkDefinitionLeaf, MetadataBlock as MetadataBlockLeaf, Table as TableLeaf}
 use Rattle.cmark_grammar.specs.Blocks.{Blocks, Nil as NoBlocks, BlankLine, Paragraph as ParagraphBlock, SetextHeading, LeafBlock, ContainerBlock}
-use Rattle.cmark_grammar.specs.BlocksModel.{blocks}
-use Rattle.cmark_grammar.specs.Lists.{ListBefore, definition_delimiter, is_title, title_tight_behind, tight_behind, goes_on}
+use Rattle.cmark_block_model.specs.BlocksModel.{blocks}
+use Rattle.cmark_grammar.specs.Lists.{ListBefore, definition_delimiter, is_title, title_tight_after, tight_after, goes_on}
 use Rattle.cmark_grammar.specs.Tokens.{paragraph_tokens}
 use Rattle.cmark_grammar.specs.BlockDocument.{BlockKind, BlockNode, BlockDocument, BlockList, DefinitionList, DefinitionListTitle, Nil, Node, node, join}
 use Rattle.cmark_grammar.specs.BlockReading.{read_as, first_event, starts_before}
-use Rattle.cmark_grammar.specs.Derivation.{leaf_then, list_kind, item_then, paragraph_kind, document_of, document}
+use Rattle.cmark_grammar.specs.Derivation.{leaf_then, list_kind, item_then, paragraph_kind, document_of}
+use Rattle.cmark_block_model.specs.DocumentModel.{document}
 use Rattle.cmark_grammar.specs.SpanDocuments.{Profile, Segment, Given, Content, footnote_label, footnote_labels, node_segments, inside_of, with_first_segment, segments, reader_of, at_start, ReadsAll, IsReading}
-use Rattle.cmark_grammar.proofs.BlockDocumentOne.{document-only}
+use Rattle.cmark_block_model.proofs.BlockDocumentOne.{document-only}
 use Rattle.cmark_stream_model.specs.Growth.{ends_whole, begins_apart, blocks_at, IsCut, IsJoined, ReadInTurn, document_before, document_of_tail}
 use Rattle.cmark_stream_model.proofs.GrowingLines.{blocks-grow}
 use Rattle.cmark_stream_model.proofs.JoinedDocuments.{document-join}
 
--- no node of these is read as an event that stands first in what is read behind it
+-- no node of this document is read as the first event of the leaf after it
 abbrev pub NoFirst : BlockDocument → Type 0
 NoFirst Nil = Unit {0}
 NoFirst (Node n inside after) = (first_event (read_as n.kind) ≡ None) × NoFirst after
@@ -61,30 +62,30 @@ module _ (text : List ℕ) (options : Options) (lookup : Lookup) where
   document-first direct list NoBlocks = tt
   document-first direct list (BlankLine line after) = document-first direct list after
   document-first direct list (ParagraphBlock first more after) =
-      go (is_title after) (document-first direct (Some (record { delimiter = definition_delimiter; tight = title_tight_behind list after })) after) (document-first direct None after)
+      go (is_title after) (document-first direct (Some (record { delimiter = definition_delimiter; tight = title_tight_after list after })) after) (document-first direct None after)
     where
-      go : (t : Bool) → NoFirst (document_of text options lookup direct (Some (record { delimiter = definition_delimiter; tight = title_tight_behind list after })) after) → NoFirst (document_of text options lookup direct None after)
+      go : (t : Bool) → NoFirst (document_of text options lookup direct (Some (record { delimiter = definition_delimiter; tight = title_tight_after list after })) after) → NoFirst (document_of text options lookup direct None after)
           → NoFirst (if t then
-          (let tight = title_tight_behind list after in
+          (let tight = title_tight_after list after in
           item_then true (DefinitionList tight) (node DefinitionListTitle (start_of first) (last_line_end first more)) (paragraph_tokens text first more)
           (document_of text options lookup direct (Some (record { delimiter = definition_delimiter; tight = tight })) after))
           else Node (node (paragraph_kind direct) (start_of first) (last_line_end first more)) (paragraph_tokens text first more) (document_of text options lookup direct None after))
       go true i j =
-          item-first true (DefinitionList (title_tight_behind list after)) (node DefinitionListTitle (start_of first) (last_line_end first more)) (paragraph_tokens text first more)
-          (document_of text options lookup direct (Some (record { delimiter = definition_delimiter; tight = title_tight_behind list after })) after) refl i
+          item-first true (DefinitionList (title_tight_after list after)) (node DefinitionListTitle (start_of first) (last_line_end first more)) (paragraph_tokens text first more)
+          (document_of text options lookup direct (Some (record { delimiter = definition_delimiter; tight = title_tight_after list after })) after) refl i
       go false i j = (paragraph-first direct, j)
   document-first direct list (SetextHeading level first more underline after) = (refl, document-first direct None after)
   document-first direct list (LeafBlock leaf first more after) = leaf-first leaf first more (document_of text options lookup direct None after) (document-first direct None after)
   document-first direct list (ContainerBlock (BlockQuotePrefix alert) first more inside after) = (refl, document-first direct None after)
   document-first direct list (ContainerBlock (Footnote label old size) first more inside after) = (refl, document-first direct None after)
   document-first direct list (ContainerBlock (Item m number width task) first more inside after) =
-      item-first (goes_on m after) (list_kind m number (tight_behind list m inside after)) _ _ (document_of text options lookup direct (Some (record { delimiter = m; tight = tight_behind list m inside after })) after)
-      (list-first m number (tight_behind list m inside after)) (document-first direct (Some (record { delimiter = m; tight = tight_behind list m inside after })) after)
+      item-first (goes_on m after) (list_kind m number (tight_after list m inside after)) _ _ (document_of text options lookup direct (Some (record { delimiter = m; tight = tight_after list m inside after })) after)
+      (list-first m number (tight_after list m inside after)) (document-first direct (Some (record { delimiter = m; tight = tight_after list m inside after })) after)
   document-first direct list (ContainerBlock (ListDefinition width) first more inside after) =
-      item-first (goes_on definition_delimiter after) (DefinitionList (tight_behind list definition_delimiter inside after)) _ _ (document_of text options lookup direct (Some (record { delimiter = definition_delimiter; tight = tight_behind list definition_delimiter inside after })) after)
-      refl (document-first direct (Some (record { delimiter = definition_delimiter; tight = tight_behind list definition_delimiter inside after })) after)
+      item-first (goes_on definition_delimiter after) (DefinitionList (tight_after list definition_delimiter inside after)) _ _ (document_of text options lookup direct (Some (record { delimiter = definition_delimiter; tight = tight_after list definition_delimiter inside after })) after)
+      refl (document-first direct (Some (record { delimiter = definition_delimiter; tight = tight_after list definition_delimiter inside after })) after)
 
--- the segments of documents one behind the other
+-- the segments of joined documents are those of the first and then those of the second
 pub segments-join : (d c : BlockDocument) → NoFirst d → segments (join d c) ≡ segments d ++ segments c
 segments-join Nil c h = refl
 segments-join (Node n inside after) c h =
@@ -96,7 +97,7 @@ segments-join (Node n inside after) c h =
     own : List Segment
     own = node_segments (read_as n.kind) n (inside_of n.kind inside (segments inside))
 
--- and their definitions and footnotes
+-- the same is true of their definitions and footnotes
 pub references-join : (d c : BlockDocument) → references (join d c) ≡ references d ++ references c
 references-join Nil c = refl
 references-join (Node n inside after) c =
@@ -112,7 +113,7 @@ footnotes-join (Node n inside after) c =
     ∙ sym (append_assoc (footnote_label n.kind) (footnote_labels inside ++ footnote_labels after) (footnote_labels c))
 
 module _ (reader : Reader) (Says : Saying) where
-  -- segments one behind the other are read in turn
+  -- two lists of segments are read in turn
   pub split : (a b : List Segment) (before : Between) (events : List Ranged) (after : Between) → ReadsAll reader Says (a ++ b) before events after → ReadInTurn reader Says a b before events after
   split [] b before events after h = record { earlier = []; later = events; between = before; reads_first = (refl, refl); reads_second = h; joined = refl }
   split (Given r ∷ a) b before events after h =
@@ -129,7 +130,7 @@ module _ (reader : Reader) (Says : Saying) where
         joined = h.5 ∙ ap (λ l. h.0 ++ l) k.joined ∙ sym (append_assoc h.0 k.earlier k.later);
       }
 
-  -- and what is read in turn is read
+  -- two lists of segments that are read in turn are read together
   pub joined : (a b : List Segment) (before between after : Between) (earlier later : List Ranged) → ReadsAll reader Says a before earlier between → ReadsAll reader Says b between later after → ReadsAll reader Says (a ++ b) before (earlier ++ later) after
   joined [] b before between after earlier later h k =
       subst (λ m. ReadsAll reader Says b m (earlier ++ later) after) h.1 (subst (λ e. ReadsAll reader Says b between (e ++ later) after) (sym h.0) k)
@@ -137,36 +138,36 @@ module _ (reader : Reader) (Says : Saying) where
   joined (Content leaf ∷ a) b before between after earlier later h k =
       (h.0, h.1 ++ later, h.2, h.3, joined a b h.2 between after h.1 later h.4 k, ap (λ e. e ++ later) h.5 ∙ append_assoc h.0 h.1 later)
 
--- the document of a text that is cut is those of both parts
-pub document-grow : (options : Options) (lookup : Lookup) (front behind : List ℕ) (r : Row) (rs : List Row) → ends_whole front behind ≡ true → rows_from (length front) (lines behind) ≡ r ∷ rs → IsCut options front r rs → begins_apart (blocks_at options (length front) behind) ≡ true
-    → document (front ++ behind) options lookup ≡ join (document_before options lookup (front ++ behind) front) (document_of_tail options lookup (front ++ behind) (length front) behind)
-document-grow options lookup front behind r rs whole are cut apart =
-    ap (document_of (front ++ behind) options lookup false None) (blocks-grow options front behind r rs whole are cut)
-    ∙ document-join (front ++ behind) options lookup false None (blocks options front) (blocks_at options (length front) behind) apart
+-- the document of a text with a cut is the joined documents of both parts
+pub document-grow : (options : Options) (lookup : Lookup) (front following : List ℕ) (r : Row) (rs : List Row) → ends_whole front following ≡ true → rows_from (length front) (lines following) ≡ r ∷ rs → IsCut options front r rs → begins_apart (blocks_at options (length front) following) ≡ true
+    → document (front ++ following) options lookup ≡ join (document_before options lookup (front ++ following) front) (document_of_tail options lookup (front ++ following) (length front) following)
+document-grow options lookup front following r rs whole are cut apart =
+    ap (document_of (front ++ following) options lookup false None) (blocks-grow options front following r rs whole are cut)
+    ∙ document-join (front ++ following) options lookup false None (blocks options front) (blocks_at options (length front) following) apart
 
--- so each reading of it is read in turn
-pub reading-grow : (profile : Profile) (front behind : List ℕ) (exchanges : List Exchange) (events : List Ranged) → IsJoined profile.options profile.lookup front behind → (h : IsReading (front ++ behind) profile exchanges events)
-    → ReadInTurn (reader_of (front ++ behind) profile h.document) (IsNext exchanges) (segments (document_before profile.options profile.lookup (front ++ behind) front)) (segments (document_of_tail profile.options profile.lookup (front ++ behind) (length front) behind)) (at_start profile) events h.after
-reading-grow profile front behind exchanges events e h =
-    split (reader_of (front ++ behind) profile h.document) (IsNext exchanges) (segments first) (segments second) (at_start profile) events h.after
-    (subst (λ s. ReadsAll (reader_of (front ++ behind) profile h.document) (IsNext exchanges) s (at_start profile) events h.after) are_segments h.reads)
+-- each reading of it is read in turn
+pub reading-grow : (profile : Profile) (front following : List ℕ) (exchanges : List Exchange) (events : List Ranged) → IsJoined profile.options profile.lookup front following → (h : IsReading (front ++ following) profile exchanges events)
+    → ReadInTurn (reader_of (front ++ following) profile h.document) (IsNext exchanges) (segments (document_before profile.options profile.lookup (front ++ following) front)) (segments (document_of_tail profile.options profile.lookup (front ++ following) (length front) following)) (at_start profile) events h.after
+reading-grow profile front following exchanges events e h =
+    split (reader_of (front ++ following) profile h.document) (IsNext exchanges) (segments first) (segments second) (at_start profile) events h.after
+    (subst (λ s. ReadsAll (reader_of (front ++ following) profile h.document) (IsNext exchanges) s (at_start profile) events h.after) are_segments h.reads)
   where
     first : BlockDocument
-    first = document_before profile.options profile.lookup (front ++ behind) front
+    first = document_before profile.options profile.lookup (front ++ following) front
 
     second : BlockDocument
-    second = document_of_tail profile.options profile.lookup (front ++ behind) (length front) behind
+    second = document_of_tail profile.options profile.lookup (front ++ following) (length front) following
 
     are_segments : segments h.document ≡ segments first ++ segments second
     are_segments =
-        ap segments (document-only (front ++ behind) profile.options profile.lookup h.document h.derives ∙ e)
-        ∙ segments-join first second (document-first (front ++ behind) profile.options profile.lookup false None (blocks profile.options front))
+        ap segments (document-only (front ++ following) profile.options profile.lookup h.document h.derives ∙ e)
+        ∙ segments-join first second (document-first (front ++ following) profile.options profile.lookup false None (blocks profile.options front))
 
--- and its definitions and footnotes are those of what stands before the cut, and then those behind it
-pub tables-grow : (options : Options) (lookup : Lookup) (front behind : List ℕ) → IsJoined options lookup front behind
-    → (references (document (front ++ behind) options lookup) ≡ references (document_before options lookup (front ++ behind) front) ++ references (document_of_tail options lookup (front ++ behind) (length front) behind))
-    × (footnote_labels (document (front ++ behind) options lookup) ≡ footnote_labels (document_before options lookup (front ++ behind) front) ++ footnote_labels (document_of_tail options lookup (front ++ behind) (length front) behind))
-tables-grow options lookup front behind e = (
-  ap references e ∙ references-join (document_before options lookup (front ++ behind) front) (document_of_tail options lookup (front ++ behind) (length front) behind),
-  ap footnote_labels e ∙ footnotes-join (document_before options lookup (front ++ behind) front) (document_of_tail options lookup (front ++ behind) (length front) behind),
+-- its definitions and footnotes are those before the cut, and then those after it
+pub tables-grow : (options : Options) (lookup : Lookup) (front following : List ℕ) → IsJoined options lookup front following
+    → (references (document (front ++ following) options lookup) ≡ references (document_before options lookup (front ++ following) front) ++ references (document_of_tail options lookup (front ++ following) (length front) following))
+    × (footnote_labels (document (front ++ following) options lookup) ≡ footnote_labels (document_before options lookup (front ++ following) front) ++ footnote_labels (document_of_tail options lookup (front ++ following) (length front) following))
+tables-grow options lookup front following e = (
+  ap references e ∙ references-join (document_before options lookup (front ++ following) front) (document_of_tail options lookup (front ++ following) (length front) following),
+  ap footnote_labels e ∙ footnotes-join (document_before options lookup (front ++ following) front) (document_of_tail options lookup (front ++ following) (length front) following),
 )

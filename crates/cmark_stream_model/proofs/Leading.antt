@@ -18,9 +18,9 @@ use Rattle.cmark_grammar.specs.TableRows.{table_head}
 use Rattle.cmark_grammar.specs.Openings.{Leaf, ThematicBreak, AtxHeading, IndentedCode, FencedCode, HtmlBlock, LinkDefinition, MetadataBlock, Table, Opening, Blank, Nests, Takes, Plain, or_else, nests_if, fenced_if, html_if, break_if, heading_if, metadata_begun, defined_if, begins_no_link, texts, lazily, text_lines, definition_of, table_if, text_of, leaf_of, whole_opens, opens, opens_at}
 use Rattle.cmark_grammar.specs.Blocks.{Blocks, Nil, BlankLine, Paragraph, SetextHeading, LeafBlock, ContainerBlock, join, place_in}
 use Rattle.cmark_grammar.specs.Lists.{definition_delimiter, is_title, goes_on}
-use Rattle.cmark_grammar.specs.BlocksModel.{within, place_behind}
-use Rattle.cmark_grammar.specs.BlocksByLine.{leaf_in, continuation_if, OpenLines, Between, BehindTag, InParagraph, InLeaf, InVerbatim, InContainer, blank_lines, close_lines, lines_take_lazy, html_begun, leaf_begun, lines_begin_as, lines_underline_or, lines_go_on_or, lines_kept_or, verbatim_line, lines_begin_in, lines_begin, lines_feed, lines_feed_all}
-use Rattle.cmark_grammar.proofs.BlockLaws.{at-plain, off-defines}
+use Rattle.cmark_block_model.specs.BlocksModel.{within, place_after}
+use Rattle.cmark_block_model.specs.BlocksByLine.{leaf_in, continuation_if, OpenLines, Between, AfterTag, InParagraph, InLeaf, InVerbatim, InContainer, blank_lines, close_lines, lines_take_lazy, html_begun, leaf_begun, lines_begin_as, lines_underline_or, lines_go_on_or, lines_kept_or, verbatim_line, lines_begin_in, lines_begin, lines_feed, lines_feed_all}
+use Rattle.cmark_block_model.proofs.BlockLaws.{at-plain, off-defines}
 use Rattle.cmark_stream_model.specs.Growth.{begins_apart, continues, is_outside_of_lists, may_continue}
 use Rattle.cmark_stream_model.proofs.GrowingTables.{no-task}
 
@@ -144,10 +144,10 @@ module _ (options : Options) where
   unfolding opens
   no-opens r ahead = no-link r.lazy (or_else (metadata_begun (metadata_kind options r) ahead) (whole_opens options r ahead)) (no-or (metadata_begun (metadata_kind options r) ahead) (whole_opens options r ahead) (no-metadata (metadata_kind options r) ahead) (no-whole r ahead))
 
-  pub no-at : options.definition_list ≡ false → (b : Blocks) (r : Row) (ahead : List Row) → NoDefinition (opens_at options (place_behind Apart b) r ahead)
-  no-at off b r ahead = subst NoDefinition (sym (at-plain options (place_behind Apart b) r ahead (no-task Apart b refl) (off-defines options (place_behind Apart b) r off))) (no-opens r ahead)
+  pub no-at : options.definition_list ≡ false → (b : Blocks) (r : Row) (ahead : List Row) → NoDefinition (opens_at options (place_after Apart b) r ahead)
+  no-at off b r ahead = subst NoDefinition (sym (at-plain options (place_after Apart b) r ahead (no-task Apart b refl) (off-defines options (place_after Apart b) r off))) (no-opens r ahead)
 
--- ## Blocks of which none is a definition, and of which the first that is no blank line is no item
+-- ## Blocks without definitions. The first one that is no blank line may be an item only if `other` holds of its character
 
 abbrev pub NoDefinitions : Blocks → Type 0
 NoDefinitions Nil = Unit {0}
@@ -179,7 +179,7 @@ leads-join other so (SetextHeading level first more underline after) b = refl
 leads-join other so (LeafBlock leaf first more after) b = refl
 leads-join other so (ContainerBlock k first more inside after) b = refl
 
--- what leads goes on to lead with any blocks behind
+-- if some blocks have a first block of this kind, `so` does not matter
 leads-more : (other : ℕ → Bool) → (so : Bool) (a : Blocks) → first_leads other false a ≡ true → first_leads other so a ≡ true
 leads-more other so Nil h = absurd (true≢false (sym h))
 leads-more other so (BlankLine line after) h = leads-more other so after h
@@ -226,7 +226,7 @@ apart-of (ContainerBlock (Item delimiter number width task) first more inside af
 apart-of (ContainerBlock (Footnote label old size) first more inside after) h e = refl
 apart-of (ContainerBlock (ListDefinition width) first more inside after) h e = absurd (true≢false (sym e))
 
--- the first block continues no list of this character, if it is no item of one
+-- if the first block is no item of the list with this character, the blocks do not continue the list
 goes-of : (d : ℕ) (a : Blocks) → NoDefinitions a → first_leads (λ m. not (m == d)) false a ≡ true → goes_on d a ≡ false
 goes-of d Nil h e = refl
 goes-of d (BlankLine line after) h e = goes-of d after h e
@@ -238,20 +238,20 @@ goes-of d (ContainerBlock (Item m number width task) first more inside after) h 
 goes-of d (ContainerBlock (Footnote label old size) first more inside after) h e = refl
 goes-of d (ContainerBlock (ListDefinition width) first more inside after) h e = absurd (true≢false h.0)
 
--- ## What is open
+-- ## The open blocks
 
 abbrev pub NoneOpen : OpenLines → Type 0
 NoneOpen (Between closed) = NoDefinitions closed
-NoneOpen BehindTag = ⊥
+NoneOpen AfterTag = ⊥
 NoneOpen (InParagraph closed first more) = NoDefinitions closed
 NoneOpen (InLeaf closed leaf first had left) = NoDefinitions closed
 NoneOpen (InVerbatim closed verbatim first had waiting) = NoDefinitions closed
 NoneOpen (InContainer closed k first more inside) = NoDefinitions closed × (is_definition k ≡ false)
 
--- the first block, which may be open, is no item
+-- the first block, which may be open, is of this kind
 abbrev LeadsOpen : (other : ℕ → Bool) → OpenLines → Type 0
 LeadsOpen other (Between closed) = first_leads other false closed ≡ true
-LeadsOpen other BehindTag = ⊥
+LeadsOpen other AfterTag = ⊥
 LeadsOpen other (InParagraph closed first more) = first_leads other true closed ≡ true
 LeadsOpen other (InLeaf closed leaf first had left) = first_leads other true closed ≡ true
 LeadsOpen other (InVerbatim closed verbatim first had waiting) = first_leads other true closed ≡ true
@@ -267,7 +267,7 @@ leads-blanks other so (w ∷ ws) = leads-blanks other so ws
 
 pub close-none : (o : OpenLines) → NoneOpen o → NoDefinitions (close_lines o)
 close-none (Between closed) h = h
-close-none BehindTag h = absurd h
+close-none AfterTag h = absurd h
 close-none (InParagraph closed first more) h = no-join closed (Paragraph first more Nil) h tt
 close-none (InLeaf closed leaf first had left) h = no-join closed (LeafBlock leaf first had Nil) h tt
 close-none (InVerbatim closed verbatim first had waiting) h = no-join (join closed (LeafBlock (leaf_in verbatim) first had Nil)) (blank_lines waiting) (no-join closed (LeafBlock (leaf_in verbatim) first had Nil) h tt) (no-blanks waiting)
@@ -275,7 +275,7 @@ close-none (InContainer closed k first more inside) h = no-join closed (Containe
 
 close-leads : (other : ℕ → Bool) → (o : OpenLines) → LeadsOpen other o → first_leads other false (close_lines o) ≡ true
 close-leads other (Between closed) h = h
-close-leads other BehindTag h = absurd h
+close-leads other AfterTag h = absurd h
 close-leads other (InParagraph closed first more) h = leads-join other false closed (Paragraph first more Nil) ∙ h
 close-leads other (InLeaf closed leaf first had left) h = leads-join other false closed (LeafBlock leaf first had Nil) ∙ h
 close-leads other (InVerbatim closed verbatim first had waiting) h =
@@ -323,7 +323,7 @@ begun-leads other (Nests k) inside closed r h = leads-more other (leads_in other
 begun-leads other (Takes leaf m) inside closed r h = leaf-leads other leaf m closed r (leads-more other true closed h)
 begun-leads other Plain inside closed r h = leads-more other true closed h
 
--- the first line
+-- a line begins a block of this kind
 abbrev Leads : (other : ℕ → Bool) → Opening → Type 0
 Leads other Blank = ⊥
 Leads other (Nests k) = leads_in other k ≡ true
@@ -336,7 +336,7 @@ first-leads other (Nests k) inside r e = e
 first-leads other (Takes leaf m) inside r e = leaf-leads other leaf m Nil r refl
 first-leads other Plain inside r e = refl
 
--- no item
+-- the line begins no item
 outside-leads : (o : Opening) → is_outside_of_lists o ≡ true → Leads (λ m. false) o
 outside-leads Blank e = absurd (true≢false (sym e))
 outside-leads (Nests (BlockQuote alert)) e = refl
@@ -346,7 +346,7 @@ outside-leads (Nests (ListDefinition width)) e = absurd (true≢false (sym e))
 outside-leads (Takes leaf m) e = tt
 outside-leads Plain e = tt
 
--- no item of this list
+-- the line begins no item of this list
 another-leads : (d : ℕ) (o : Opening) → may_continue (Some d) o ≡ false → Leads (λ m. not (m == d)) o
 another-leads d Blank e = absurd (true≢false e)
 another-leads d (Nests (BlockQuote alert)) e = refl
@@ -364,30 +364,30 @@ module _ (options : Options) (off : options.definition_list ≡ false) (other : 
   unfolding lines_begin
   begin-good closed r ahead n h =
       let inside = lines_inside r ahead in (
-        begun-none (opens_at options (place_behind Apart closed) r ahead) inside closed r (no-at options off closed r ahead) n,
-        begun-leads other (opens_at options (place_behind Apart closed) r ahead) inside closed r h,
+        begun-none (opens_at options (place_after Apart closed) r ahead) inside closed r (no-at options off closed r ahead) n,
+        begun-leads other (opens_at options (place_after Apart closed) r ahead) inside closed r h,
       )
     where
       lines_inside : Row → List Row → Container → OpenLines
       lines_inside r ahead k = lines_begin_in options (length r.columns) (place_in k) Nil (enter k r) (within k (is_bare_start k r) ahead)
 
-  -- where something ends, a line begins behind it
-  behind-good : (o : OpenLines) (r : Row) (ahead : List Row) → Good o → Good (lines_begin options (close_lines o) r ahead)
-  behind-good o r ahead g = begin-good (close_lines o) r ahead (close-none o g.0) (close-leads other o g.1)
+  -- if the open blocks end, a line begins after them
+  following-good : (o : OpenLines) (r : Row) (ahead : List Row) → Good o → Good (lines_begin options (close_lines o) r ahead)
+  following-good o r ahead g = begin-good (close_lines o) r ahead (close-none o g.0) (close-leads other o g.1)
 
   feed-good : (o : OpenLines) (r : Row) (ahead : List Row) → Good o → Good (lines_feed options o r ahead)
   feed-good (Between closed) r ahead g = begin-good closed r ahead g.0 g.1
-  feed-good BehindTag r ahead g = absurd g.0
-  feed-good (InParagraph closed first more) r ahead g = go (underlines r) (texts options r ahead) (behind-good (InParagraph closed first more) r ahead g)
+  feed-good AfterTag r ahead g = absurd g.0
+  feed-good (InParagraph closed first more) r ahead g = go (underlines r) (texts options r ahead) (following-good (InParagraph closed first more) r ahead g)
     where
       go : (u : Option ℕ) (t : Bool) → Good (lines_begin options (join closed (Paragraph first more Nil)) r ahead)
           → Good (lines_underline_or u (λ level. Between (join closed (SetextHeading level first more r Nil))) (lines_go_on_or t (InParagraph closed first (more ++ r ∷ [])) (lines_begin options (join closed (Paragraph first more Nil)) r ahead)))
       go (Some level) t b = (no-join closed (SetextHeading level first more r Nil) g.0 tt, leads-join other false closed (SetextHeading level first more r Nil) ∙ g.1)
       go None true b = g
       go None false b = b
-  feed-good (InLeaf closed leaf first had zero) r ahead g = behind-good (InLeaf closed leaf first had 0) r ahead g
+  feed-good (InLeaf closed leaf first had zero) r ahead g = following-good (InLeaf closed leaf first had 0) r ahead g
   feed-good (InLeaf closed leaf first had (suc left)) r ahead g = g
-  feed-good (InVerbatim closed verbatim first had waiting) r ahead g = go (continuation_if r.lazy verbatim r) (behind-good (InVerbatim closed verbatim first had waiting) r ahead g)
+  feed-good (InVerbatim closed verbatim first had waiting) r ahead g = go (continuation_if r.lazy verbatim r) (following-good (InVerbatim closed verbatim first had waiting) r ahead g)
     where
       go : (c : Continuation) → Good (lines_begin options (join (join closed (LeafBlock (leaf_in verbatim) first had Nil)) (blank_lines waiting)) r ahead)
           → Good (verbatim_line c closed verbatim first had waiting r (lines_begin options (join (join closed (LeafBlock (leaf_in verbatim) first had Nil)) (blank_lines waiting)) r ahead))
@@ -395,7 +395,7 @@ module _ (options : Options) (off : options.definition_list ≡ false) (other : 
       go Closes b = g
       go Waits b = g
       go Stops b = b
-  feed-good (InContainer closed k first more inside) r ahead g = go (keeps k (bare_after (is_bare_start k first) more) r) (lazily options k r ahead && lines_take_lazy inside) (behind-good (InContainer closed k first more inside) r ahead g)
+  feed-good (InContainer closed k first more inside) r ahead g = go (keeps k (bare_after (is_bare_start k first) more) r) (lazily options k r ahead && lines_take_lazy inside) (following-good (InContainer closed k first more inside) r ahead g)
     where
       on : OpenLines
       on = lines_feed options inside (strip k (bare_after (is_bare_start k first) more) r) (within k false ahead)

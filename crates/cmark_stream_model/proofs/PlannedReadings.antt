@@ -1,7 +1,7 @@
--- The law of a text that grows, if the answers are given by a plan.
+-- The law of a text that grows, if the answers are those of a plan.
 use Rattle.std.proofs.Common.{◌≡◌, ℕ, List, [], ◌∷◌, ◌++◌, sym, ap, ◌∙◌, subst, append_assoc, append-nil, Option}
 use Rattle.cmark_grammar.specs.Answers.{Destination}
-use Rattle.cmark_grammar.specs.Derivation.{document}
+use Rattle.cmark_block_model.specs.DocumentModel.{document}
 use Rattle.cmark_grammar.specs.Event.{Ranged}
 use Rattle.cmark_grammar.specs.Questions.{Exchange, Question, Plan, ByPlan, IsNext}
 use Rattle.cmark_grammar.specs.SpanDocuments.{Profile, segments, reader_of, at_start, ReadsAll, IsReading}
@@ -13,7 +13,7 @@ use Rattle.cmark_stream_model.proofs.JoinedReadings.{reading-grow}
 use Rattle.cmark_stream_model.proofs.SettledReadings.{documents-stay, events-stay}
 
 module _ (plan : Plan) where
-  -- the answer to a question after others is the plan's
+  -- the answer to a question after others is the answer of the plan
   planned-at : (before asked rest : List Exchange) (x : Exchange) → AreByPlan plan before (asked ++ (x ∷ rest)) → x.answer ≡ plan (before ++ asked) x.question
   planned-at before [] rest x h = h.0 ∙ ap (λ l. plan l x.question) (sym (append-nil before))
   planned-at before (y ∷ asked) rest x h = planned-at (before ++ (y ∷ [])) asked rest x h.1 ∙ ap (λ l. plan l x.question) (append_assoc before (y ∷ []) asked)

@@ -1,36 +1,39 @@
--- The rest of a text is a part of its document, so the facts of the document hold of it.
+-- The rest of a text is a part of its document, so facts about the document hold for the rest.
 use Rattle.std.proofs.Common.{◌≡◌, ℕ, ◌≤◌, false, List, [], ◌∷◌, ◌++◌, length, take, drop, refl, sym, ap, ◌∙◌, subst, arith, length-append, None}
 use Rattle.std.specs.Prelude.{IsUtf8, IsCharBoundary}
 use Rattle.cmark_grammar.specs.Answers.{Lookup}
 use Rattle.cmark_grammar.specs.BlockDocument.{BlockDocument, Nil, Node, join}
-use Rattle.cmark_grammar.specs.BlocksModel.{blocks}
-use Rattle.cmark_grammar.specs.BlocksByLine.{Between, close_lines, lines_feed_all}
+use Rattle.cmark_block_model.specs.BlocksModel.{blocks}
+use Rattle.cmark_block_model.specs.BlocksByLine.{Between, close_lines, lines_feed_all}
 use Rattle.cmark_grammar.specs.Blocks.{Nil as NoBlocks}
-use Rattle.cmark_grammar.specs.Derivation.{document_of, document}
+use Rattle.cmark_grammar.specs.Derivation.{document_of}
+use Rattle.cmark_block_model.specs.DocumentModel.{document}
 use Rattle.cmark_grammar.specs.Event.{Ranged}
 use Rattle.cmark_grammar.specs.LeafReading.{Between as BetweenLeaves}
 use Rattle.cmark_grammar.specs.Lines.{lines}
 use Rattle.cmark_grammar.specs.Options.{Options}
 use Rattle.cmark_grammar.specs.Questions.{IsNext}
 use Rattle.cmark_grammar.specs.Readers.{Reader}
-use Rattle.cmark_grammar.specs.Ranges.{InOrder, AllAt}
+use Rattle.cmark_block_model.specs.Ranges.{InOrder, AllAt}
 use Rattle.cmark_grammar.specs.References.{references}
 use Rattle.cmark_grammar.specs.Rows.{rows_from}
 use Rattle.cmark_grammar.specs.SpanDocuments.{Profile, Segment, Given, Content, Left, segments, footnote_labels, reader_of, at_start, ReadsAll, IsReading}
-use Rattle.cmark_grammar.proofs.BoundaryLaws.{derived-boundaries}
-use Rattle.cmark_grammar.proofs.RangeLaws.{derived-order}
+use Rattle.cmark_block_model.proofs.BoundaryLaws.{derived-boundaries}
+use Rattle.cmark_block_model.proofs.RangeLaws.{derived-order}
 use Rattle.cmark_block_model.specs.Tails.{document_after}
 use Rattle.cmark_block_model.proofs.Drawings.{derived}
+use Rattle.cmark_block_model.proofs.Theorem.{document-whole}
 use Rattle.cmark_block_model.proofs.LeafDrawings.{HasWholeLeaves, derived-whole}
 use Rattle.cmark_inline_model.specs.LeafExtents.{extents}
 use Rattle.cmark_stream_model.specs.Growth.{IsJoined, document_of_tail}
+use Rattle.cmark_stream_model.specs.Settled.{StaysJoinedAt}
 use Rattle.cmark_stream_model.specs.Tails.{IsJoinedAt}
 use Rattle.cmark_stream_model.proofs.JoinedReadings.{document-first, segments-join, references-join, footnotes-join, joined}
 use Rattle.cmark_stream_model.proofs.SettledReadings.{documents-stay}
 
--- ## From the bytes on both sides to an offset
+-- ## From two parts of a text to an offset in it
 
-take-all : (front tail : List ℕ) → take (length front) (front ++ tail) ≡ front
+pub take-all : (front tail : List ℕ) → take (length front) (front ++ tail) ≡ front
 take-all [] tail = refl
 take-all (b ∷ front) tail = ap (λ l. b ∷ l) (take-all front tail)
 
@@ -46,6 +49,20 @@ joined-at options lookup front tail h =
   where
     text : List ℕ
     text = front ++ tail
+
+-- at the beginning nothing is before the offset
+pub joined-at-start : (options : Options) (text : List ℕ) → StaysJoinedAt options text 0
+unfolding blocks
+joined-at-start options text lookup more = go (text ++ more)
+  where
+    take-none : (t : List ℕ) → take 0 t ≡ []
+    take-none [] = refl
+    take-none (b ∷ bs) = refl
+
+    go : (t : List ℕ) → IsJoinedAt options lookup t 0
+    go t =
+        sym (document-whole t options lookup)
+        ∙ ap (λ d. join d (document_after t options lookup 0)) (sym (ap (λ l. document l options lookup) (take-none t)))
 
 -- ## The second part of a document
 
@@ -104,7 +121,7 @@ module _ (text : List ℕ) (options : Options) (lookup : Lookup) (from : ℕ) (h
   pub tail-footnotes : footnote_labels all ≡ footnote_labels earlier ++ footnote_labels later
   tail-footnotes = ap footnote_labels h ∙ footnotes-join earlier later
 
--- a reading of the first part, and then one of the rest, are a reading of the text
+-- a reading of the first part and then a reading of the rest are a reading of the text
 pub readings-continue : (text : List ℕ) (profile : Profile) (from : ℕ) → IsJoinedAt profile.options profile.lookup text from → (first later : List Ranged) (between : BetweenLeaves)
     → ReadsAll (reader_of text profile (document text profile.options profile.lookup)) (IsNext []) (segments (document (take from text) profile.options profile.lookup)) (at_start profile) first between → between.asked ≡ []
     → Left (reader_of text profile (document text profile.options profile.lookup)) (segments (document_after text profile.options profile.lookup from)) between.expansion_left [] later → IsReading text profile [] (first ++ later)

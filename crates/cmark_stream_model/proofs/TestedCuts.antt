@@ -1,10 +1,11 @@
--- What makes a cut, where neither metadata nor definition lists are read, by what can be computed of the lines before it and of the first line behind it.
+-- A test for cuts that can be computed, if neither metadata nor definition lists are read. It depends on the lines before the cut, on the
+-- first line after it, and on the lines ahead of that line.
 use Rattle.std.proofs.Common.{◌≡◌, ℕ, true, false, List, ◌∷◌}
 use Rattle.cmark_grammar.specs.Openings.{opens_at}
 use Rattle.cmark_grammar.specs.Options.{Options}
 use Rattle.cmark_grammar.specs.Places.{Apart}
 use Rattle.cmark_grammar.specs.Rows.{Row, rows, shown}
-use Rattle.cmark_grammar.specs.BlocksByLine.{close_lines}
+use Rattle.cmark_block_model.specs.BlocksByLine.{close_lines}
 use Rattle.cmark_stream_model.specs.Growth.{is_blank, open_after, Parts, IsCut, are_resolved, HasNoMetadata}
 use Rattle.cmark_stream_model.proofs.GrowingTables.{same-apart}
 use Rattle.cmark_stream_model.proofs.Walls.{resolved-settled}

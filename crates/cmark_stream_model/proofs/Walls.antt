@@ -1,4 +1,4 @@
--- What a line sees of those ahead: nothing, where it has no bracket and no pipe, and else nothing past a blank line.
+-- The lines ahead that a line looks at: none if it has no bracket and no pipe, and otherwise none after a blank line.
 use Rattle.std.proofs.Common.{◌≡◌, ◌⊎◌, inl, inr, ⊎_elim, ℕ, zero, suc, ◌-◌, Bool, true, false, ◌==◌, ◌&&◌, ◌||◌, not, List, [], ◌∷◌, ◌++◌, length, drop, take_while, refl, sym, ap, ◌∙◌, subst, append-nil, Option, Some, None, true≢false}
 use Rattle.std.specs.Prelude.{if◌then◌else◌, cond, nat_le, nat_lt}
 use Rattle.std.proofs.lemmas.List.Sums.{take_while-cons}
@@ -8,7 +8,7 @@ use Rattle.cmark_grammar.specs.Lines.{onto}
 use Rattle.cmark_grammar.specs.MetadataBlockKind.{MetadataBlockKind, YamlStyle, PlusesStyle}
 use Rattle.cmark_grammar.specs.Metadata.{metadata_of, has_metadata, metadata_if, metadata_kind}
 use Rattle.cmark_grammar.specs.Options.{Options}
-use Rattle.cmark_grammar.specs.Places.{Place, Apart, BehindLazy, is_behind_task}
+use Rattle.cmark_grammar.specs.Places.{Place, Apart, AfterLazy, is_after_task}
 use Rattle.cmark_grammar.specs.Rows.{Row, rows, shown, show_as, is_bare, is_blank_line, is_whole_line, indent_of, words_of}
 use Rattle.cmark_grammar.specs.Leaves.{Fence, underlines, is_thematic_break, is_atx_heading, run, fence_of, counted, code_continuation}
 use Rattle.cmark_grammar.specs.LinkDefinitions.{definition_in, further_bytes, bytes_over}
@@ -20,23 +20,23 @@ use Rattle.cmark_grammar.specs.TableRows.{parts, count_missing, most_filled, one
 use Rattle.cmark_grammar.specs.Tables.{delimiter_row}
 use Rattle.cmark_grammar.specs.Openings.{Leaf, ThematicBreak, AtxHeading, IndentedCode, FencedCode, HtmlBlock, LinkDefinition, MetadataBlock, Table, Opening, Blank, Nests, Takes, Plain, or_else, nests_if, fenced_if, html_if, break_if, heading_if, metadata_begun, defined_if, begins_no_link, put_if, is_none, interrupts, texts, lazily, text_lines, definition_of, count_rows, table_if, text_of, leaf_of, whole_opens, opens, text_begun, definition_or, opens_at}
 use Rattle.cmark_grammar.specs.Blocks.{Blocks, Nil, Paragraph, SetextHeading, LeafBlock, ContainerBlock, join, place_in}
-use Rattle.cmark_grammar.specs.BlocksModel.{within, place_behind}
-use Rattle.cmark_grammar.specs.BlocksByLine.{leaf_in, continuation_if, OpenLines, Between, BehindTag, InParagraph, InLeaf, InVerbatim, InContainer, blank_lines, close_lines, lines_take_lazy, leaf_begun, lines_inside_begun, lines_begin_as, lines_underline_or, lines_go_on_or, lines_kept_or, verbatim_line, lines_begin_in, lines_begin, lines_feed, lines_feed_all}
-use Rattle.cmark_grammar.proofs.RowPlaces.{kept-behind}
+use Rattle.cmark_block_model.specs.BlocksModel.{within, place_after}
+use Rattle.cmark_block_model.specs.BlocksByLine.{leaf_in, continuation_if, OpenLines, Between, AfterTag, InParagraph, InLeaf, InVerbatim, InContainer, blank_lines, close_lines, lines_take_lazy, leaf_begun, lines_inside_begun, lines_begin_as, lines_underline_or, lines_go_on_or, lines_kept_or, verbatim_line, lines_begin_in, lines_begin, lines_feed, lines_feed_all}
+use Rattle.cmark_block_model.proofs.RowPlaces.{kept-following}
 use Rattle.cmark_stream_model.specs.Growth.{fed_before, open_after, looks_ahead, are_blind, has_blank_line, are_resolved, HasNoMetadata}
 
-both : (a b : Bool) → (a && b) ≡ true → (a ≡ true) × (b ≡ true)
+pub both : (a b : Bool) → (a && b) ≡ true → (a ≡ true) × (b ≡ true)
 both true b e = (refl, e)
 both false b e = absurd (true≢false (sym e))
 
--- ## Lines that look at none ahead
+-- ## Lines that look at no line ahead
 
 blind-drop : (n : ℕ) (cs : List Column) → are_blind cs ≡ true → are_blind (drop n cs) ≡ true
 blind-drop zero cs e = e
 blind-drop (suc n) [] e = refl
 blind-drop (suc n) (c ∷ cs) e = blind-drop n cs (both (not (looks_ahead c.byte)) (are_blind cs) e).1
 
--- no byte of these looks ahead
+-- none of these bytes looks ahead
 abbrev blind_bytes : List ℕ → Bool
 blind_bytes [] = true
 blind_bytes (b ∷ bs) = not (looks_ahead b) && blind_bytes bs
@@ -57,7 +57,7 @@ not-both true b e = absurd (true≢false (sym e))
 not-both false true e = absurd (true≢false (sym e))
 not-both false false e = (refl, refl)
 
--- no pipe parts them
+-- no pipe separates them
 blind-parts : (escaped : Bool) (bs : List ℕ) → blind_bytes bs ≡ true → (part : List ℕ) × (parts escaped bs ≡ part ∷ [])
 blind-parts escaped [] e = ([], refl)
 blind-parts escaped (b ∷ bs) e =
@@ -68,7 +68,7 @@ blind-parts escaped (b ∷ bs) e =
 blind-pipe : (bs : List ℕ) → blind_bytes bs ≡ true → holds_pipe bs ≡ false
 blind-pipe bs e = ap (λ l. nat_lt 1 (length l)) (blind-parts false bs e).1
 
--- nor does a definition begin with them
+-- no definition begins with them
 further-none : (r : Row) (more : List Row) → definition_in (further_bytes r more) ≡ None
 further-none r [] = refl
 further-none r (s ∷ more) = go (nat_le 2 (r.line_end - r.content_end))
@@ -96,31 +96,31 @@ module _ (options : Options) where
   bare-front : (c : Column) (cs : List Column) (z : Bool) → is_blank c ≡ z → without_indent (c ∷ cs) ≡ drop (length (cond z (c ∷ take_while is_blank cs) [])) (c ∷ cs)
   bare-front c cs z e = ap (λ n. drop n (c ∷ cs)) (ap length (take_while-cons is_blank c cs ∙ ap (λ z. cond z (c ∷ take_while is_blank cs) []) e))
 
-  bare-behind : (c : Column) (cs : List Column) → is_bare (without_indent (c ∷ cs)) ≡ true → is_bare (without_indent cs) ≡ true
-  bare-behind c cs e = go (is_blank c) refl
+  bare-following : (c : Column) (cs : List Column) → is_bare (without_indent (c ∷ cs)) ≡ true → is_bare (without_indent cs) ≡ true
+  bare-following c cs e = go (is_blank c) refl
     where
       go : (z : Bool) → is_blank c ≡ z → is_bare (without_indent cs) ≡ true
       go true q = sym (ap is_bare (bare-front c cs true q)) ∙ e
       go false q = absurd (true≢false (sym e ∙ ap is_bare (bare-front c cs false q)))
 
-  bare-drop : (n : ℕ) (cs : List Column) → is_bare (without_indent cs) ≡ true → is_bare (without_indent (drop n cs)) ≡ true
+  pub bare-drop : (n : ℕ) (cs : List Column) → is_bare (without_indent cs) ≡ true → is_bare (without_indent (drop n cs)) ≡ true
   bare-drop zero cs e = e
   bare-drop (suc n) [] e = e
-  bare-drop (suc n) (c ∷ cs) e = bare-drop n cs (bare-behind c cs e)
+  bare-drop (suc n) (c ∷ cs) e = bare-drop n cs (bare-following c cs e)
 
   strip-blank : (k : Container) (bare : Bool) (r : Row) → is_blank_line r ≡ true → is_blank_line (strip k bare r) ≡ true
   strip-blank k bare r e = go (keeps k bare r) refl
     where
       go : (o : Option Row) → keeps k bare r ≡ o → is_blank_line (strip_as o r) ≡ true
       go None q = e
-      go (Some s) q = let w = kept-behind k bare r s q in subst (λ x. is_blank_line x ≡ true) w.1.1 (bare-drop w.0 r.columns e)
+      go (Some s) q = let w = kept-following k bare r s q in subst (λ x. is_blank_line x ≡ true) w.1.1 (bare-drop w.0 r.columns e)
 
   strip-blind : (k : Container) (bare : Bool) (r : Row) → are_blind r.columns ≡ true → are_blind (strip k bare r).columns ≡ true
   strip-blind k bare r e = go (keeps k bare r) refl
     where
       go : (o : Option Row) → keeps k bare r ≡ o → are_blind (strip_as o r).columns ≡ true
       go None q = e
-      go (Some s) q = let w = kept-behind k bare r s q in subst (λ x. are_blind x.columns ≡ true) w.1.1 (blind-drop w.0 r.columns e)
+      go (Some s) q = let w = kept-following k bare r s q in subst (λ x. are_blind x.columns ≡ true) w.1.1 (blind-drop w.0 r.columns e)
 
   enter-blind : (k : Container) (r : Row) → are_blind r.columns ≡ true → are_blind (enter k r).columns ≡ true
   unfolding enter
@@ -140,7 +140,7 @@ module _ (options : Options) where
   unfolding texts
   blank-texts r ahead e = ap (λ z. not (z || (table_interrupts options r ahead || begins_definition options r))) (blank-interrupts (not r.lazy) r ahead e)
 
-  -- ## The lines ahead, which are the same up to a blank line
+  -- ## Lines ahead that are the same up to a blank line
 
   abbrev Alike : List Row → List Row → Type 0
   Alike [] [] = Unit {0}
@@ -148,9 +148,9 @@ module _ (options : Options) where
   Alike (r ∷ rs) [] = ⊥
   Alike (r ∷ rs) (s ∷ ss) = (s ≡ r) × ((is_blank_line r ≡ true) ⊎ Alike rs ss)
 
-  alike-behind : (rs x y : List Row) → has_blank_line rs ≡ true → Alike (rs ++ x) (rs ++ y)
-  alike-behind [] x y e = absurd (true≢false (sym e))
-  alike-behind (r ∷ rs) x y e = (refl, go (is_blank_line r) refl (λ q. alike-behind rs x y q))
+  alike-following : (rs x y : List Row) → has_blank_line rs ≡ true → Alike (rs ++ x) (rs ++ y)
+  alike-following [] x y e = absurd (true≢false (sym e))
+  alike-following (r ∷ rs) x y e = (refl, go (is_blank_line r) refl (λ q. alike-following rs x y q))
     where
       go : (z : Bool) → is_blank_line r ≡ z → (has_blank_line rs ≡ true → Alike (rs ++ x) (rs ++ y)) → (is_blank_line r ≡ true) ⊎ Alike (rs ++ x) (rs ++ y)
       go true q ih = inl q
@@ -175,7 +175,7 @@ module _ (options : Options) where
   within-alike : (k : Container) (bare : Bool) (a b : List Row) → Alike a b → Alike (within k bare a) (within k bare b)
   within-alike k bare a b h = shown-alike (strips k bare a) (strips k bare b) (strips-alike k bare a b h)
 
-  -- what a line sees of both is the same
+  -- the line looks at no line ahead, or both lists are the same up to a blank line
   abbrev Sees : Row → List Row → List Row → Type 0
   Sees r a b = (are_blind r.columns ≡ true) ⊎ Alike a b
 
@@ -240,7 +240,7 @@ module _ (options : Options) where
       go true = refl
       go false = refl
 
-  -- a table begins with both
+  -- a table begins before one list of lines exactly if it begins before the other
   table-alike : (r : Row) (a b : List Row) → Alike a b → table_if options (table_head options r a) a ≡ table_if options (table_head options r a) b
   table-alike r [] [] h = refl
   table-alike r [] (s ∷ ss) h = absurd h
@@ -272,7 +272,7 @@ module _ (options : Options) where
       (λ t. ap (λ l. or_else (if begins_no_link (footnotes_in options) (words_of r) then Plain else defined_if (length l) (definition_in (bytes_over r l))) (table_if options (table_head options r a) a)) (text_lines-alike a b t)
       ∙ ap (or_else (definition_of options r b)) (table-alike r a b t ∙ ap (λ x. table_if options x b) (head-same r a b (inr t)))) h
 
-  -- ## What a line begins, without the count of lines where they are judged one by one
+  -- ## The block that a line begins, without the number of its lines if these are judged one by one
 
   abbrev quiet_leaf : Leaf → ℕ → ℕ
   quiet_leaf ThematicBreak n = n
@@ -341,7 +341,7 @@ module _ (options : Options) where
       go false true = refl
       go false false = or-quiet (nests_if (container_of options r)) (nests_if (container_of options r)) (leaf_of options r a) (leaf_of options r b) refl (leaf-quiet r a b h)
 
-  no-metadata : HasNoMetadata options → (r : Row) → metadata_kind options r ≡ None
+  pub no-metadata : HasNoMetadata options → (r : Row) → metadata_kind options r ≡ None
   no-metadata m r = go (is_whole_line r) (metadata_of (bytes_of r.columns))
     where
       off : (kind : MetadataBlockKind) → has_metadata options kind ≡ false
@@ -365,7 +365,7 @@ module _ (options : Options) where
       go false = whole-quiet r a b h
 
   at-quiet : HasNoMetadata options → (place : Place) (r : Row) (a b : List Row) → Sees r a b → quiet (opens_at options place r a) ≡ quiet (opens_at options place r b)
-  at-quiet m place r a b h = go (is_behind_task place && not r.lazy) (definition_at options place r)
+  at-quiet m place r a b h = go (is_after_task place && not r.lazy) (definition_at options place r)
     where
       go : (z : Bool) (d : Option ℕ) → quiet (if z then text_begun r else definition_or d (opens options r a)) ≡ quiet (if z then text_begun r else definition_or d (opens options r b))
       go true d = refl
@@ -391,13 +391,13 @@ module _ (options : Options) where
 
   begin-same : HasNoMetadata options → (closed : Blocks) (r : Row) (a b : List Row) → Sees r a b → lines_begin options closed r a ≡ lines_begin options closed r b
   unfolding lines_begin
-  begin-same m closed r a b h = begin_in-same m (suc (length r.columns)) (place_behind Apart closed) closed r a b h
+  begin-same m closed r a b h = begin_in-same m (suc (length r.columns)) (place_after Apart closed) closed r a b h
 
   -- ## One more line
 
   feed-same : HasNoMetadata options → (o : OpenLines) (r : Row) (a b : List Row) → Sees r a b → lines_feed options o r a ≡ lines_feed options o r b
   feed-same m (Between closed) r a b h = begin-same m closed r a b h
-  feed-same m BehindTag r a b h = begin_in-same m (suc (length r.columns)) BehindLazy Nil r a b h
+  feed-same m AfterTag r a b h = begin_in-same m (suc (length r.columns)) AfterLazy Nil r a b h
   feed-same m (InParagraph closed first more) r a b h =
       ap (λ t. lines_underline_or (underlines r) (λ level. Between (join closed (SetextHeading level first more r Nil))) (lines_go_on_or t (InParagraph closed first (more ++ r ∷ [])) (lines_begin options (join closed (Paragraph first more Nil)) r a))) (texts-same r a b h)
       ∙ ap (λ x. lines_underline_or (underlines r) (λ level. Between (join closed (SetextHeading level first more r Nil))) (lines_go_on_or (texts options r b) (InParagraph closed first (more ++ r ∷ [])) x)) (begin-same m (join closed (Paragraph first more Nil)) r a b h)
@@ -413,7 +413,7 @@ module _ (options : Options) where
       bare : Bool
       bare = bare_after (is_bare_start k first) more
 
-  -- what the lines lead to does not hang on those behind them
+  -- the state after the lines does not depend on the lines after them
   fed-same : HasNoMetadata options → (o : OpenLines) (rs x y : List Row) → are_resolved rs ≡ true → fed_before options x o rs ≡ fed_before options y o rs
   fed-same m o [] x y e = refl
   fed-same m o (r ∷ rs) x y e =
@@ -424,12 +424,16 @@ module _ (options : Options) where
         where
           go : (z w : Bool) → are_blind r.columns ≡ z → has_blank_line rs ≡ w → (z || w) ≡ true → Sees r (shown (rs ++ x)) (shown (rs ++ y))
           go true w p q t = inl p
-          go false true p q t = inr (shown-alike (rs ++ x) (rs ++ y) (alike-behind rs x y q))
+          go false true p q t = inr (shown-alike (rs ++ x) (rs ++ y) (alike-following rs x y q))
           go false false p q t = absurd (true≢false (sym t))
 
   fed-alone : (o : OpenLines) (rs : List Row) → fed_before options [] o rs ≡ lines_feed_all options o rs
   fed-alone o [] = refl
   fed-alone o (r ∷ rs) = ap (λ l. fed_before options [] (lines_feed options o r (shown l)) rs) (append-nil rs) ∙ fed-alone (lines_feed options o r (shown rs)) rs
 
-  pub resolved-settled : HasNoMetadata options → (front : List ℕ) (behind : List Row) → are_resolved (rows front) ≡ true → fed_before options behind (Between Nil) (rows front) ≡ open_after options front
-  resolved-settled m front behind e = fed-same m (Between Nil) (rows front) behind [] e ∙ fed-alone (Between Nil) (rows front)
+  -- so they are fed as if nothing followed
+  pub fed-settled : HasNoMetadata options → (o : OpenLines) (rs following : List Row) → are_resolved rs ≡ true → fed_before options following o rs ≡ lines_feed_all options o rs
+  fed-settled m o rs following e = fed-same m o rs following [] e ∙ fed-alone o rs
+
+  pub resolved-settled : HasNoMetadata options → (front : List ℕ) (following : List Row) → are_resolved (rows front) ≡ true → fed_before options following (Between Nil) (rows front) ≡ open_after options front
+  resolved-settled m front following e = fed-settled m (Between Nil) (rows front) following e

@@ -1,4 +1,4 @@
--- What a leaf of a text is read with, before and after the text grows.
+-- The data with which a leaf of a text is read, before and after the text grows.
 use Rattle.std.specs.Prelude.{◌≡◌, ◌⊎◌, ℕ, ◌+◌, ◌≤◌, Bool, List, [], ◌∷◌, drop, Option, Some, None}
 use Rattle.cmark_grammar.specs.BlockDocument.{BlockDocument, Reference}
 use Rattle.cmark_grammar.specs.BracketDecisions.{as_label, between}
@@ -16,7 +16,7 @@ use Rattle.cmark_grammar.specs.SpanDocuments.{Profile, Segment, Given, Content, 
 use Rattle.cmark_grammar.specs.Tokens.{slice}
 use Rattle.cmark_inline_model.specs.LeafModel.{HaveLineEnds}
 
--- two texts with the same first bytes
+-- two texts with equal first bytes
 abbrev pub Agree : (size : ℕ) → (s t : List ℕ) → Type 0
 Agree size s t = (start end : ℕ) → end ≤ size → slice s start end ≡ slice t start end
 
@@ -32,8 +32,8 @@ reader_with profile text definition has_footnote = record {
 }
 
 module _ (reader : Reader) (leaf : Leaf) where
-  -- a label that a closing bracket may look up: the label in brackets directly after it, or the text between an opening bracket and it, with or
-  -- without its first byte (a footnote's `^`)
+  -- a label that a closing bracket may look up. It is the label in brackets directly after it, or the text between an opening bracket and
+  -- it. Of that text, the first byte may be left out (a footnote's `^`)
   abbrev pub AsksFor : (closer : Bracket) → List ℕ → Type 0
   AsksFor closer label =
       ((found : Parsed) × (reference_label_in (from reader leaf closer.end) ≡ Some found) × (label ≡ as_label reader leaf found.bytes))
@@ -45,8 +45,8 @@ module _ (reader : Reader) (leaf : Leaf) where
   MayAskFor label = (at : ℕ) × (closer : Bracket) × (token reader leaf at ≡ Closes closer) × AsksFor closer label
 
 module _ (profile : Profile) (size : ℕ) (s : List ℕ) (d e : List ℕ → Option Reference) (f g : List ℕ → Bool) where
-  -- a leaf is within the first bytes, its lines except the last one end with line endings, and the labels that it may look up lead to the same
-  -- definitions and footnotes in both tables
+  -- a leaf is within the first bytes, and its lines except the last one end with line endings. The labels that it may look up lead to the
+  -- same definitions and footnotes in both tables
   pub record IsKept (leaf : Leaf) : Type 0 where
     pub turn : InTurn 0 leaf.stretches size
     pub lines : HaveLineEnds s leaf.stretches
@@ -58,7 +58,7 @@ module _ (profile : Profile) (size : ℕ) (s : List ℕ) (d e : List ℕ → Opt
   AreKept (Content leaf ∷ others) = IsKept leaf × AreKept others
 
 module _ (profile : Profile) (s : List ℕ) (d e : List ℕ → Option Reference) (f g : List ℕ → Bool) where
-  -- the labels that the leaves may look up lead to the same definitions and footnotes
+  -- the labels that the leaves may look up keep their definitions and footnotes
   abbrev pub AskAlike : List Segment → Type 0
   AskAlike [] = Unit {0}
   AskAlike (Given r ∷ others) = AskAlike others
@@ -66,17 +66,17 @@ module _ (profile : Profile) (s : List ℕ) (d e : List ℕ → Option Reference
       ((label : List ℕ) → MayAskFor (reader_with profile s d f) leaf label → (d (fold label) ≡ e (fold label)) × (f (fold label) ≡ g (fold label))) × AskAlike others
 
 module _ (profile : Profile) (s : List ℕ) (d : List ℕ → Option Reference) (f g : List ℕ → Bool) where
-  -- the labels that a leaf may look up lead to the same footnotes
+  -- the labels that a leaf may look up keep their footnotes
   abbrev pub AskFootnotesAlikeIn : Leaf → Type 0
   AskFootnotesAlikeIn leaf = (label : List ℕ) → MayAskFor (reader_with profile s d f) leaf label → f (fold label) ≡ g (fold label)
 
-  -- so do those of each leaf
+  -- the labels that each of the leaves may look up keep their footnotes
   abbrev pub AskFootnotesAlike : List Segment → Type 0
   AskFootnotesAlike [] = Unit {0}
   AskFootnotesAlike (Given r ∷ others) = AskFootnotesAlike others
   AskFootnotesAlike (Content leaf ∷ others) = AskFootnotesAlikeIn leaf × AskFootnotesAlike others
 
-  -- a leaf is within the first bytes, and the labels that it may look up lead to the same footnotes
+  -- a leaf is within the first bytes, and the labels that it may look up keep their footnotes
   pub record IsKeptButLabels (size : ℕ) (leaf : Leaf) : Type 0 where
     pub turn : InTurn 0 leaf.stretches size
     pub lines : HaveLineEnds s leaf.stretches
@@ -103,11 +103,11 @@ definitions_of document folded = first_with fold folded (references document)
 abbrev pub footnotes_of : BlockDocument → List ℕ → Bool
 footnotes_of document folded = has_label folded (footnote_labels document)
 
--- the same state, with this increase of the rest of the reference expansion limit
+-- the state with this increase of the rest of the reference expansion limit
 abbrev pub with_more : ℕ → Between → Between
 with_more k between = record { expansion_left = between.expansion_left + k; asked = between.asked }
 
--- the same profile, with this increase of the reference expansion limit
+-- the profile with this increase of the reference expansion limit
 abbrev pub with_limit_more : ℕ → Profile → Profile
 with_limit_more k profile = record {
   options = profile.options;

@@ -1,8 +1,10 @@
--- A text that grows at its end: which blocks are open after its first lines, and at which lines the earlier blocks stay as they are.
+-- A text that grows at its end. The definitions say which blocks are open after its first lines, and at which lines the earlier blocks stay
+-- as they are.
 use Rattle.std.specs.Prelude.{length, ◌≡◌, ℕ, Bool, true, false, ◌==◌, ◌&&◌, ◌||◌, not, List, [], ◌∷◌, ◌++◌, Option, Some, None}
 use Rattle.cmark_grammar.specs.Answers.{Lookup}
 use Rattle.cmark_grammar.specs.BlockDocument.{BlockDocument, Reference, join}
-use Rattle.cmark_grammar.specs.Derivation.{document_of, document}
+use Rattle.cmark_grammar.specs.Derivation.{document_of}
+use Rattle.cmark_block_model.specs.DocumentModel.{document}
 use Rattle.cmark_grammar.specs.Event.{Ranged}
 use Rattle.cmark_grammar.specs.LeafReading.{Between as BetweenLeaves}
 use Rattle.cmark_grammar.specs.Questions.{Saying}
@@ -18,10 +20,10 @@ use Rattle.cmark_grammar.specs.Containers.{BlockQuote, Item, Footnote, ListDefin
 use Rattle.cmark_grammar.specs.Openings.{Opening, Blank, Nests, Takes, Plain, opens_at, texts, lazily}
 use Rattle.cmark_grammar.specs.Blocks.{Blocks, Nil, BlankLine, Paragraph, SetextHeading, LeafBlock, ContainerBlock}
 use Rattle.cmark_grammar.specs.Lists.{definition_delimiter, is_title, goes_on}
-use Rattle.cmark_grammar.specs.BlocksModel.{place_behind, blocks}
-use Rattle.cmark_grammar.specs.BlocksByLine.{OpenLines, Between, BehindTag, InParagraph, InLeaf, InVerbatim, InContainer, continuation_if, close_lines, lines_take_lazy, lines_feed, lines_feed_all}
+use Rattle.cmark_block_model.specs.BlocksModel.{place_after, blocks}
+use Rattle.cmark_block_model.specs.BlocksByLine.{OpenLines, Between, AfterTag, InParagraph, InLeaf, InVerbatim, InContainer, continuation_if, close_lines, lines_take_lazy, lines_feed, lines_feed_all}
 
--- the first bytes end with a whole line ending if the tail follows: a carriage return at their end is not the first half of one
+-- the first bytes end with a whole line ending if the tail follows. A carriage return at their end is not the first half of a line ending
 abbrev pub ends_whole : (front tail : List ℕ) → Bool
 ends_whole [] tail = true
 ends_whole (b ∷ []) tail = ends_line b tail
@@ -50,7 +52,7 @@ module _ (options : Options) where
   -- a line, with these lines ahead, continues no open block: it begins a block after all of them
   abbrev pub Parts : OpenLines → Row → List Row → Type 0
   Parts (Between closed) r ahead = Unit {0}
-  Parts BehindTag r ahead = ⊥
+  Parts AfterTag r ahead = ⊥
   Parts (InParagraph closed first more) r ahead = (underlines r ≡ None) × (texts options r ahead ≡ false)
   Parts (InLeaf closed leaf first had left) r ahead = left ≡ 0
   Parts (InVerbatim closed verbatim first had waiting) r ahead = continuation_if r.lazy verbatim r ≡ Stops
@@ -62,7 +64,7 @@ module _ (options : Options) where
   pub record IsCut (front : List ℕ) (r : Row) (rs : List Row) : Type 0 where
     pub settled : fed_before (r ∷ rs) (Between Nil) (rows front) ≡ open_after front
     pub parts : Parts (open_after front) r (shown rs)
-    pub same : opens_at options (place_behind Apart (close_lines (open_after front))) r (shown rs) ≡ opens_at options Apart r (shown rs)
+    pub same : opens_at options (place_after Apart (close_lines (open_after front))) r (shown rs) ≡ opens_at options Apart r (shown rs)
     pub begins : is_blank (opens_at options Apart r (shown rs)) ≡ false
 
 -- these blocks continue no list: the first of them, blank lines aside, is no list item, no definition, and no title of one
@@ -77,7 +79,8 @@ begins_apart (ContainerBlock (Footnote label old size) first more inside after) 
 begins_apart (ContainerBlock (Item delimiter number width task) first more inside after) = false
 begins_apart (ContainerBlock (ListDefinition width) first more inside after) = false
 
--- two lists of segments are read in turn: the second with the rest of the reference expansion limit, and after the questions of the first
+-- two lists of segments are read in turn. The second is read with the rest of the reference expansion limit, and after the questions of the
+-- first
 pub record ReadInTurn (reader : Reader) (Says : Saying) (first second : List Segment) (before : BetweenLeaves) (events : List Ranged) (after : BetweenLeaves) : Type 0 where
   pub earlier : List Ranged
   pub later : List Ranged
@@ -94,7 +97,8 @@ module _ (options : Options) (lookup : Lookup) where
   abbrev pub document_of_tail : (text : List ℕ) → (at : ℕ) → (tail : List ℕ) → BlockDocument
   document_of_tail text at tail = document_of text options lookup false None (blocks_at options at tail)
 
--- a line looks at later lines only if it has an opening bracket, which may begin a link reference definition, or a pipe, which may begin a table
+-- a line looks at later lines only if it has an opening bracket or a pipe. The bracket may begin a link reference definition, and the pipe
+-- may begin a table
 abbrev pub looks_ahead : ℕ → Bool
 looks_ahead b = (b == 91) || (b == 124)
 
@@ -130,7 +134,7 @@ is_outside_of_lists (Nests (ListDefinition width)) = false
 is_outside_of_lists (Takes leaf more) = true
 is_outside_of_lists Plain = true
 
--- the character of the list that could continue after these blocks, if there is one; `list` is that of the list before them
+-- the character of the list that could continue after these blocks, if there is one; `list` is the character of the list before them
 abbrev pub last_list : (list : Option ℕ) → Blocks → Option ℕ
 last_list list Nil = list
 last_list list (BlankLine line after) = last_list list after

@@ -2,7 +2,7 @@
 use Rattle.std.specs.Prelude.{◌≡◌, ℕ, List, take}
 use Rattle.cmark_grammar.specs.Answers.{Lookup}
 use Rattle.cmark_grammar.specs.BlockDocument.{join}
-use Rattle.cmark_grammar.specs.Derivation.{document}
+use Rattle.cmark_block_model.specs.DocumentModel.{document}
 use Rattle.cmark_grammar.specs.Options.{Options}
 use Rattle.cmark_block_model.specs.Tails.{document_after}
 

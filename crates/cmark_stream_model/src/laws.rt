@@ -4,9 +4,9 @@ ghost use Rattle.std.specs.Prelude.{◌≡◌, ℕ, ◌≤◌, ◌<◌, Bool, tr
 ghost use Rattle.cmark_grammar.specs.Answers.{Lookup};
 ghost use Rattle.cmark_grammar.specs.BlockDocument.{Reference};
 ghost use Rattle.cmark_grammar.specs.Blocks.{Blocks, Nil, join};
-ghost use Rattle.cmark_grammar.specs.BlocksByLine.{Between as BetweenBlocks};
-ghost use Rattle.cmark_grammar.specs.BlocksModel.{blocks, place_behind};
-ghost use Rattle.cmark_grammar.specs.Derivation.{document};
+ghost use Rattle.cmark_block_model.specs.BlocksByLine.{Between as BetweenBlocks};
+ghost use Rattle.cmark_block_model.specs.BlocksModel.{blocks, place_after};
+ghost use Rattle.cmark_block_model.specs.DocumentModel.{document};
 ghost use Rattle.cmark_grammar.specs.Event.{Event, Ranged};
 ghost use Rattle.cmark_grammar.specs.Html.{moved_all, pieces_from, at_line_start, pieces, last_piece, html};
 ghost use Rattle.cmark_grammar.specs.Labels.{fold};
@@ -24,6 +24,8 @@ ghost use Rattle.cmark_inline_model.specs.PlannedAnswers.{AreByPlan};
 ghost use Rattle.cmark_stream_model.specs.Continued.{Agree, reader_with, AreKept, AreUndefined, AskAlike, AskFootnotesAlike, DefinitionsStay, definitions_of, footnotes_of, with_more, with_limit_more};
 ghost use Rattle.cmark_block_model.specs.Tails.{document_after};
 ghost use Rattle.cmark_stream_model.specs.Tails.{IsJoinedAt};
+ghost use Rattle.cmark_stream_model.specs.Settled.{IsSettledAt, StaysJoinedAt};
+ghost use Rattle.cmark_stream_model.specs.Undefined.{HasNoDefinitions, IsReadAlone};
 ghost use Rattle.cmark_stream_model.specs.Growth.{is_blank, ends_whole, fed_before, open_after, Parts, blocks_at, IsCut, begins_apart, last_list, continues, may_continue, document_before, document_of_tail, ReadInTurn, are_resolved, HasNoMetadata, definition_or, is_outside_of_lists, IsJoined};
 
 /// The blocks before a cut are the blocks of the first bytes alone, whatever follows. The blocks after it are those of the tail's
@@ -41,15 +43,15 @@ pub fn resolved_lines_are_settled()
         → are_resolved (rows front) ≡ true → fed_before options tail (BetweenBlocks Nil) (rows front) ≡ open_after options front }
 {}
 
-/// The document of a text with a cut is the document of the bytes before the cut, followed by the document of the tail, if the tail
-/// continues no list.
+/// If the tail continues no list, the document of a text with a cut has two parts. They are the document of the bytes before the cut, and
+/// the document of the tail.
 pub fn documents_are_cut()
     ensures { (options : Options) (lookup : Lookup) (front tail : List ℕ) (r : Row) (rs : List Row)
         → ends_whole front tail ≡ true → rows_from (length front) (lines tail) ≡ r ∷ rs → IsCut options front r rs
         → begins_apart (blocks_at options (length front) tail) ≡ true → IsJoined options lookup front tail }
 {}
 
-/// The definitions of a joined document are those of the first part, followed by those of the tail. The same is true of its
+/// The definitions of a joined document are those of the first part, followed by those of the tail, and so are its
 /// footnotes.
 pub fn tables_are_cut()
     ensures { (options : Options) (lookup : Lookup) (front tail : List ℕ) → IsJoined options lookup front tail
@@ -71,7 +73,7 @@ pub fn readings_are_read_in_turn()
 {}
 
 /// A label that has a definition before a cut keeps it, whatever follows (CommonMark 4.7). Any other label has the first definition
-/// after the cut. Footnotes have the same law.
+/// after the cut. This law holds for footnotes too.
 pub fn definitions_stay()
     ensures definitions { (folded : List ℕ) (earlier later : List Reference)
         → first_with fold folded (earlier ++ later) ≡ definition_or (first_with fold folded earlier) (first_with fold folded later) }
@@ -79,8 +81,8 @@ pub fn definitions_stay()
         → has_label folded (earlier ++ later) ≡ (has_label folded earlier || has_label folded later) }
 {}
 
-/// The HTML of two lists of events is the pieces of the first, followed by the pieces of the second, with the state that the writer
-/// has after the first.
+/// The HTML of two lists of events is the pieces of the first, followed by the pieces of the second. The writer then begins the second with
+/// the state that it has after the first.
 pub fn html_is_cut()
     ensures { (earlier later : List Event)
         → html (earlier ++ later) ≡ pieces earlier ++ (pieces_from (moved_all at_line_start earlier) later ++ last_piece (moved_all (moved_all at_line_start earlier) later).image) }
@@ -89,11 +91,11 @@ pub fn html_is_cut()
 /// If no definition lists are read, a line begins the same block after other blocks as at the beginning of a text.
 pub fn lines_begin_apart()
     ensures { (options : Options) (before : Blocks) (r : Row) (ahead : List Row) → options.definition_list ≡ false
-        → opens_at options (place_behind Apart before) r ahead ≡ opens_at options Apart r ahead }
+        → opens_at options (place_after Apart before) r ahead ≡ opens_at options Apart r ahead }
 {}
 
-/// Leaves among the first bytes of a text are read as the same events if the text grows, with the same questions and the same rest of
-/// the reference expansion limit. The labels that they may look up must lead to the same definitions.
+/// Leaves among the first bytes of a text keep their events if the text grows. The questions, and the rest of the reference
+/// expansion limit, do not change then. The labels that the leaves may look up must keep their definitions.
 pub fn settled_leaves_are_read_as_before()
     ensures { (profile : Profile) (size : ℕ) (s t : List ℕ) → Agree size s t
         → (d e : List ℕ → Option Reference) (f g : List ℕ → Bool) → size ≤ length s
@@ -109,8 +111,8 @@ pub fn documents_stay()
         → document_before options lookup (front ++ tail) front ≡ document front options lookup }
 {}
 
-/// The bytes before a cut are read as the same events, whatever follows, with the same questions and the same rest of the reference
-/// expansion limit. The labels that their leaves may look up must lead to the same definitions.
+/// The bytes before a cut keep their events, whatever follows. The questions, and the rest of the reference expansion limit, are
+/// then equal too. The labels that their leaves may look up must keep their definitions.
 pub fn settled_events_stay()
     ensures { (profile : Profile) (front tail other : List ℕ) (d e : List ℕ → Option Reference) (f g : List ℕ → Bool)
         → (exchanges : List Exchange) (before after : Between) (events : List Ranged)
@@ -119,8 +121,9 @@ pub fn settled_events_stay()
         → ReadsAll (reader_with profile (front ++ other) e g) (IsNext exchanges) (segments (document front profile.options profile.lookup)) before events after }
 {}
 
-/// The bytes before a cut are read as the same events if no question that was asked there is about a label that has a definition now. So with
-/// a callback, only the labels of its questions matter: a label that was found keeps its definition. Footnotes must be the same.
+/// With a callback, the bytes before a cut keep their events under one condition. No question that was asked there is about a
+/// label that has a definition now. A label that was found keeps its definition, so only the labels of the questions matter. The footnotes
+/// must be equal.
 pub fn questions_decide_which_events_stay()
     ensures { (profile : Profile) (front tail other : List ℕ) (d e : List ℕ → Option Reference) (f g : List ℕ → Bool)
         → profile.has_callback ≡ true → DefinitionsStay d e
@@ -130,8 +133,8 @@ pub fn questions_decide_which_events_stay()
         → ReadsAll (reader_with profile (front ++ other) e g) (IsNext exchanges) (segments (document front profile.options profile.lookup)) before events after }
 {}
 
-/// The law of a text that grows. Two texts have the same first bytes, and both documents are joined after them. Then both readings
-/// begin with the same events, those of the first bytes, if the labels that their leaves may look up lead to the same definitions.
+/// The law of a text that grows. Two texts have the same first bytes, and both documents are joined after them. The labels that the leaves
+/// of the first bytes may look up lead to the same definitions. Then both readings begin with the events of the first bytes.
 pub fn readings_share_the_settled_events()
     ensures { (profile : Profile) (front one other : List ℕ) (exchanges : List Exchange) (first second : List Ranged)
         → IsJoined profile.options profile.lookup front one → IsJoined profile.options profile.lookup front other
@@ -141,8 +144,8 @@ pub fn readings_share_the_settled_events()
         → (settled later others : List Ranged) × (first ≡ settled ++ later) × (second ≡ settled ++ others) }
 {}
 
-/// The law of a text that grows, if the answers of the callback are given by a plan. A callback that returns the same answer each time it is
-/// asked the same question has a plan.
+/// The law of a text that grows, if the answers of the callback are those of a plan. A callback has a plan if it returns one answer each
+/// time it is asked a question.
 pub fn readings_by_a_plan_share_the_settled_events()
     ensures { (plan : Plan) (profile : Profile) (front one other : List ℕ) (asked others_asked : List Exchange) (first second : List Ranged)
         → IsJoined profile.options profile.lookup front one → IsJoined profile.options profile.lookup front other
@@ -159,7 +162,7 @@ pub fn tails_continue_no_list()
         → is_outside_of_lists (opens_at options Apart r (shown rs)) ≡ true → begins_apart (blocks_at options at tail) ≡ true }
 {}
 
-/// If neither metadata nor definition lists are read, a line is a cut if it begins a block outside of all open ones, and each earlier
+/// If neither metadata nor definition lists are read, a test finds cuts. The line begins a block outside of all open ones. Each earlier
 /// line looks at no later line or has a blank line after it.
 pub fn tested_cuts_are_cuts()
     ensures { (options : Options) → HasNoMetadata options → options.definition_list ≡ false → (front : List ℕ) (r : Row) (rs : List Row)
@@ -167,7 +170,7 @@ pub fn tested_cuts_are_cuts()
         → is_blank (opens_at options Apart r (shown rs)) ≡ false → IsCut options front r rs }
 {}
 
-/// If some of the reference expansion limit is left after a reading, a greater limit gives the same events and the same questions.
+/// If some of the reference expansion limit is left after a reading, a greater limit changes neither the events nor the questions.
 /// The increase is left in addition.
 pub fn a_greater_limit_reads_the_same()
     ensures { (reader : Reader) (more : ℕ) (exchanges : List Exchange) (segments : List Segment) (before after : Between) (events : List Ranged)
@@ -194,8 +197,8 @@ pub fn joined_documents_are_joined_at_an_offset()
         → IsJoined options lookup front tail → IsJoinedAt options lookup (front ++ tail) (length front) }
 {}
 
-/// If a document is joined at an offset, its events and leaves are those of the bytes before the offset, followed by those of the lines after
-/// it. The same is true of its definitions and of its footnotes.
+/// If a document is joined at an offset, its events and leaves are in two parts. The first are those of the bytes before the offset, and
+/// the second those of the lines after it. Its definitions and its footnotes are in two such parts too.
 pub fn joined_documents_are_read_in_parts()
     ensures segments { (text : List ℕ) (options : Options) (lookup : Lookup) (from : ℕ) → IsJoinedAt options lookup text from
         → segments (document text options lookup) ≡ segments (document (take from text) options lookup) ++ segments (document_after text options lookup from) }
@@ -205,8 +208,8 @@ pub fn joined_documents_are_read_in_parts()
         → footnote_labels (document text options lookup) ≡ footnote_labels (document (take from text) options lookup) ++ footnote_labels (document_after text options lookup from) }
 {}
 
-/// A reading of the bytes before an offset and a reading of the lines after it, with the rest of the reference expansion limit, are a reading
-/// of the text, if its document is joined there. No questions are asked.
+/// If a document is joined at an offset, a reading of the bytes before it can be continued. A reading of the lines after it, with the rest
+/// of the reference expansion limit, completes a reading of the text. No questions are asked.
 pub fn readings_continue_at_an_offset()
     ensures { (text : List ℕ) (profile : Profile) (from : ℕ) → IsJoinedAt profile.options profile.lookup text from
         → (first later : List Ranged) (between : Between)
@@ -232,4 +235,41 @@ pub fn first_lines_decide_about_lists()
     ensures { (options : Options) → options.definition_list ≡ false → (list : Option ℕ) (at : ℕ) (tail : List ℕ) (r : Row) (rs : List Row)
         → rows_from at (lines tail) ≡ r ∷ rs
         → may_continue list (opens_at options Apart r (shown rs)) ≡ false → continues list (blocks_at options at tail) ≡ false }
+{}
+
+/// A settled cut of a text stays one if the text grows.
+pub fn settled_cuts_stay()
+    ensures { (options : Options) (text more : List ℕ) (at : ℕ) → IsSettledAt options text at → IsSettledAt options (text ++ more) at }
+{}
+
+/// At a settled cut of a text the document is joined, whatever follows the text.
+pub fn documents_stay_joined_at_settled_cuts()
+    ensures { (options : Options) (text : List ℕ) (at : ℕ) → IsSettledAt options text at → StaysJoinedAt options text at }
+{}
+
+/// If no label has a definition and there is no callback, references take nothing of the reference expansion limit.
+pub fn undefined_references_take_nothing()
+    ensures { (reader : Reader) → ((folded : List ℕ) → reader.definition folded ≡ None) → reader.has_callback ≡ false
+        → (exchanges : List Exchange) (segments : List Segment) (before after : Between) (events : List Ranged)
+        → ReadsAll reader (IsNext exchanges) segments before events after → after.expansion_left ≡ before.expansion_left }
+{}
+
+/// A text that defines nothing is read in parts. The events of the bytes before an offset and those of the lines after it are a reading of the
+/// text, with the whole limit for both parts. Whatever follows, the text is read as these events, if that defines nothing either.
+pub fn texts_without_definitions_are_read_in_parts()
+    ensures reading { (profile : Profile) → profile.has_callback ≡ false → (text : List ℕ) (from : ℕ) → IsJoinedAt profile.options profile.lookup text from
+        → HasNoDefinitions (document text profile.options profile.lookup)
+        → (first later : List Ranged) → IsReadAlone profile (take from text) first
+        → Left (reader_of text profile (document text profile.options profile.lookup)) (segments (document_after text profile.options profile.lookup from)) profile.reference_expansion_limit [] later
+        → IsReading text profile [] (first ++ later) }
+    ensures alone { (profile : Profile) → profile.has_callback ≡ false → (text : List ℕ) (from : ℕ) → IsJoinedAt profile.options profile.lookup text from
+        → HasNoDefinitions (document text profile.options profile.lookup)
+        → (first later : List Ranged) → IsReadAlone profile (take from text) first
+        → Left (reader_of text profile (document text profile.options profile.lookup)) (segments (document_after text profile.options profile.lookup from)) profile.reference_expansion_limit [] later
+        → IsReadAlone profile text (first ++ later) }
+{}
+
+/// A text is joined at its beginning.
+pub fn documents_are_joined_at_the_beginning()
+    ensures { (options : Options) (text : List ℕ) → StaysJoinedAt options text 0 }
 {}

@@ -6,7 +6,7 @@ use Rattle.std.proofs.lemmas.List.{get_or-take, get_or-drop, length-take-le, len
 use Rattle.std.proofs.lemmas.List.Quantifiers.{position-Some}
 use Rattle.memchr.specs.Find.{IsFirstByte}
 use Rattle.cmark_text.specs.Appended.{AppendsFront}
-use Rattle.cmark_text_parts.proofs.Kept.{AllKept}
+use Rattle.cmark_values.proofs.Kept.{AllKept}
 
 -- new is old with a first part of the text escaped, and this rest of the text is left
 pub record Written (escape : ℕ → List ℕ) (old new text rest : List ℕ) : Type 0 where

@@ -4,7 +4,7 @@ use Rattle.cmark_text.specs.declared.event.Tag.{Tag}
 use Rattle.cmark_text.specs.declared.event.Tag.TheVariants.{Heading, CodeBlock, FootnoteDefinition, Table, Link, Image}
 use Rattle.cmark_text.specs.declared.event.Event.{Event}
 use Rattle.cmark_text.specs.declared.event.Event.TheVariants.{Start, End, Text, Code, InlineMath, DisplayMath, Html, InlineHtml, FootnoteReference, SoftBreak, HardBreak, Rule, TaskListMarker}
-use Rattle.cmark_text_parts.specs.InPlace.{CopiesInPlace, KindCopiesInPlace, StaysInPlace, KindStaysInPlace}
+use Rattle.cmark_values.specs.InPlace.{CopiesInPlace, KindCopiesInPlace, StaysInPlace, KindStaysInPlace}
 
 abbrev pub TagCopiesInPlace : Tag → Type 0
 TagCopiesInPlace (Heading level id classes attrs) = IfSome id CopiesInPlace × (length classes.items ≡ 0) × (length attrs.items ≡ 0)

@@ -13,8 +13,8 @@ use Rattle.cmark_text.specs.declared.short.Short.{Short}
 use Rattle.cmark_text.specs.declared.short.Short.TheVariants as short
 use Rattle.cmark_text.specs.Excerpt.{excerpt_bytes}
 use Rattle.cmark_text.specs.Shown.{shown_end}
-use Rattle.cmark_text_parts.specs.Shown.{level_number, shown_block_quote_kind, shown_metadata_block_kind}
-use Rattle.cmark_text_parts.specs.Lending.{IsPartOf}
+use Rattle.cmark_values.specs.Shown.{level_number, shown_block_quote_kind, shown_metadata_block_kind}
+use Rattle.cmark_values.specs.Lending.{IsPartOf}
 
 abbrev pub shown_plain : PlainTag → tag.Tag
 shown_plain plain.Paragraph = tag.Paragraph

@@ -9,7 +9,7 @@ use Rattle.cmark_text.specs.declared.event.TagEnd.{TagEnd}
 use Rattle.cmark_text.specs.declared.event.TagEnd.TheVariants as declared_end
 use Rattle.cmark_text.specs.declared.event.Event.{Event}
 use Rattle.cmark_text.specs.declared.event.Event.TheVariants as declared_event
-use Rattle.cmark_text_parts.specs.Shown.{text_bytes, level_number, shown_alignment, shown_block_quote_kind, shown_metadata_block_kind, shown_code_block_kind, shown_attributes, shown_linked}
+use Rattle.cmark_values.specs.Shown.{text_bytes, level_number, shown_alignment, shown_block_quote_kind, shown_metadata_block_kind, shown_code_block_kind, shown_attributes, shown_linked}
 
 abbrev pub shown_tag : Tag → tag.Tag
 shown_tag declared_tag.Paragraph = tag.Paragraph

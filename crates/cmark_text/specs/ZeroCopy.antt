@@ -4,7 +4,7 @@ use Rattle.std.specs.Prelude.{ℕ, List}
 use Rattle.cmark_grammar.specs.Tokens.{slice}
 use Rattle.cmark_text.specs.declared.event.Event.{Event}
 use Rattle.cmark_text.specs.declared.event.Event.TheVariants as event
-use Rattle.cmark_text_parts.specs.Lending.{IsLentBy, IsPartIfBorrowed}
+use Rattle.cmark_values.specs.Lending.{IsLentBy, IsPartIfBorrowed}
 
 -- Texts and HTML are borrowed exactly if they are the bytes of their range: nothing is copied without need, and nothing else is borrowed.
 -- Code and formulas are borrowed only if they are a part of the source, because their range includes the backticks and the dollar signs

@@ -3,15 +3,15 @@
 ghost use Rattle.std.specs.Prelude.{◌≡◌, ◌∷◌, [], ◌++◌, length, IfOk, IsOk, IfSome, OnOk, map, option_map};
 ghost use Rattle.cmark_grammar.specs.Tag as tag;
 ghost use Rattle.cmark_text.specs.InPlace.{TagCopiesInPlace, EventCopiesInPlace, TagStaysInPlace, EventStaysInPlace};
-ghost use Rattle.cmark_text_parts.specs.InPlace.{CopiesInPlace, StaysInPlace};
+ghost use Rattle.cmark_values.specs.InPlace.{CopiesInPlace, StaysInPlace};
 ghost use Rattle.cmark_text.specs.Kinds.{shown_link_tag, shown_text};
 ghost use Rattle.cmark_text.specs.Short.{MayOwn, shown_plain};
 ghost use Rattle.cmark_text.specs.Shown.{shown, shown_tag};
-ghost use Rattle.cmark_text_parts.specs.Shown.{level_number, shown_attribute, shown_attributes, shown_linked, text_bytes};
+ghost use Rattle.cmark_values.specs.Shown.{level_number, shown_attribute, shown_attributes, shown_linked, text_bytes};
 
 use crate::event::{Event, Tag};
 use crate::short::PlainTag;
-use cmark_text_parts::{CowStr, HeadingLevel, LinkType};
+use cmark_values::{CowStr, HeadingLevel, LinkType};
 use std::alloc::{AllocError, Global};
 
 impl<'a> Tag<'a> {
@@ -199,7 +199,8 @@ impl LinkKind {
         title: CowStr<'a>,
         id: CowStr<'a>,
     ) -> Tag<'a>
-        ensures { shown_tag result ≡ shown_link_tag self (shown_linked link_type dest_url.entry title.entry id.entry) }
+        ensures { shown_tag result
+            ≡ shown_link_tag self (shown_linked link_type dest_url.entry title.entry id.entry) }
     {
         match self {
             LinkKind::Link => Tag::Link {
@@ -227,8 +228,10 @@ fn clone_linked<'a>(
     title: &CowStr<'a>,
     id: &CowStr<'a>,
 ) -> Result<Tag<'a>, AllocError>
-    ensures value { IfOk result (λ copy. shown_tag copy ≡ shown_link_tag kind (shown_linked link_type dest_url.now title.now id.now)) }
-    ensures succeeds { CopiesInPlace dest_url.now → CopiesInPlace title.now → CopiesInPlace id.now → IsOk result }
+    ensures value { let linked = shown_linked link_type dest_url.now title.now id.now in
+        IfOk result (λ copy. shown_tag copy ≡ shown_link_tag kind linked) }
+    ensures succeeds { CopiesInPlace dest_url.now → CopiesInPlace title.now → CopiesInPlace id.now
+        → IsOk result }
 {
     // The other texts are dropped by calls: the compiler would write out implicit drops at each exit, which takes long to prove.
     let Ok(dest_url) = dest_url.clone(alloc) else {
@@ -255,8 +258,10 @@ fn static_linked(
     title: CowStr<'_>,
     id: CowStr<'_>,
 ) -> Result<Tag<'static>, AllocError>
-    ensures value { IfOk result (λ made. shown_tag made ≡ shown_link_tag kind (shown_linked link_type dest_url.entry title.entry id.entry)) }
-    ensures succeeds { StaysInPlace dest_url.entry → StaysInPlace title.entry → StaysInPlace id.entry → IsOk result }
+    ensures value { let linked = shown_linked link_type dest_url.entry title.entry id.entry in
+        IfOk result (λ made. shown_tag made ≡ shown_link_tag kind linked) }
+    ensures succeeds { StaysInPlace dest_url.entry → StaysInPlace title.entry
+        → StaysInPlace id.entry → IsOk result }
 {
     // Calls drop the other texts, as in `clone_linked`.
     let Ok(dest_url) = dest_url.into_static(alloc) else {
@@ -285,8 +290,10 @@ fn clone_heading<'a>(
     classes: &[CowStr<'a>],
     attrs: &[Attribute<'a>],
 ) -> Result<Tag<'a>, AllocError>
-    ensures value { IfOk result (λ copy. shown_tag copy ≡ tag.Heading (level_number level) (shown_attributes id.now classes.now attrs.now)) }
-    ensures succeeds { IfSome id.now CopiesInPlace → length classes.now ≡ 0 → length attrs.now ≡ 0 → IsOk result }
+    ensures value { let attributes = shown_attributes id.now classes.now attrs.now in
+        IfOk result (λ copy. shown_tag copy ≡ tag.Heading (level_number level) attributes) }
+    ensures succeeds { IfSome id.now CopiesInPlace → length classes.now ≡ 0 → length attrs.now ≡ 0
+        → IsOk result }
 {
     let Ok(classes) = clone_texts(alloc, classes) else {
         return Err(AllocError);
@@ -313,8 +320,11 @@ fn static_heading(
     classes: Vec<CowStr<'_>>,
     attrs: Vec<Attribute<'_>>,
 ) -> Result<Tag<'static>, AllocError>
-    ensures value { IfOk result (λ made. shown_tag made ≡ tag.Heading (level_number level) (shown_attributes id.entry classes.entry.items attrs.entry.items)) }
-    ensures succeeds { IfSome id.entry StaysInPlace → length classes.entry.items ≡ 0 → length attrs.entry.items ≡ 0 → IsOk result }
+    ensures value { let attributes =
+        shown_attributes id.entry classes.entry.items attrs.entry.items in
+        IfOk result (λ made. shown_tag made ≡ tag.Heading (level_number level) attributes) }
+    ensures succeeds { IfSome id.entry StaysInPlace → length classes.entry.items ≡ 0
+        → length attrs.entry.items ≡ 0 → IsOk result }
 {
     // A call drops the anchor, as in `clone_linked`. A list is dropped by a call in any case.
     let Ok(classes) = static_texts(alloc, classes) else {
@@ -340,7 +350,8 @@ fn clone_optional_text<'a>(
     alloc: Global,
     text: &Option<CowStr<'a>>,
 ) -> Result<Option<CowStr<'a>>, AllocError>
-    ensures value { IfOk result (λ copy. option_map text_bytes copy ≡ option_map text_bytes text.now) }
+    ensures value { IfOk result
+        (λ copy. option_map text_bytes copy ≡ option_map text_bytes text.now) }
     ensures succeeds { IfSome text.now CopiesInPlace → IsOk result }
 {
     match text {
@@ -370,7 +381,9 @@ fn push_clone<'a>(
     alloc: Global,
     text: &CowStr<'a>,
 ) -> Result<(), AllocError>
-    ensures { OnOk result (map text_bytes copies.new.items ≡ map text_bytes copies.old.items ++ (text_bytes text.now ∷ [])) }
+    ensures { OnOk result
+        (map text_bytes copies.new.items ≡ map text_bytes copies.old.items
+        ++ (text_bytes text.now ∷ [])) }
 {
     let Ok(copy) = text.clone(alloc) else {
         return Err(AllocError);
@@ -383,7 +396,8 @@ fn clone_attributes<'a>(
     alloc: Global,
     attributes: &[Attribute<'a>],
 ) -> Result<Vec<Attribute<'a>>, AllocError>
-    ensures value { IfOk result (λ copies. map shown_attribute copies.items ≡ map shown_attribute attributes.now) }
+    ensures value { IfOk result
+        (λ copies. map shown_attribute copies.items ≡ map shown_attribute attributes.now) }
     ensures succeeds { length attributes.now ≡ 0 → IsOk result }
 {
     let Ok(mut copies) = Vec::with_capacity(alloc, attributes.len()) else {
@@ -403,7 +417,9 @@ fn push_attribute_clone<'a>(
     alloc: Global,
     attribute: &Attribute<'a>,
 ) -> Result<(), AllocError>
-    ensures { OnOk result (map shown_attribute copies.new.items ≡ map shown_attribute copies.old.items ++ (shown_attribute attribute.now ∷ [])) }
+    ensures { OnOk result
+        (map shown_attribute copies.new.items ≡ map shown_attribute copies.old.items
+        ++ (shown_attribute attribute.now ∷ [])) }
 {
     let (name, value) = attribute;
     let Ok(name) = name.clone(alloc) else {
@@ -421,7 +437,8 @@ fn static_optional_text(
     alloc: Global,
     text: Option<CowStr<'_>>,
 ) -> Result<Option<CowStr<'static>>, AllocError>
-    ensures value { IfOk result (λ made. option_map text_bytes made ≡ option_map text_bytes text.entry) }
+    ensures value { IfOk result
+        (λ made. option_map text_bytes made ≡ option_map text_bytes text.entry) }
     ensures succeeds { IfSome text.entry StaysInPlace → IsOk result }
 {
     match text {
@@ -431,7 +448,8 @@ fn static_optional_text(
 }
 
 fn static_texts(alloc: Global, texts: Vec<CowStr<'_>>) -> Result<Vec<CowStr<'static>>, AllocError>
-    ensures value { IfOk result (λ made. map text_bytes made.items ≡ map text_bytes texts.entry.items) }
+    ensures value { IfOk result
+        (λ made. map text_bytes made.items ≡ map text_bytes texts.entry.items) }
     ensures succeeds { length texts.entry.items ≡ 0 → IsOk result }
 {
     let Ok(mut made) = Vec::with_capacity(alloc, texts.len()) else {
@@ -451,7 +469,9 @@ fn push_static(
     alloc: Global,
     text: CowStr<'_>,
 ) -> Result<(), AllocError>
-    ensures { OnOk result (map text_bytes made.new.items ≡ map text_bytes made.old.items ++ (text_bytes text.entry ∷ [])) }
+    ensures { OnOk result
+        (map text_bytes made.new.items ≡ map text_bytes made.old.items
+        ++ (text_bytes text.entry ∷ [])) }
 {
     let Ok(text) = text.into_static(alloc) else {
         return Err(AllocError);
@@ -464,7 +484,8 @@ fn static_attributes(
     alloc: Global,
     attributes: Vec<Attribute<'_>>,
 ) -> Result<Vec<Attribute<'static>>, AllocError>
-    ensures value { IfOk result (λ made. map shown_attribute made.items ≡ map shown_attribute attributes.entry.items) }
+    ensures value { IfOk result
+        (λ made. map shown_attribute made.items ≡ map shown_attribute attributes.entry.items) }
     ensures succeeds { length attributes.entry.items ≡ 0 → IsOk result }
 {
     let Ok(mut made) = Vec::with_capacity(alloc, attributes.len()) else {
@@ -484,7 +505,9 @@ fn push_static_attribute(
     alloc: Global,
     attribute: Attribute<'_>,
 ) -> Result<(), AllocError>
-    ensures { OnOk result (map shown_attribute made.new.items ≡ map shown_attribute made.old.items ++ (shown_attribute attribute.entry ∷ [])) }
+    ensures { OnOk result
+        (map shown_attribute made.new.items ≡ map shown_attribute made.old.items
+        ++ (shown_attribute attribute.entry ∷ [])) }
 {
     let (name, value) = attribute;
     let Ok(name) = name.into_static(alloc) else {

@@ -3,7 +3,7 @@
 ghost use Rattle.std.specs.Prelude.{◌≡◌, ◌+◌, ◌<◌, ◌≤◌, ℕ, true, false, not, ◌++◌, length, position, take, slice_range, slice_index, OnOk, OnErr, string_bytes};
 ghost use Rattle.memchr.specs.Find.{IsFirstByte};
 ghost use Rattle.cmark_grammar.specs.Escapes.{body_text_byte, escaped_body_text, html_byte, escaped_html, is_url_byte, href_byte, escaped_href, hexadecimal_digit, percent_encoded};
-ghost use Rattle.cmark_text.specs.Appended.{AppendsFront};
+ghost use Rattle.cmark_text.specs.Appended.{Writes};
 ghost use Rattle.cmark_text.specs.Excerpt.{excerpt_bytes};
 ghost use Rattle.cmark_text.specs.Marks.{is_body_text_mark, is_html_mark, is_href_mark};
 
@@ -16,8 +16,7 @@ use std::alloc::AllocError;
 /// If memory is refused, the string holds its old text and a beginning of the escaped text.
 #[inline(always)]
 pub fn escape_html_body_text(out: &mut String, text: &str) -> Result<(), AllocError>
-    ensures ok { OnOk result (string_bytes out.new ≡ string_bytes out.old ++ escaped_body_text text.now) }
-    ensures err { OnErr result (AppendsFront (string_bytes out.old) (string_bytes out.new) (escaped_body_text text.now)) }
+    ensures { Writes out.old out.new result (escaped_body_text text.now) }
 {
     match find_body_text_mark(text) {
         None => out.push_str(text),
@@ -31,8 +30,7 @@ pub fn escape_html_body_text(out: &mut String, text: &str) -> Result<(), AllocEr
 /// If memory is refused, the string holds its old text and a beginning of the escaped text.
 #[inline(always)]
 pub fn escape_excerpt(out: &mut String, excerpt: Excerpt<'_>) -> Result<(), AllocError>
-    ensures ok { OnOk result (string_bytes out.new ≡ string_bytes out.old ++ escaped_body_text (excerpt_bytes excerpt.entry)) }
-    ensures err { OnErr result (AppendsFront (string_bytes out.old) (string_bytes out.new) (escaped_body_text (excerpt_bytes excerpt.entry))) }
+    ensures { Writes out.old out.new result (escaped_body_text (excerpt_bytes excerpt.entry)) }
 {
     match find_mark_within(excerpt.ahead, excerpt.len) {
         None => append_excerpt(out, excerpt),
@@ -46,7 +44,8 @@ pub fn escape_excerpt(out: &mut String, excerpt: Excerpt<'_>) -> Result<(), Allo
 /// copy of a fixed length has no branch on the length.
 #[inline(always)]
 pub fn append_excerpt(out: &mut String, excerpt: Excerpt<'_>) -> Result<(), AllocError>
-    ensures ok { OnOk result (string_bytes out.new ≡ string_bytes out.old ++ excerpt_bytes excerpt.entry) }
+    ensures ok { OnOk result
+        (string_bytes out.new ≡ string_bytes out.old ++ excerpt_bytes excerpt.entry) }
     ensures err { OnErr result (string_bytes out.new ≡ string_bytes out.old) }
 {
     let ahead = excerpt.ahead;
@@ -64,8 +63,7 @@ pub fn append_excerpt(out: &mut String, excerpt: Excerpt<'_>) -> Result<(), Allo
 #[inline(never)]
 fn escape_from(out: &mut String, text: &str, first: usize) -> Result<(), AllocError>
     requires { IsFirstByte is_body_text_mark text.now (Some first) }
-    ensures ok { OnOk result (string_bytes out.new ≡ string_bytes out.old ++ escaped_body_text text.now) }
-    ensures err { OnErr result (AppendsFront (string_bytes out.old) (string_bytes out.new) (escaped_body_text text.now)) }
+    ensures { Writes out.old out.new result (escaped_body_text text.now) }
 {
     let mut rest = text;
     let mut found = Some(first);
@@ -126,8 +124,7 @@ const HTML_MARKS: &[u8; 256] = &[
 ///
 /// If memory is refused, the string holds its old text and a beginning of the escaped text.
 pub fn escape_html(out: &mut String, text: &str) -> Result<(), AllocError>
-    ensures ok { OnOk result (string_bytes out.new ≡ string_bytes out.old ++ escaped_html text.now) }
-    ensures err { OnErr result (AppendsFront (string_bytes out.old) (string_bytes out.new) (escaped_html text.now)) }
+    ensures { Writes out.old out.new result (escaped_html text.now) }
 {
     let mut rest = text;
     while let Some(at) = find_html_mark(rest) {
@@ -189,8 +186,7 @@ static HEXADECIMAL_DIGITS: [char; 16] = [
 ///
 /// If memory is refused, the string holds its old text and a beginning of the escaped URL.
 pub fn escape_href(out: &mut String, url: &str) -> Result<(), AllocError>
-    ensures ok { OnOk result (string_bytes out.new ≡ string_bytes out.old ++ escaped_href url.now) }
-    ensures err { OnErr result (AppendsFront (string_bytes out.old) (string_bytes out.new) (escaped_href url.now)) }
+    ensures { Writes out.old out.new result (escaped_href url.now) }
 {
     let mut from = 0;
     while from < url.len() {
@@ -235,7 +231,8 @@ fn push_kept(out: &mut String, url: &str, from: usize, to: usize) -> Result<(), 
     requires ordered { from ≤ to }
     requires in_bounds { to ≤ length url.now }
     requires kept { (k : ℕ) → from ≤ k → k < to → is_href_mark (slice_index url.now k) ≡ false }
-    ensures ok { OnOk result (string_bytes out.new ≡ string_bytes out.old ++ slice_range url.now from to) }
+    ensures ok { OnOk result
+        (string_bytes out.new ≡ string_bytes out.old ++ slice_range url.now from to) }
     ensures err { OnErr result (string_bytes out.new ≡ string_bytes out.old) }
 {
     if from == to {
@@ -247,8 +244,7 @@ fn push_kept(out: &mut String, url: &str, from: usize, to: usize) -> Result<(), 
 /// Appends the escape of a byte that `escape_href` does not keep.
 fn push_href_byte(out: &mut String, byte: u8) -> Result<(), AllocError>
     requires { is_href_mark byte ≡ true }
-    ensures ok { OnOk result (string_bytes out.new ≡ string_bytes out.old ++ href_byte byte) }
-    ensures err { OnErr result (AppendsFront (string_bytes out.old) (string_bytes out.new) (href_byte byte)) }
+    ensures { Writes out.old out.new result (href_byte byte) }
 {
     match byte {
         b'&' => out.push_str("&amp;"),
@@ -258,8 +254,7 @@ fn push_href_byte(out: &mut String, byte: u8) -> Result<(), AllocError>
 }
 
 fn push_percent_encoded(out: &mut String, byte: u8) -> Result<(), AllocError>
-    ensures ok { OnOk result (string_bytes out.new ≡ string_bytes out.old ++ percent_encoded byte) }
-    ensures err { OnErr result (AppendsFront (string_bytes out.old) (string_bytes out.new) (percent_encoded byte)) }
+    ensures { Writes out.old out.new result (percent_encoded byte) }
 {
     out.push('%')?;
     out.push(hexadecimal_digit(byte / 16))?;

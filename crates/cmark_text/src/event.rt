@@ -4,7 +4,7 @@ ghost use Rattle.std.specs.Prelude.{◌≡◌};
 ghost use Rattle.cmark_grammar.specs.TagEnd.{end_of};
 ghost use Rattle.cmark_text.specs.Shown.{shown_tag, shown_end};
 
-use cmark_text_parts::{
+use cmark_values::{
     Alignment, BlockQuoteKind, CodeBlockKind, CowStr, HeadingLevel, LinkType, MetadataBlockKind,
 };
 

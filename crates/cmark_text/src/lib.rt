@@ -1,5 +1,5 @@
 //! The vocabulary of the library: texts, events and their tags, options, the look-up of entities, labels, and the escapes of texts in HTML.
-//! The parts that tags and events are built from are re-exported from `cmark_text_parts`.
+//! The parts that tags and events are built from are re-exported from `cmark_values`.
 #![tactic(auto)]
 
 mod copies;
@@ -9,7 +9,7 @@ mod excerpt;
 mod ranged;
 mod short;
 
-pub use cmark_text_parts::{
+pub use cmark_values::{
     Alignment, BasicEntities, BlockQuoteKind, CodeBlockKind, CowStr, EntityLookup, FootnoteLabel,
     HeadingLevel, InlineStr, InvalidHeadingLevel, LinkLabel, LinkType, MetadataBlockKind, Options,
     StringTooLongError,

@@ -6,7 +6,7 @@ ghost use Rattle.cmark_text.specs.Shown.{shown, shown_tag};
 
 use crate::event::{Event, Tag, TagEnd};
 use crate::excerpt::Excerpt;
-use cmark_text_parts::{BlockQuoteKind, CodeBlockKind, CowStr, HeadingLevel, MetadataBlockKind};
+use cmark_values::{BlockQuoteKind, CodeBlockKind, CowStr, HeadingLevel, MetadataBlockKind};
 use std::alloc::Global;
 
 /// The tag of an element that has no text of its own.
@@ -95,7 +95,8 @@ impl<'a> Tag<'a> {
 
     /// The tag as a `PlainTag`, or `None` if the element may have a text or a list of its own, such as a heading with its attributes.
     pub fn plain(&self) -> Option<PlainTag>
-        ensures { MatchOption result (MayOwn self.now) (λ plain. shown_plain plain ≡ shown_tag self.now) }
+        ensures { MatchOption result (MayOwn self.now)
+            (λ plain. shown_plain plain ≡ shown_tag self.now) }
     {
         match self {
             Tag::Paragraph => Some(PlainTag::Paragraph),

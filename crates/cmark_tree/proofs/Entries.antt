@@ -4,9 +4,11 @@ use Rattle.std.specs.Prelude.{slice_get}
 use Rattle.std.specs.List.{swap}
 use Rattle.std.proofs.lemmas.List.Edits.{swap_is}
 use Rattle.std.proofs.lemmas.Option.{slice_get-get_or, slice_get_past, same_Some}
+use Rattle.cmark_tree.specs.declared.links.Link.{Link}
 use Rattle.cmark_tree.specs.declared.nodes.Nodes.{Nodes}
 use Rattle.cmark_tree.specs.Arena.{Entry}
-use Rattle.cmark_tree.specs.Nodes.{link_at, entry_of, entry_in, node_at, node_count, HasNumber, IsGrown, IsChanged, IsMoved, SameNodes, with_next, with_child, with_other_item}
+use Rattle.cmark_tree.specs.Links.{links_of, links_room, no_links, linked_next, linked_child}
+use Rattle.cmark_tree.specs.Nodes.{entry_of, entry_in, node_at, node_count, HasNumber, IsGrown, IsChanged, IsMoved, SameNodes, with_next, with_child, with_other_item}
 use Rattle.cmark_tree.specs.Lending.{with_stored_item}
 
 slice_get-set_same : {A : Type 0} → (xs : List A) (i : ℕ) (v : A) → i < length xs → slice_get (slice_set xs i v) i ≡ Some v
@@ -79,9 +81,11 @@ swap_length (x ∷ xs) a b in_a in_b =
     ap length (sym (swap_is (x ∷ xs) a b x in_a in_b))
     ∙ length-set (slice_set (x ∷ xs) a (get_or (x ∷ xs) b x)) b (get_or (x ∷ xs) a x) ∙ length-set (x ∷ xs) a (get_or (x ∷ xs) b x)
 
--- a number that is read as a link
-read_link : (xs : List ℕ) (k x to : ℕ) → k < length xs → x ≡ get_or xs k x → link_at (slice_get xs k) ≡ to → x ≡ to
-read_link xs k x to lt is at = is ∙ sym (ap link_at (slice_get-get_or xs k x lt)) ∙ at
+-- an element of a list
+get_there : {A : Type 0} → (xs : List A) (i : ℕ) → i < length xs → (x : A) × (slice_get xs i ≡ Some x)
+get_there [] i lt = absurd (omega (arith, lt))
+get_there (x ∷ xs) zero lt = (x, refl)
+get_there (x ∷ xs) (suc i) lt = get_there xs i (omega (arith, lt))
 
 module _ {T : Type 0} where
   -- there is no node 0
@@ -93,7 +97,7 @@ module _ {T : Type 0} where
   pub node_at-past : (v : Nodes T) (i : ℕ) → node_count v < i → node_at v i ≡ None
   unfolding node_at node_count
   node_at-past v zero lt = refl
-  node_at-past v (suc i) lt = ap (λ o. entry_of o (slice_get v.nexts.items i) (slice_get v.children.items i)) (slice_get_past v.items.items i (omega (arith, lt)))
+  node_at-past v (suc i) lt = ap (λ o. entry_of o (slice_get (links_of v.links) i)) (slice_get_past v.items.items i (omega (arith, lt)))
 
   -- a node that is read has been made
   pub node_at-within : (v : Nodes T) (i : ℕ) (e : Entry T) → node_at v i ≡ Some e → HasNumber v i
@@ -114,46 +118,41 @@ module _ {T : Type 0} where
   unfolding node_count
   stored_place v ix has = omega (arith, has.0, has.1)
 
-  pub next_place : (v : Nodes T) (ix : ℕ) → HasNumber v ix → ix - 1 < length v.nexts.items
-  next_place v ix has = omega (arith, stored_place v ix has, v.even.0)
+  pub link_place : (v : Nodes T) (ix : ℕ) → HasNumber v ix → ix - 1 < length (links_of v.links)
+  link_place v ix has = omega (arith, stored_place v ix has, v.even.0)
 
-  pub child_place : (v : Nodes T) (ix : ℕ) → HasNumber v ix → ix - 1 < length v.children.items
-  child_place v ix has = omega (arith, stored_place v ix has, v.even.1.0)
+  -- a node as the elements at its place
+  entry_is : (o : Option T) (n : Option (Link ℕ)) (e : Entry T) → entry_of o n ≡ Some e → (o ≡ Some e.item) × (n ≡ Some (record { next = e.next; child = e.child }))
+  entry_is None n e is = absurd (let q : None ≡ Some e = is in cc)
+  entry_is (Some x) None e is = absurd (let q : None ≡ Some e = is in cc)
+  entry_is (Some x) (Some l) e is =
+      let same : record { item = x; child = l.child; next = l.next } ≡ e = same_Some _ _ is in
+      (ap (λ k. Some k.item) same, ap (λ k. Some (record { next = k.next; child = k.child })) same)
 
-  -- a node as the elements at its places
-  entry_is : (o : Option T) (n c : Option ℕ) (e : Entry T) → entry_of o n c ≡ Some e → (o ≡ Some e.item) × (link_at n ≡ e.next) × (link_at c ≡ e.child)
-  entry_is None n c e is = absurd (let q : None ≡ Some e = is in cc)
-  entry_is (Some x) n c e is =
-      let same : record { item = x; child = link_at c; next = link_at n } ≡ e = same_Some _ _ is in
-      (ap (λ k. Some k.item) same, ap (λ k. k.next) same, ap (λ k. k.child) same)
-
-  at_place : (v : Nodes T) (ix : ℕ) (e : Entry T) → HasNumber v ix → node_at v ix ≡ Some e
-      → (slice_get v.items.items (ix - 1) ≡ Some e.item) × (link_at (slice_get v.nexts.items (ix - 1)) ≡ e.next) × (link_at (slice_get v.children.items (ix - 1)) ≡ e.child)
+  pub at_place : (v : Nodes T) (ix : ℕ) (e : Entry T) → HasNumber v ix → node_at v ix ≡ Some e
+      → (slice_get v.items.items (ix - 1) ≡ Some e.item) × (slice_get (links_of v.links) (ix - 1) ≡ Some (record { next = e.next; child = e.child }))
   unfolding node_at
   at_place v zero e has is = absurd (omega (arith, has.0))
   at_place v (suc j) e has is =
-      subst (λ k. (slice_get v.items.items k ≡ Some e.item) × (link_at (slice_get v.nexts.items k) ≡ e.next) × (link_at (slice_get v.children.items k) ≡ e.child))
-      (let q : j ≡ suc j - 1 = omega arith in q) (entry_is (slice_get v.items.items j) (slice_get v.nexts.items j) (slice_get v.children.items j) e is)
+      subst (λ k. (slice_get v.items.items k ≡ Some e.item) × (slice_get (links_of v.links) k ≡ Some (record { next = e.next; child = e.child })))
+      (let q : j ≡ suc j - 1 = omega arith in q) (entry_is (slice_get v.items.items j) (slice_get (links_of v.links) j) e is)
 
-  -- the values read from each of the three vectors
+  -- the item that is read
   pub read_item : (v : Nodes T) (ix : ℕ) (x : T) (e : Entry T) → HasNumber v ix → x ≡ get_or v.items.items (ix - 1) x → node_at v ix ≡ Some e → x ≡ e.item
   read_item v ix x e has is at = is ∙ same_Some _ _ (sym (slice_get-get_or v.items.items (ix - 1) x (stored_place v ix has)) ∙ (at_place v ix e has at).0)
 
-  pub read_next : (v : Nodes T) (ix x : ℕ) (e : Entry T) → HasNumber v ix → x ≡ get_or v.nexts.items (ix - 1) x → node_at v ix ≡ Some e → x ≡ e.next
-  read_next v ix x e has is at = read_link v.nexts.items (ix - 1) x e.next (next_place v ix has) is (at_place v ix e has at).1
-
-  pub read_child : (v : Nodes T) (ix x : ℕ) (e : Entry T) → HasNumber v ix → x ≡ get_or v.children.items (ix - 1) x → node_at v ix ≡ Some e → x ≡ e.child
-  read_child v ix x e has is at = read_link v.children.items (ix - 1) x e.child (child_place v ix has) is (at_place v ix e has at).2
+  -- the nodes over other items and links
+  entries : (v : Nodes T) (xs : List T) (ls : List (Link ℕ)) → v.items.items ≡ xs → links_of v.links ≡ ls → (i : ℕ) → entry_in v.items.items (links_of v.links) i ≡ entry_in xs ls i
+  entries v xs ls e n i = ap (λ k. entry_in k (links_of v.links) i) e ∙ ap (λ k. entry_in xs k i) n
 
   -- a node pushed
-  pub push_grows : (v w : Nodes T) (ix : ℕ) (x : T) → w.items.items ≡ v.items.items ++ x ∷ [] → w.nexts.items ≡ v.nexts.items ++ 0 ∷ [] → w.children.items ≡ v.children.items ++ 0 ∷ [] → ix ≡ length w.items.items → IsGrown v w ix x
+  pub push_grows : (v w : Nodes T) (ix : ℕ) (x : T) → w.items.items ≡ v.items.items ++ x ∷ [] → links_of w.links ≡ links_of v.links ++ no_links ∷ [] → ix ≡ length w.items.items → IsGrown v w ix x
   unfolding node_at node_count
-  push_grows v w ix x e n c at = record {
+  push_grows v w ix x e n at = record {
     place = at ∙ len;
-    written = subst (λ i. entry_in w.items.items w.nexts.items w.children.items i ≡ Some (record { item = x; child = 0; next = 0 })) (sym (at ∙ len))
-        (same (length v.items.items) ∙ ap (λ o. entry_of o (slice_get (v.nexts.items ++ 0 ∷ []) (length v.items.items)) (slice_get (v.children.items ++ 0 ∷ []) (length v.items.items))) (slice_get-end v.items.items x)
-        ∙ ap (λ o. entry_of (Some x) o (slice_get (v.children.items ++ 0 ∷ []) (length v.items.items))) (last_link v.nexts.items v.even.0)
-        ∙ ap (λ o. entry_of (Some x) (Some 0) o) (last_link v.children.items v.even.1.0));
+    written = subst (λ i. entry_in w.items.items (links_of w.links) i ≡ Some (record { item = x; child = 0; next = 0 })) (sym (at ∙ len))
+        (entries w _ _ e n (suc (length v.items.items)) ∙ ap (λ o. entry_of o (slice_get (links_of v.links ++ no_links ∷ []) (length v.items.items))) (slice_get-end v.items.items x)
+        ∙ ap (λ o. entry_of (Some x) o) (last_link (links_of v.links) v.even.0));
     others = λ i ne. others i (λ q. ne (q ∙ sym (at ∙ len)));
     count = len;
   }
@@ -161,30 +160,23 @@ module _ {T : Type 0} where
       len : length w.items.items ≡ suc (length v.items.items)
       len = ap length e ∙ (let l = length-append v.items.items (x ∷ []) in omega (arith, l))
 
-      same : (i : ℕ) → entry_of (slice_get w.items.items i) (slice_get w.nexts.items i) (slice_get w.children.items i) ≡ entry_of (slice_get (v.items.items ++ x ∷ []) i) (slice_get (v.nexts.items ++ 0 ∷ []) i) (slice_get (v.children.items ++ 0 ∷ []) i)
-      same i =
-          ap (λ l. entry_of (slice_get l i) (slice_get w.nexts.items i) (slice_get w.children.items i)) e
-          ∙ ap (λ l. entry_of (slice_get (v.items.items ++ x ∷ []) i) (slice_get l i) (slice_get w.children.items i)) n
-          ∙ ap (λ l. entry_of (slice_get (v.items.items ++ x ∷ []) i) (slice_get (v.nexts.items ++ 0 ∷ []) i) (slice_get l i)) c
+      last_link : (ls : List (Link ℕ)) → length ls ≡ length v.items.items → slice_get (ls ++ no_links ∷ []) (length v.items.items) ≡ Some no_links
+      last_link ls l = subst (λ k. slice_get (ls ++ no_links ∷ []) k ≡ Some no_links) l (slice_get-end ls no_links)
 
-      last_link : (xs : List ℕ) → length xs ≡ length v.items.items → slice_get (xs ++ 0 ∷ []) (length v.items.items) ≡ Some 0
-      last_link xs l = subst (λ k. slice_get (xs ++ 0 ∷ []) k ≡ Some 0) l (slice_get-end xs 0)
-
-      others : (i : ℕ) → i ≢ suc (length v.items.items) → entry_in w.items.items w.nexts.items w.children.items i ≡ entry_in v.items.items v.nexts.items v.children.items i
+      others : (i : ℕ) → i ≢ suc (length v.items.items) → entry_in w.items.items (links_of w.links) i ≡ entry_in v.items.items (links_of v.links) i
       others zero h = refl
       others (suc i) h =
           let ne : i ≢ length v.items.items = (λ q. h (ap suc q)) in
-          same i ∙ ap (λ o. entry_of o (slice_get (v.nexts.items ++ 0 ∷ []) i) (slice_get (v.children.items ++ 0 ∷ []) i)) (slice_get-pushed v.items.items x i ne)
-          ∙ ap (λ o. entry_of (slice_get v.items.items i) o (slice_get (v.children.items ++ 0 ∷ []) i)) (slice_get-pushed v.nexts.items 0 i (λ q. ne (q ∙ v.even.0)))
-          ∙ ap (λ o. entry_of (slice_get v.items.items i) (slice_get v.nexts.items i) o) (slice_get-pushed v.children.items 0 i (λ q. ne (q ∙ v.even.1.0)))
+          entries w _ _ e n (suc i) ∙ ap (λ o. entry_of o (slice_get (links_of v.links ++ no_links ∷ []) i)) (slice_get-pushed v.items.items x i ne)
+          ∙ ap (λ o. entry_of (slice_get v.items.items i) o) (slice_get-pushed (links_of v.links) no_links i (λ q. ne (q ∙ v.even.0)))
 
-  -- an item, a next link or a child link is written at a node
+  -- an item is written at a node
   pub item_changes : (v : Nodes T) (ix : ℕ) (x : T) → HasNumber v ix → IsChanged v (with_stored_item v ix x) ix (with_other_item x)
   unfolding node_at node_count
   item_changes v zero x has = absurd (omega (arith, has.0))
   item_changes v (suc j) x has = record {
-    written = λ o was. ap (λ m. entry_of m (slice_get v.nexts.items j) (slice_get v.children.items j)) (ap (λ k. slice_get (slice_set v.items.items k x) j) at ∙ slice_get-set_same v.items.items j x (omega (arith, has.1)))
-        ∙ changed (slice_get v.items.items j) (slice_get v.nexts.items j) (slice_get v.children.items j) o was;
+    written = λ o was. ap (λ m. entry_of m (slice_get (links_of v.links) j)) (ap (λ k. slice_get (slice_set v.items.items k x) j) at ∙ slice_get-set_same v.items.items j x (omega (arith, has.1)))
+        ∙ changed (slice_get v.items.items j) (slice_get (links_of v.links) j) o was;
     others = others;
     count = length-set v.items.items (suc j - 1) x;
   }
@@ -192,76 +184,69 @@ module _ {T : Type 0} where
       at : suc j - 1 ≡ j
       at = omega arith
 
-      changed : (m : Option T) (n c : Option ℕ) (o : Entry T) → entry_of m n c ≡ Some o → entry_of (Some x) n c ≡ Some (with_other_item x o)
-      changed None n c o was = absurd (let q : None ≡ Some o = was in cc)
-      changed (Some y) n c o was = ap (λ e. Some (with_other_item x e)) (same_Some (record { item = y; child = link_at c; next = link_at n }) o was)
+      changed : (m : Option T) (n : Option (Link ℕ)) (o : Entry T) → entry_of m n ≡ Some o → entry_of (Some x) n ≡ Some (with_other_item x o)
+      changed None n o was = absurd (let q : None ≡ Some o = was in cc)
+      changed (Some y) None o was = absurd (let q : None ≡ Some o = was in cc)
+      changed (Some y) (Some l) o was = ap (λ e. Some (with_other_item x e)) (same_Some (record { item = y; child = l.child; next = l.next }) o was)
 
-      others : (i : ℕ) → i ≢ suc j → entry_in (slice_set v.items.items (suc j - 1) x) v.nexts.items v.children.items i ≡ entry_in v.items.items v.nexts.items v.children.items i
+      others : (i : ℕ) → i ≢ suc j → entry_in (slice_set v.items.items (suc j - 1) x) (links_of v.links) i ≡ entry_in v.items.items (links_of v.links) i
       others zero h = refl
       others (suc i) h =
-          ap (λ m. entry_of m (slice_get v.nexts.items i) (slice_get v.children.items i))
+          ap (λ m. entry_of m (slice_get (links_of v.links) i))
           (ap (λ k. slice_get (slice_set v.items.items k x) i) at ∙ slice_get-set_other v.items.items j i x (λ q. h (ap suc (sym q))))
 
-  pub next_changes : (v w : Nodes T) (ix to : ℕ) → HasNumber v ix → w.items.items ≡ v.items.items → w.nexts.items ≡ slice_set v.nexts.items (ix - 1) to → w.children.items ≡ v.children.items → IsChanged v w ix (with_next to)
+  -- A link is written at a node: `f` is the change of its links, and `change` that of its entry.
+  links_change : (v w : Nodes T) (ix : ℕ) (f : Link ℕ → Link ℕ) (change : Entry T → Entry T)
+      → ((x : T) (l : Link ℕ) → record { item = x; child = (f l).child; next = (f l).next } ≡ change (record { item = x; child = l.child; next = l.next }))
+      → HasNumber v ix → w.items.items ≡ v.items.items → ((l : Link ℕ) → slice_get (links_of v.links) (ix - 1) ≡ Some l → links_of w.links ≡ slice_set (links_of v.links) (ix - 1) (f l)) → IsChanged v w ix change
   unfolding node_at node_count
-  next_changes v w zero to has e n c = absurd (omega (arith, has.0))
-  next_changes v w (suc j) to has e n c = record {
-    written = λ o was. same j ∙ ap (λ m. entry_of (slice_get v.items.items j) m (slice_get v.children.items j)) (slice_get-set_same v.nexts.items j to (omega (arith, has.1, v.even.0)))
-        ∙ changed (slice_get v.items.items j) (slice_get v.nexts.items j) (slice_get v.children.items j) o was;
+  links_change v w zero f change fits has e n = absurd (omega (arith, has.0))
+  links_change v w (suc j) f change fits has e n = record {
+    written = λ o was. entries w _ _ e set (suc j) ∙ ap (λ m. entry_of (slice_get v.items.items j) m) (slice_get-set_same (links_of v.links) j (f was_there.0) in_j)
+        ∙ changed (slice_get v.items.items j) o (ap (λ m. entry_of (slice_get v.items.items j) m) (sym was_there.1) ∙ was);
     others = others;
     count = ap length e;
   }
     where
-      same : (i : ℕ) → entry_of (slice_get w.items.items i) (slice_get w.nexts.items i) (slice_get w.children.items i) ≡ entry_of (slice_get v.items.items i) (slice_get (slice_set v.nexts.items j to) i) (slice_get v.children.items i)
-      same i =
-          ap (λ l. entry_of (slice_get l i) (slice_get w.nexts.items i) (slice_get w.children.items i)) e
-          ∙ ap (λ l. entry_of (slice_get v.items.items i) (slice_get l i) (slice_get w.children.items i)) (n ∙ ap (λ k. slice_set v.nexts.items k to) (let q : suc j - 1 ≡ j = omega arith in q))
-          ∙ ap (λ l. entry_of (slice_get v.items.items i) (slice_get (slice_set v.nexts.items j to) i) (slice_get l i)) c
+      at : suc j - 1 ≡ j
+      at = omega arith
 
-      changed : (m : Option T) (n c : Option ℕ) (o : Entry T) → entry_of m n c ≡ Some o → entry_of m (Some to) c ≡ Some (with_next to o)
-      changed None n c o was = absurd (let q : None ≡ Some o = was in cc)
-      changed (Some y) n c o was = ap (λ e. Some (with_next to e)) (same_Some (record { item = y; child = link_at c; next = link_at n }) o was)
+      in_j : j < length (links_of v.links)
+      in_j = omega (arith, has.1, v.even.0)
 
-      others : (i : ℕ) → i ≢ suc j → entry_in w.items.items w.nexts.items w.children.items i ≡ entry_in v.items.items v.nexts.items v.children.items i
+      was_there : (l : Link ℕ) × (slice_get (links_of v.links) j ≡ Some l)
+      was_there = get_there (links_of v.links) j in_j
+
+      set : links_of w.links ≡ slice_set (links_of v.links) j (f was_there.0)
+      set = n was_there.0 (ap (slice_get (links_of v.links)) at ∙ was_there.1) ∙ ap (λ k. slice_set (links_of v.links) k (f was_there.0)) at
+
+      changed : (m : Option T) (o : Entry T) → entry_of m (Some was_there.0) ≡ Some o → entry_of m (Some (f was_there.0)) ≡ Some (change o)
+      changed None o was = absurd (let q : None ≡ Some o = was in cc)
+      changed (Some y) o was =
+          ap Some (fits y was_there.0) ∙ ap (λ e. Some (change e)) (same_Some (record { item = y; child = was_there.0.child; next = was_there.0.next }) o was)
+
+      others : (i : ℕ) → i ≢ suc j → entry_in w.items.items (links_of w.links) i ≡ entry_in v.items.items (links_of v.links) i
       others zero h = refl
-      others (suc i) h = same i ∙ ap (λ m. entry_of (slice_get v.items.items i) m (slice_get v.children.items i)) (slice_get-set_other v.nexts.items j i to (λ q. h (ap suc (sym q))))
+      others (suc i) h = entries w _ _ e set (suc i) ∙ ap (λ m. entry_of (slice_get v.items.items i) m) (slice_get-set_other (links_of v.links) j i (f was_there.0) (λ q. h (ap suc (sym q))))
 
-  pub child_changes : (v w : Nodes T) (ix to : ℕ) → HasNumber v ix → w.items.items ≡ v.items.items → w.nexts.items ≡ v.nexts.items → w.children.items ≡ slice_set v.children.items (ix - 1) to → IsChanged v w ix (with_child to)
-  unfolding node_at node_count
-  child_changes v w zero to has e n c = absurd (omega (arith, has.0))
-  child_changes v w (suc j) to has e n c = record {
-    written = λ o was. same j ∙ ap (λ m. entry_of (slice_get v.items.items j) (slice_get v.nexts.items j) m) (slice_get-set_same v.children.items j to (omega (arith, has.1, v.even.1.0)))
-        ∙ changed (slice_get v.items.items j) (slice_get v.nexts.items j) (slice_get v.children.items j) o was;
-    others = others;
-    count = ap length e;
-  }
-    where
-      same : (i : ℕ) → entry_of (slice_get w.items.items i) (slice_get w.nexts.items i) (slice_get w.children.items i) ≡ entry_of (slice_get v.items.items i) (slice_get v.nexts.items i) (slice_get (slice_set v.children.items j to) i)
-      same i =
-          ap (λ l. entry_of (slice_get l i) (slice_get w.nexts.items i) (slice_get w.children.items i)) e
-          ∙ ap (λ l. entry_of (slice_get v.items.items i) (slice_get l i) (slice_get w.children.items i)) n
-          ∙ ap (λ l. entry_of (slice_get v.items.items i) (slice_get v.nexts.items i) (slice_get l i)) (c ∙ ap (λ k. slice_set v.children.items k to) (let q : suc j - 1 ≡ j = omega arith in q))
+  pub next_changes : (v w : Nodes T) (ix to : ℕ) → HasNumber v ix → w.items.items ≡ v.items.items
+      → ((l : Link ℕ) → slice_get (links_of v.links) (ix - 1) ≡ Some l → links_of w.links ≡ slice_set (links_of v.links) (ix - 1) (linked_next to l)) → IsChanged v w ix (with_next to)
+  next_changes v w ix to = links_change v w ix (linked_next to) (with_next to) (λ x l. refl)
 
-      changed : (m : Option T) (n c : Option ℕ) (o : Entry T) → entry_of m n c ≡ Some o → entry_of m n (Some to) ≡ Some (with_child to o)
-      changed None n c o was = absurd (let q : None ≡ Some o = was in cc)
-      changed (Some y) n c o was = ap (λ e. Some (with_child to e)) (same_Some (record { item = y; child = link_at c; next = link_at n }) o was)
-
-      others : (i : ℕ) → i ≢ suc j → entry_in w.items.items w.nexts.items w.children.items i ≡ entry_in v.items.items v.nexts.items v.children.items i
-      others zero h = refl
-      others (suc i) h = same i ∙ ap (λ m. entry_of (slice_get v.items.items i) (slice_get v.nexts.items i) m) (slice_get-set_other v.children.items j i to (λ q. h (ap suc (sym q))))
+  pub child_changes : (v w : Nodes T) (ix to : ℕ) → HasNumber v ix → w.items.items ≡ v.items.items
+      → ((l : Link ℕ) → slice_get (links_of v.links) (ix - 1) ≡ Some l → links_of w.links ≡ slice_set (links_of v.links) (ix - 1) (linked_child to l)) → IsChanged v w ix (with_child to)
+  child_changes v w ix to = links_change v w ix (linked_child to) (with_child to) (λ x l. refl)
 
   -- a node that is exchanged with a new one
-  pub swap_moves : (v u w : Nodes T) (ix n : ℕ) (x : T) → HasNumber v ix → IsGrown v u n x → w.items.items ≡ swap u.items.items (ix - 1) (n - 1) → w.nexts.items ≡ swap u.nexts.items (ix - 1) (n - 1)
-      → w.children.items ≡ swap u.children.items (ix - 1) (n - 1) → IsMoved v w ix n x
+  pub swap_moves : (v u w : Nodes T) (ix n : ℕ) (x : T) → HasNumber v ix → IsGrown v u n x → w.items.items ≡ swap u.items.items (ix - 1) (n - 1) → links_of w.links ≡ swap (links_of u.links) (ix - 1) (n - 1) → IsMoved v w ix n x
   unfolding node_at node_count
-  swap_moves v u w zero n x has g e en ec = absurd (omega (arith, has.0))
-  swap_moves v u w (suc a) zero x has g e en ec = absurd (omega (arith, g.place))
-  swap_moves v u w (suc a) (suc b) x has g e en ec = record {
+  swap_moves v u w zero n x has g e en = absurd (omega (arith, has.0))
+  swap_moves v u w (suc a) zero x has g e en = absurd (omega (arith, g.place))
+  swap_moves v u w (suc a) (suc b) x has g e en = record {
     place = g.place;
-    moved = same b ∙ three (swap_second u.items.items a b in_a in_b) (swap_second u.nexts.items a b (omega (arith, in_a, u.even.0)) (omega (arith, in_b, u.even.0))) (swap_second u.children.items a b (omega (arith, in_a, u.even.1.0)) (omega (arith, in_b, u.even.1.0)))
+    moved = entries w _ _ e' en' (suc b) ∙ both (swap_second u.items.items a b in_a in_b) (swap_second (links_of u.links) a b link_a link_b)
         ∙ g.others (suc a) (λ q. other (let r : a ≡ b = omega (arith, q) in r));
-    left = same a ∙ three (swap_first u.items.items a b other in_a in_b) (swap_first u.nexts.items a b other (omega (arith, in_a, u.even.0)) (omega (arith, in_b, u.even.0))) (swap_first u.children.items a b other (omega (arith, in_a, u.even.1.0)) (omega (arith, in_b, u.even.1.0)))
-        ∙ g.written;
+    left = entries w _ _ e' en' (suc a) ∙ both (swap_first u.items.items a b other in_a in_b) (swap_first (links_of u.links) a b other link_a link_b) ∙ g.written;
     others = λ i not_a not_b. others i not_a not_b ∙ g.others i not_b;
     count = ap length e' ∙ swap_length u.items.items a b in_a in_b ∙ g.count;
   }
@@ -272,6 +257,12 @@ module _ {T : Type 0} where
       in_b : b < length u.items.items
       in_b = omega (arith, g.place, g.count)
 
+      link_a : a < length (links_of u.links)
+      link_a = omega (arith, in_a, u.even.0)
+
+      link_b : b < length (links_of u.links)
+      link_b = omega (arith, in_b, u.even.0)
+
       other : a ≢ b
       other q = omega (arith, q, has.1, g.place)
 
@@ -281,25 +272,24 @@ module _ {T : Type 0} where
       e' : w.items.items ≡ swap u.items.items a b
       e' = e ∙ at_swap u.items.items
 
-      three : {m m' : Option T} {n n' c c' : Option ℕ} → m ≡ m' → n ≡ n' → c ≡ c' → entry_of m n c ≡ entry_of m' n' c'
-      three {m} {m'} {n} {n'} {c} {c'} p q r = ap (λ k. entry_of k n c) p ∙ ap (λ k. entry_of m' k c) q ∙ ap (λ k. entry_of m' n' k) r
+      en' : links_of w.links ≡ swap (links_of u.links) a b
+      en' = en ∙ at_swap (links_of u.links)
 
-      same : (i : ℕ) → entry_of (slice_get w.items.items i) (slice_get w.nexts.items i) (slice_get w.children.items i) ≡ entry_of (slice_get (swap u.items.items a b) i) (slice_get (swap u.nexts.items a b) i) (slice_get (swap u.children.items a b) i)
-      same i = three (ap (λ l. slice_get l i) e') (ap (λ l. slice_get l i) (en ∙ at_swap u.nexts.items)) (ap (λ l. slice_get l i) (ec ∙ at_swap u.children.items))
+      both : {m m' : Option T} {n n' : Option (Link ℕ)} → m ≡ m' → n ≡ n' → entry_of m n ≡ entry_of m' n'
+      both {m} {m'} {n} {n'} p q = ap (λ k. entry_of k n) p ∙ ap (λ k. entry_of m' k) q
 
-      others : (i : ℕ) → i ≢ suc a → i ≢ suc b → entry_in w.items.items w.nexts.items w.children.items i ≡ entry_in u.items.items u.nexts.items u.children.items i
+      others : (i : ℕ) → i ≢ suc a → i ≢ suc b → entry_in w.items.items (links_of w.links) i ≡ entry_in u.items.items (links_of u.links) i
       others zero not_a not_b = refl
       others (suc i) not_a not_b =
           let na : i ≢ a = (λ q. not_a (ap suc q)) in
           let nb : i ≢ b = (λ q. not_b (ap suc q)) in
-          same i ∙ three (swap_others u.items.items a b i na nb in_a in_b) (swap_others u.nexts.items a b i na nb (omega (arith, in_a, u.even.0)) (omega (arith, in_b, u.even.0)))
-          (swap_others u.children.items a b i na nb (omega (arith, in_a, u.even.1.0)) (omega (arith, in_b, u.even.1.0)))
+          entries w _ _ e' en' (suc i) ∙ both (swap_others u.items.items a b i na nb in_a in_b) (swap_others (links_of u.links) a b i na nb link_a link_b)
 
   -- a failed growth
-  pub same_nodes : (v w : Nodes T) → w.items.items ≡ v.items.items → w.nexts.items ≡ v.nexts.items → w.children.items ≡ v.children.items → SameNodes v w
+  pub same_nodes : (v w : Nodes T) → w.items.items ≡ v.items.items → links_of w.links ≡ links_of v.links → SameNodes v w
   unfolding node_at node_count
-  same_nodes v w e n c = record {
-    nodes = ap (λ l. entry_in l w.nexts.items w.children.items) e ∙ ap (λ l. entry_in v.items.items l w.children.items) n ∙ ap (entry_in v.items.items v.nexts.items) c;
+  same_nodes v w e n = record {
+    nodes = ap (λ l. entry_in l (links_of w.links)) e ∙ ap (entry_in v.items.items) n;
     count = ap length e;
   }
 
@@ -324,8 +314,12 @@ module _ {T : Type 0} where
   pub entry_there : (v : Nodes T) (ix : ℕ) → HasNumber v ix → (e : Entry T) × (node_at v ix ≡ Some e)
   unfolding node_at node_count
   entry_there v zero has = absurd (omega (arith, has.0))
-  entry_there v (suc j) has = go (slice_get v.items.items j) refl
-    where
-      go : (o : Option T) → slice_get v.items.items j ≡ o → (e : Entry T) × (entry_of (slice_get v.items.items j) (slice_get v.nexts.items j) (slice_get v.children.items j) ≡ Some e)
-      go (Some x) is = (record { item = x; child = link_at (slice_get v.children.items j); next = link_at (slice_get v.nexts.items j) }, ap (λ o. entry_of o (slice_get v.nexts.items j) (slice_get v.children.items j)) is)
-      go None is = absurd (let q = none_past v.items.items j is in omega (arith, q, has.1))
+  entry_there v (suc j) has =
+      let x = get_there v.items.items j (omega (arith, has.1)) in
+      let l = get_there (links_of v.links) j (omega (arith, has.1, v.even.0)) in
+      (record { item = x.0; child = l.0.child; next = l.0.next }, ap (λ o. entry_of o (slice_get (links_of v.links) j)) x.1 ∙ ap (λ o. entry_of (Some x.0) o) l.1)
+
+  -- the numbers of nodes are within the room for links
+  pub number_has_room : (v : Nodes T) (to : ℕ) → to ≤ node_count v → to ≤ links_room v.links
+  unfolding node_count
+  number_has_room v to le = omega (arith, le, v.even.1.0, v.even.1.1.1)

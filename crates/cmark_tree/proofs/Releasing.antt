@@ -142,8 +142,8 @@ module _ {T : Type 0} where
   last_in (Node q i Nil) k e lt = omega (arith, hit-same q.ix k e)
   last_in (Node q i (Node r j a)) k e lt = omega (arith, last_in (Node r j a) k e lt)
 
-  pub cut_behind : (old mid : Nodes T) (start before : ℕ) (done : Forest (Placed T)) (p : Placed T) (inside : Forest (Placed T)) (levels : List (Level T)) → IsForest (node_at old) start (plug levels (join done (one p inside))) → last_place done ≡ before → 0 < before → IsChanged old mid before (with_next 0) → (i : ℕ) → In i (one p inside) → node_at mid i ≡ node_at old i
-  cut_behind old mid start before done p inside levels h is some c i lt = c.others i (λ e. (
+  pub cut_after : (old mid : Nodes T) (start before : ℕ) (done : Forest (Placed T)) (p : Placed T) (inside : Forest (Placed T)) (levels : List (Level T)) → IsForest (node_at old) start (plug levels (join done (one p inside))) → last_place done ≡ before → 0 < before → IsChanged old mid before (with_next 0) → (i : ℕ) → In i (one p inside) → node_at mid i ≡ node_at old i
+  cut_after old mid start before done p inside levels h is some c i lt = c.others i (λ e. (
       let lt' : In before (one p inside) = subst (λ k. In k (one p inside)) e lt in
       let o = h.once before in
       omega (arith, lt', o, times-plug before levels (join done (one p inside)), times-join before done (one p inside), last_in done before is some)))
@@ -183,7 +183,7 @@ module _ {T : Type 0} where
             let lt : 0 < before = omega (arith, e) in
             let ne : (before ≡ 0 → ⊥) = (λ z. omega (arith, z, lt)) in (
               end_after t.nodes mid t.first before l.left (one l.place l.below) (o ∷ levels) h ne last (some ne),
-              cut_behind t.nodes mid t.first before l.left l.place l.below (o ∷ levels) h last lt (some ne),
+              cut_after t.nodes mid t.first before l.left l.place l.below (o ∷ levels) h last lt (some ne),
             )
 
         go : (levels : List (Level T)) → Holds t (record { left = l.left; right = one l.place l.below; up = levels }) → IsAtEnd levels → opened levels ≡ v ∷ up → Some parent ≡ parent_of levels → Is now (join (closed v here) (one x inside)) up

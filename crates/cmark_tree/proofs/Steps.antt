@@ -1,10 +1,10 @@
 -- One call of a tree is one step of its forest with its path.
-use Rattle.std.proofs.Common.{◌≡◌, inl, inr, ℕ, zero, suc, ◌+◌, ◌<◌, List, [], ◌∷◌, ◌++◌, length, Option, Some, None, refl, sym, ap, ◌∙◌, subst, arith, length-append}
+use Rattle.std.proofs.Common.{◌≡◌, inl, inr, ℕ, zero, suc, ◌+◌, ◌<◌, ◌≤◌, List, [], ◌∷◌, ◌++◌, length, Option, Some, None, refl, sym, ap, ◌∙◌, subst, arith, length-append}
 use Rattle.cmark_tree.specs.declared.nodes.Nodes.{Nodes}
 use Rattle.cmark_tree.specs.declared.tree_index.TreeIndex.{TreeIndex}
 use Rattle.cmark_tree.specs.Forest.{Forest, Nil, Node, join, one}
 use Rattle.cmark_tree.specs.Arena.{Entry, Placed, first, Stands, hit, pick, times, In, IsOnce, IsForest}
-use Rattle.cmark_tree.specs.Nodes.{node_at, HasNumber, IsGrown, IsChanged, with_next, with_child}
+use Rattle.cmark_tree.specs.Nodes.{node_at, node_count, HasNumber, IsGrown, IsChanged, with_next, with_child}
 use Rattle.cmark_tree.specs.Zip.{Level, Zip, plug, whole, siblings, IsLast, IsFocus, push_to, Sibling, past, next_relinked, child_relinked}
 use Rattle.cmark_tree.specs.Tree.{spine_of, parent_of, focus_of, index_at}
 use Rattle.cmark_tree.proofs.Times.{hit-le, hit-same, hit-other, times-join, outside, times-plug, join_assoc}
@@ -164,6 +164,10 @@ module _ {T : Type 0} where
   pub first_number : (nodes : Nodes T) (f : Forest (Placed T)) → Stands (node_at nodes) f → 0 < first f → HasNumber nodes (first f)
   first_number nodes Nil h lt = absurd (omega (arith, lt))
   first_number nodes (Node p inside after) h lt = node_at-within nodes p.ix (record { item = p.item; child = first inside; next = first after }) h.0
+
+  pub first_within : (nodes : Nodes T) (f : Forest (Placed T)) → Stands (node_at nodes) f → first f ≤ node_count nodes
+  first_within nodes Nil h = omega arith
+  first_within nodes (Node p inside after) h = (node_at-within nodes p.ix (record { item = p.item; child = first inside; next = first after }) h.0).1
 
   pub focus_above : (nodes : Nodes T) (f : Forest (Placed T)) → Stands (node_at nodes) f → IsFocus f → 0 < first f
   focus_above nodes Nil h focus = absurd focus

@@ -1,6 +1,6 @@
 -- The final value of a tree after a `&mut` to the item of a node is returned.
-use Rattle.std.specs.Prelude.{ℕ, ◌-◌}
-use Rattle.std.proofs.Common.{sym, ◌∙◌, length-set}
+use Rattle.std.specs.Prelude.{ℕ, ◌-◌, ◌≤◌}
+use Rattle.std.proofs.Common.{sym, ◌∙◌, subst, length-set}
 use Rattle.std.specs.Vec.{with_item}
 use Rattle.std.specs.Borrow.{Lends, Fml, MutBor, RattleType}
 use Rattle.cmark_tree.specs.declared.nodes.Nodes.{Nodes}
@@ -12,7 +12,7 @@ module _ {T : Type 0} where
   abbrev pub with_stored_item : Nodes T → ℕ → T → Nodes T
   with_stored_item nodes ix w =
       let same = length-set nodes.items.items (ix - 1) w in
-      record nodes { items = with_item nodes.items (ix - 1) w; even = (nodes.even.0 ∙ sym same, (nodes.even.1.0 ∙ sym same, nodes.even.1.1)) }
+      record nodes { items = with_item nodes.items (ix - 1) w; even = (nodes.even.0 ∙ sym same, (subst (λ n. n ≤ nodes.room) (sym same) nodes.even.1.0, nodes.even.1.1)) }
 
   -- the tree with another item at this node
   abbrev pub with_item_at : Tree T → ℕ → T → Tree T

@@ -3,6 +3,7 @@ pub mod Building
 pub mod Cut
 pub mod Forest
 pub mod Lending
+pub mod Links
 pub mod Nodes
 pub mod Order
 pub mod Reading

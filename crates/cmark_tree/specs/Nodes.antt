@@ -1,25 +1,23 @@
--- The nodes of a tree by their numbers, from 1 on. No other file of specs/ knows how they are stored.
+-- The nodes of a tree by their numbers, from 1 on. Besides Links, no other file of specs/ knows how they are stored.
 use Rattle.std.specs.Prelude.{◌≡◌, ◌≢◌, ℕ, zero, suc, ◌<◌, ◌≤◌, List, length, slice_get, Option, Some, None}
+use Rattle.cmark_tree.specs.declared.links.Link.{Link}
 use Rattle.cmark_tree.specs.declared.nodes.Nodes.{Nodes}
 use Rattle.cmark_tree.specs.Arena.{Entry}
-
--- a link's number; 0 if there is no link
-abbrev pub link_at : Option ℕ → ℕ
-link_at None = 0
-link_at (Some i) = i
+use Rattle.cmark_tree.specs.Links.{links_of}
 
 module _ {T : Type 0} where
-  abbrev pub entry_of : Option T → (next child : Option ℕ) → Option (Entry T)
-  entry_of None next child = None
-  entry_of (Some x) next child = Some (record { item = x; child = link_at child; next = link_at next })
+  abbrev pub entry_of : Option T → Option (Link ℕ) → Option (Entry T)
+  entry_of None l = None
+  entry_of (Some x) None = None
+  entry_of (Some x) (Some l) = Some (record { item = x; child = l.child; next = l.next })
 
-  abbrev pub entry_in : List T → (nexts children : List ℕ) → ℕ → Option (Entry T)
-  entry_in items nexts children zero = None
-  entry_in items nexts children (suc i) = entry_of (slice_get items i) (slice_get nexts i) (slice_get children i)
+  abbrev pub entry_in : List T → List (Link ℕ) → ℕ → Option (Entry T)
+  entry_in items links zero = None
+  entry_in items links (suc i) = entry_of (slice_get items i) (slice_get links i)
 
   -- the node of this number
   unfoldable pub node_at : Nodes T → ℕ → Option (Entry T)
-  node_at nodes = entry_in nodes.items.items nodes.nexts.items nodes.children.items
+  node_at nodes = entry_in nodes.items.items (links_of nodes.links)
 
   -- the number of nodes
   unfoldable pub node_count : Nodes T → ℕ

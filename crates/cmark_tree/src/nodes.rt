@@ -1,24 +1,23 @@
-// The nodes of a tree by their numbers. Only this file knows how they are stored.
+// The nodes of a tree by their numbers. Only this file and `links.rt` know how they are stored.
 
 ghost use Rattle.std.specs.Prelude.{◌≡◌, ◌≤◌, length, vec_capacity};
+ghost use Rattle.cmark_tree.specs.Links.{links_of, links_room};
 
+use crate::links::Links;
 use std::alloc::{AllocError, Global};
 
 // A full vector makes room for at least this many nodes, so that a short text asks for memory once.
-const NODES_AT_ONCE: usize = 16;
+const NODES_AT_ONCE: usize = 32;
 
-// Node i has its item, the number of its next sibling and that of its first child at place i - 1 of the three vectors. The number 0 is no
-// node.
+// Node i has its item and its links at place i - 1. The number 0 is no node.
 #[derive(Drop)]
 pub struct Nodes<T> {
     items: Vec<T>,
-    nexts: Vec<usize>,
-    children: Vec<usize>,
-    // Each of the three has room for this many, so that one comparison shows whether the next node needs memory.
+    links: Links,
+    // Items and links have room for this many nodes, so that one comparison shows whether the next node needs memory.
     room: usize,
-    ghost even: { (length nexts.items ≡ length items.items)
-        × ((length children.items ≡ length items.items)
-        × ((room ≤ vec_capacity items) × ((room ≤ vec_capacity nexts) × (room ≤ vec_capacity children)))) },
+    ghost even: { (length (links_of links) ≡ length items.items)
+        × ((length items.items ≤ room) × ((room ≤ vec_capacity items) × (room ≤ links_room links))) },
 }
 
 impl<T: Drop> Nodes<T> {
@@ -32,12 +31,10 @@ impl<T: Drop> Nodes<T> {
         ensures { IfOk result (λ nodes. node_count nodes ≡ 0) }
     {
         let items = Vec::with_capacity(alloc, capacity)?;
-        let nexts = Vec::with_capacity(alloc, capacity)?;
-        let children = Vec::with_capacity(alloc, capacity)?;
+        let links = Links::with_capacity(alloc, capacity)?;
         Ok(Nodes {
             items,
-            nexts,
-            children,
+            links,
             room: capacity,
         })
     }
@@ -48,26 +45,20 @@ impl<T: Drop> Nodes<T> {
         self.items.len()
     }
 
-    // Makes room for at least one node. If memory is refused, a vector that grew before keeps its room.
+    // Makes room for at least one node. If memory is refused, the items or the links keep the room that they got before.
     #[inline(never)]
     fn grow(&mut self) -> Result<(), AllocError>
         ensures items { self.new.items.items ≡ self.old.items.items }
-        ensures nexts { self.new.nexts.items ≡ self.old.nexts.items }
-        ensures children { self.new.children.items ≡ self.old.children.items }
+        ensures links { links_of self.new.links ≡ links_of self.old.links }
         ensures ok { OnOk result (length self.new.items.items < self.new.room) }
     {
         self.items.reserve(NODES_AT_ONCE)?;
-        self.nexts.reserve(NODES_AT_ONCE)?;
-        self.children.reserve(NODES_AT_ONCE)?;
-        self.room = self
-            .items
-            .capacity()
-            .min(self.nexts.capacity())
-            .min(self.children.capacity());
+        self.links.reserve(NODES_AT_ONCE)?;
+        self.room = self.items.capacity().min(self.links.room());
         Ok(())
     }
 
-    // Appends a node without links and returns its number. All three vectors have room before any of them changes.
+    // Appends a node without links and returns its number. Its item and its links have room before either is written.
     #[inline]
     pub fn push(&mut self, item: T) -> Result<usize, AllocError>
         ensures ok { IfOk result (λ ix. IsGrown self.old self.new ix item) }
@@ -77,8 +68,7 @@ impl<T: Drop> Nodes<T> {
             self.grow()?;
         }
         self.items.push_reserved(item);
-        self.nexts.push_reserved(0);
-        self.children.push_reserved(0);
+        self.links.push_reserved();
         Ok(self.items.len())
     }
 
@@ -90,8 +80,7 @@ impl<T: Drop> Nodes<T> {
     {
         let new = self.push(item)?;
         self.items.swap(ix - 1, new - 1);
-        self.nexts.swap(ix - 1, new - 1);
-        self.children.swap(ix - 1, new - 1);
+        self.links.swap(ix - 1, new - 1);
         Ok(new)
     }
 
@@ -110,32 +99,37 @@ impl<T: Drop> Nodes<T> {
         &mut self.items[ix - 1]
     }
 
+    #[inline(always)]
     pub fn next(&self, ix: usize) -> usize
         requires { HasNumber self.now ix }
         ensures { (e : Entry T) → node_at self.now ix ≡ Some e → result ≡ e.next }
     {
-        self.nexts[ix - 1]
+        self.links.next(ix - 1)
     }
 
+    #[inline(always)]
     pub fn child(&self, ix: usize) -> usize
         requires { HasNumber self.now ix }
         ensures { (e : Entry T) → node_at self.now ix ≡ Some e → result ≡ e.child }
     {
-        self.children[ix - 1]
+        self.links.child(ix - 1)
     }
 
+    // A link leads to a node that has been made, or to none.
     pub fn set_next(&mut self, ix: usize, to: usize)
-        requires { HasNumber self.old ix }
+        requires number { HasNumber self.old ix }
+        requires to { to ≤ node_count self.old }
         ensures { IsChanged self.old self.new ix (with_next to) }
     {
-        self.nexts[ix - 1] = to;
+        self.links.set_next(ix - 1, to);
     }
 
     pub fn set_child(&mut self, ix: usize, to: usize)
-        requires { HasNumber self.old ix }
+        requires number { HasNumber self.old ix }
+        requires to { to ≤ node_count self.old }
         ensures { IsChanged self.old self.new ix (with_child to) }
     {
-        self.children[ix - 1] = to;
+        self.links.set_child(ix - 1, to);
     }
 
     // The children of a node end with this one; if it is 0, there are none.

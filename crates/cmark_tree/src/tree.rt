@@ -32,7 +32,7 @@ use std::slice::Iter;
 /// tree.add(item)?;         //   item      the focus
 /// tree.close();            // list is the focus again
 /// ```
-// A link is the number of a node, and 0 is no node. So a node with an item of 32 bytes takes 48 bytes with its links.
+// A link is the number of a node, and 0 is no node. With links of 32 bits, a node with an item of 32 bytes takes 40 bytes.
 #[derive(Drop)]
 pub struct Tree<T> {
     pub(crate) nodes: Nodes<T>,

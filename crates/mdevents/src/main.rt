@@ -2,8 +2,8 @@
 #![tactic(auto)]
 
 use mdevents_run::run;
-use mdhtml_parts::Watched;
-use mdhtml_settings::{Program, Stop, finish, start};
+use program_io::Watched;
+use program_settings::{Program, Stop, finish, start};
 use std::process::ExitCode;
 
 fn main(rt: HostRuntime) -> ExitCode {

@@ -1,16 +1,18 @@
-//! From a reader's Markdown to a writer's lines of JSON.
+//! From a text to a line of JSON for each of its events, and from a reader's Markdown to a writer's lines.
 #![tactic(auto)]
 
 ghost use Rattle.std.specs.Prelude.{⊤};
-ghost use Rattle.cmark_text_parts.specs.Shown.{shown_options};
-ghost use Rattle.mdevents_lines.specs.Renders.{AreLinesOf};
-ghost use Rattle.mdhtml_parts.specs.Ends.{watched_end, watched_notes, watched_resets};
-ghost use Rattle.mdhtml_parts.specs.Notes.{Cleared};
-ghost use Rattle.mdhtml_parts.specs.Runs.{Runs};
+ghost use Rattle.cmark_values.specs.Shown.{shown_options};
+ghost use Rattle.mdevents_run.specs.Renders.{AreLinesOf};
+ghost use Rattle.program_io.specs.Ends.{watched_resets};
+ghost use Rattle.program_io.specs.Notes.{Cleared};
+ghost use Rattle.program_io.specs.Runs.{RunsBetween};
 
-use cmark_text_parts::{EntityLookup, Options};
-use mdevents_lines::to_json_lines;
-use mdhtml_parts::{Render, RunFault, Watched};
+mod lines;
+
+use cmark_values::{EntityLookup, Options};
+pub use lines::to_json_lines;
+use program_io::{Render, RunFault, Watched};
 use std::alloc::{AllocError, Global};
 use std::io::{Read, Write};
 
@@ -34,7 +36,7 @@ impl<'a, E: EntityLookup> Render for EventLines<'a, E> {
 /// Reads all Markdown from a reader, writes a line of JSON for each of its events with these options, and flushes. `entities` gives the
 /// texts of entity names.
 ///
-/// After `Write` a beginning of the lines was written, and after any other fault nothing. `mdhtml_parts::run::run` lists the causes of each
+/// After `Write` a beginning of the lines was written, and after any other fault nothing. `program_io::run::run` lists the causes of each
 /// fault.
 pub fn run<R: Read, W: Write, E: EntityLookup>(
     alloc: Global,
@@ -43,12 +45,12 @@ pub fn run<R: Read, W: Write, E: EntityLookup>(
     options: Options,
     entities: &E,
 ) -> Result<(), RunFault>
-    ensures run { Runs (λ text output. AreLinesOf text (shown_options options) (E.replacement entities.now) output) (λ text. ⊤)
-        (R.remaining (watched_end reader.old)) (R.remaining (watched_end reader.new))
-        (W.contents (watched_end writer.old)) (W.contents (watched_end writer.new))
-        (watched_notes reader.new) (watched_notes writer.new) result }
+    ensures run { RunsBetween R.remaining W.contents
+        (λ text output. AreLinesOf text (shown_options options) (E.replacement entities.now) output)
+        (λ text. ⊤)
+        reader.old reader.new writer.old writer.new result }
     ensures fresh_reader { Cleared (watched_resets reader.old) (watched_resets reader.new) }
     ensures fresh_writer { Cleared (watched_resets writer.old) (watched_resets writer.new) }
 {
-    mdhtml_parts::run::run(alloc, reader, writer, &EventLines { options, entities })
+    program_io::run::run(alloc, reader, writer, &EventLines { options, entities })
 }

@@ -1,9 +1,9 @@
 //! Markdown on standard input, HTML on standard output.
 #![tactic(auto)]
 
-use mdhtml_parts::Watched;
 use mdhtml_run::run_filtered;
-use mdhtml_settings::{Program, Stop, finish, start};
+use program_io::Watched;
+use program_settings::{Program, Stop, finish, start};
 use std::process::ExitCode;
 
 fn main(rt: HostRuntime) -> ExitCode {

@@ -1,4 +1,4 @@
--- Two facts of one result.
+-- Two facts about one result.
 use Rattle.std.specs.Prelude.{IfOk, Result, Ok, Err}
 
 pub both_ok : {T E : Type 0} (r : Result T E) (P Q R : T → Type 0) → ((x : T) → P x → Q x → R x) → IfOk r P → IfOk r Q → IfOk r R

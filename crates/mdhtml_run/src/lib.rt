@@ -2,16 +2,16 @@
 #![tactic(auto)]
 
 ghost use Rattle.std.specs.Prelude.{◌≡◌, ⊤, [], false, true};
-ghost use Rattle.cmark_text_parts.specs.Shown.{shown_options};
-ghost use Rattle.mdhtml_parts.specs.Ends.{watched_end, watched_notes, watched_resets};
-ghost use Rattle.mdhtml_parts.specs.Notes.{Cleared};
-ghost use Rattle.mdhtml_parts.specs.Runs.{Runs};
+ghost use Rattle.cmark_values.specs.Shown.{shown_options};
+ghost use Rattle.program_io.specs.Ends.{watched_resets};
+ghost use Rattle.program_io.specs.Notes.{Cleared};
+ghost use Rattle.program_io.specs.Runs.{RunsBetween};
 ghost use Rattle.cmark_grammar.specs.Headline.{IsHtmlOf};
 ghost use Rattle.mdhtml_run.specs.Safe.{IsSafeAnswer};
 
 use cmark_parser::{to_html, to_safe_html};
-use cmark_text_parts::{EntityLookup, Options};
-use mdhtml_parts::{Render, RunFault, Watched};
+use cmark_values::{EntityLookup, Options};
+use program_io::{Render, RunFault, Watched};
 use std::alloc::{AllocError, Global};
 use std::io::{Read, Write};
 
@@ -20,7 +20,7 @@ use std::io::{Read, Write};
 pub struct Html<'a, E> {
     /// The options with which the text is read.
     pub options: Options,
-    /// The texts of entity names.
+    /// Maps entity names to their characters.
     pub entities: &'a E,
 }
 
@@ -32,14 +32,14 @@ impl<'a, E: EntityLookup> Render for Html<'a, E> {
     }
 }
 
-/// Renders a stranger's text as safe HTML: nothing in it runs.
+/// Renders a stranger's text as safe HTML, in which no script runs.
 #[derive(Drop)]
 pub struct SafeHtml<'a, E> {
     /// The options with which the text is read.
     pub options: Options,
-    /// The texts of entity names.
+    /// Maps entity names to their characters.
     pub entities: &'a E,
-    /// The names of further schemes that addresses may have, separated by white space.
+    /// Further schemes that addresses may have, separated by white space.
     pub further: &'a str,
 }
 
@@ -51,10 +51,11 @@ impl<'a, E: EntityLookup> Render for SafeHtml<'a, E> {
     }
 }
 
-/// Reads all of a reader's Markdown, writes its HTML with these options and flushes. `entities` has the texts of entity names.
+/// Reads all of a reader's Markdown, writes its HTML with these options, and flushes the writer. `entities` maps entity names to their
+/// characters.
 ///
-/// `mdhtml_parts::run::run` says when each fault is returned. After `RunFault::Write` a beginning of the HTML was written, and
-/// after any other fault nothing.
+/// `program_io::run::run` says when each fault is returned. After `RunFault::Write` a beginning of the HTML was written, and after any
+/// other fault nothing.
 pub fn run<R: Read, W: Write, E: EntityLookup>(
     alloc: Global,
     reader: &mut Watched<R>,
@@ -62,20 +63,20 @@ pub fn run<R: Read, W: Write, E: EntityLookup>(
     options: Options,
     entities: &E,
 ) -> Result<(), RunFault>
-    ensures run { Runs (λ text output. IsHtmlOf text (shown_options options) (E.replacement entities.now) output) (λ text. ⊤)
-        (R.remaining (watched_end reader.old)) (R.remaining (watched_end reader.new))
-        (W.contents (watched_end writer.old)) (W.contents (watched_end writer.new))
-        (watched_notes reader.new) (watched_notes writer.new) result }
+    ensures run { RunsBetween R.remaining W.contents
+        (λ text output. IsHtmlOf text (shown_options options) (E.replacement entities.now) output)
+        (λ text. ⊤)
+        reader.old reader.new writer.old writer.new result }
     ensures fresh_reader { Cleared (watched_resets reader.old) (watched_resets reader.new) }
     ensures fresh_writer { Cleared (watched_resets writer.old) (watched_resets writer.new) }
 {
-    mdhtml_parts::run::run(alloc, reader, writer, &Html { options, entities })
+    program_io::run::run(alloc, reader, writer, &Html { options, entities })
 }
 
-/// Does what [`run`] does, but writes safe HTML if `safe` is true: nothing in it runs, whoever wrote the Markdown. Its addresses
-/// are relative, or have the scheme `http`, `https` or `mailto`.
+/// Does what [`run`] does, but writes safe HTML if `safe` is true. No script runs in it, whoever wrote the Markdown. An address in it is
+/// relative, has the scheme `http`, `https` or `mailto`, or is empty.
 ///
-/// The faults, and what they leave, are those of [`run`].
+/// The faults and their effects are those of [`run`].
 pub fn run_filtered<R: Read, W: Write, E: EntityLookup>(
     alloc: Global,
     reader: &mut Watched<R>,
@@ -84,14 +85,15 @@ pub fn run_filtered<R: Read, W: Write, E: EntityLookup>(
     entities: &E,
     safe: bool,
 ) -> Result<(), RunFault>
-    ensures plain { safe ≡ false → Runs (λ text output. IsHtmlOf text (shown_options options) (E.replacement entities.now) output) (λ text. ⊤)
-        (R.remaining (watched_end reader.old)) (R.remaining (watched_end reader.new))
-        (W.contents (watched_end writer.old)) (W.contents (watched_end writer.new))
-        (watched_notes reader.new) (watched_notes writer.new) result }
-    ensures safe { safe ≡ true → Runs (λ text output. IsSafeAnswer text (shown_options options) (E.replacement entities.now) [] output) (λ text. ⊤)
-        (R.remaining (watched_end reader.old)) (R.remaining (watched_end reader.new))
-        (W.contents (watched_end writer.old)) (W.contents (watched_end writer.new))
-        (watched_notes reader.new) (watched_notes writer.new) result }
+    ensures plain { safe ≡ false → RunsBetween R.remaining W.contents
+        (λ text output. IsHtmlOf text (shown_options options) (E.replacement entities.now) output)
+        (λ text. ⊤)
+        reader.old reader.new writer.old writer.new result }
+    ensures safe { safe ≡ true → RunsBetween R.remaining W.contents
+        (λ text output.
+        IsSafeAnswer text (shown_options options) (E.replacement entities.now) [] output)
+        (λ text. ⊤)
+        reader.old reader.new writer.old writer.new result }
     ensures fresh_reader { Cleared (watched_resets reader.old) (watched_resets reader.new) }
     ensures fresh_writer { Cleared (watched_resets writer.old) (watched_resets writer.new) }
 {
@@ -109,10 +111,11 @@ fn run_safe<R: Read, W: Write, E: EntityLookup>(
     options: Options,
     entities: &E,
 ) -> Result<(), RunFault>
-    ensures run { Runs (λ text output. IsSafeAnswer text (shown_options options) (E.replacement entities.now) [] output) (λ text. ⊤)
-        (R.remaining (watched_end reader.old)) (R.remaining (watched_end reader.new))
-        (W.contents (watched_end writer.old)) (W.contents (watched_end writer.new))
-        (watched_notes reader.new) (watched_notes writer.new) result }
+    ensures run { RunsBetween R.remaining W.contents
+        (λ text output.
+        IsSafeAnswer text (shown_options options) (E.replacement entities.now) [] output)
+        (λ text. ⊤)
+        reader.old reader.new writer.old writer.new result }
     ensures fresh_reader { Cleared (watched_resets reader.old) (watched_resets reader.new) }
     ensures fresh_writer { Cleared (watched_resets writer.old) (watched_resets writer.new) }
 {
@@ -121,5 +124,5 @@ fn run_safe<R: Read, W: Write, E: EntityLookup>(
         entities,
         further: "",
     };
-    mdhtml_parts::run::run(alloc, reader, writer, &renderer)
+    program_io::run::run(alloc, reader, writer, &renderer)
 }

@@ -26,9 +26,9 @@ use Rattle.cmark_parser.specs.declared.parse.OffsetIter.{OffsetIter}
 use Rattle.cmark_parser.specs.declared.parse.Parser.{Parser}
 use Rattle.cmark_parser.specs.Parsing.{GivesRanged, Reads, callback_of, shown_item, walk_of}
 use Rattle.cmark_parser.proofs.WalkSteps.{drained_ranges}
-use Rattle.cmark_span_walk.specs.Callback.{AnswersIfAny}
+use Rattle.cmark_event_walk.specs.Callback.{AnswersIfAny}
 use Rattle.cmark_text.specs.declared.event.Event.{Event}
-use Rattle.cmark_text_parts.specs.declared.text.CowStr.{CowStr}
+use Rattle.cmark_values.specs.declared.text.CowStr.{CowStr}
 use Rattle.pulldown_cmark_c.specs.Links.{AreAnsweredOf, AreAnsweredRest, IsAnsweredBy, questions_of}
 
 -- a callback stays where there is one

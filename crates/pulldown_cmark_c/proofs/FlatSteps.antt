@@ -18,16 +18,16 @@ use Rattle.cmark_parser.specs.declared.parse.Parser.{Parser}
 use Rattle.cmark_parser.specs.Parsing.{Asks, CanGo, GivesAs, GivesStep, Passes, Reads, Remains, callback_of, walk_of}
 use Rattle.cmark_parser.proofs.ParseSteps.{none-answered}
 use Rattle.cmark_parser.proofs.RenderSteps.{asks-on, passes-on}
-use Rattle.cmark_span_walk.specs.Callback.{AnswersIfAny}
-use Rattle.cmark_span_walk.specs.Walking.{as_next}
-use Rattle.cmark_span_walk.specs.declared.coming.Coming.{Coming}
-use Rattle.cmark_span_walk.specs.declared.coming.Coming.TheVariants as coming
+use Rattle.cmark_event_walk.specs.Callback.{AnswersIfAny}
+use Rattle.cmark_event_walk.specs.Walking.{as_next}
+use Rattle.cmark_event_walk.specs.declared.coming.Coming.{Coming}
+use Rattle.cmark_event_walk.specs.declared.coming.Coming.TheVariants as coming
 use Rattle.cmark_text.specs.Ranged.{shown_ranged}
 use Rattle.cmark_text.specs.declared.ranged.Ranged.{Ranged as Item}
 use Rattle.cmark_text.specs.declared.short.Next.TheVariants as next
 use Rattle.cmark_text.specs.declared.short.Short.{Short}
 use Rattle.cmark_text.specs.Short.{ranged_short}
-use Rattle.cmark_text_parts.specs.declared.text.CowStr.{CowStr}
+use Rattle.cmark_values.specs.declared.text.CowStr.{CowStr}
 use Rattle.pulldown_cmark_c.specs.Flat.{AreFlatOf, AreFlatOfRest, says-nothing}
 
 -- the records of one event more
@@ -82,7 +82,7 @@ module _ {E F : Type 0} (Says : F → BrokenLink → Option (CowStr × CowStr) �
         can = record { goes = gives.next.goes_on; counted = gives.counted };
       }
 
--- behind the last event
+-- after the last event
 pub all_given : {E : Type 0} (replacement : E → Lookup) (first iter new : OffsetIter E DefaultBrokenLinkCallback) (taken : List Exchange) (output : List ℕ) → WritesFlat says-nothing replacement first.parser iter.parser output
     → Asks says-nothing iter.parser taken new.parser → Remains replacement iter.parser taken [] → AreFlatOfRest replacement first new output
 all_given replacement first iter new taken output p asks none = record {

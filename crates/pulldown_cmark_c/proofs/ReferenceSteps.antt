@@ -13,8 +13,8 @@ use Rattle.cmark_grammar.specs.References.{first_with, found_or}
 use Rattle.cmark_references.specs.Definitions.{entry_of, reference_at, shown_entry}
 use Rattle.cmark_references.specs.declared.definitions.LinkDef.{LinkDef}
 use Rattle.cmark_references.specs.declared.definitions.RefDefs.{RefDefs}
-use Rattle.cmark_text_parts.specs.Labelled.{link_key, link_text}
-use Rattle.cmark_text_parts.specs.declared.label.LinkLabel.{LinkLabel}
+use Rattle.cmark_values.specs.Labelled.{link_key, link_text}
+use Rattle.cmark_values.specs.declared.label.LinkLabel.{LinkLabel}
 
 -- the first reference of a folded label has it
 found_has : (folded : List ℕ) (refs : List Reference) (r : Reference) → first_with fold folded refs ≡ Some r → bytes_eq (fold r.label) folded ≡ true

@@ -1,7 +1,7 @@
 -- The outputs of the calls for flat records.
 use Rattle.std.specs.Prelude.{◌≡◌, ◌≤◌, ◌≢◌, ℕ, false, List, [], Option, Some, None}
 use Rattle.cmark_flat.specs.Flat.{flat}
-use Rattle.cmark_flat.specs.Render.{rendered}
+use Rattle.cmark_flat.specs.Render.{rendered, safely_rendered}
 use Rattle.cmark_grammar.specs.Answers.{Lookup}
 use Rattle.cmark_grammar.specs.Event.{Ranged}
 use Rattle.cmark_grammar.specs.Headline.{profile}
@@ -12,8 +12,9 @@ use Rattle.cmark_inline.specs.declared.callback.BrokenLink.{BrokenLink}
 use Rattle.cmark_inline.specs.declared.callback.DefaultBrokenLinkCallback.{DefaultBrokenLinkCallback}
 use Rattle.cmark_parser.specs.declared.parse.OffsetIter.{OffsetIter}
 use Rattle.cmark_parser.specs.Parsing.{AsksRanged, RemainsRanged}
-use Rattle.cmark_room.specs.Statuses.{IsTooLong, Refused, Wrote}
-use Rattle.cmark_text_parts.specs.declared.text.CowStr.{CowStr}
+use Rattle.cmark_safe.specs.SafeHtml.{IsSafe}
+use Rattle.program_io.specs.Statuses.{IsTooLong, Refused, Wrote}
+use Rattle.cmark_values.specs.declared.text.CowStr.{CowStr}
 
 -- the output is the flat records of the reading of the text, without a callback
 pub record AreFlatOf (text : List ℕ) (options : Options) (lookup : Lookup) (output : List ℕ) : Type 0 where
@@ -40,3 +41,15 @@ pub record RenderAnswers (records old new : List ℕ) (size status : ℕ) : Type
   pub too_long : status ≡ 1 → IsTooLong (λ answer. rendered records ≡ Some answer) old new size
   pub no_memory : status ≡ 3 → Refused old new size
   pub malformed : status ≡ 4 → (rendered records ≡ None) × Refused old new size
+
+-- the output is safe, and is the HTML of the safe forms of the events that the bytes stand for
+abbrev pub IsSafelyRendered : (further records answer : List ℕ) → Type 0
+IsSafelyRendered further records answer = IsSafe further answer × (safely_rendered further records ≡ Some answer)
+
+-- the meaning of the status of a call that renders records as safe HTML with these further schemes
+pub record SafeRenderAnswers (further records old new : List ℕ) (size status : ℕ) : Type 0 where
+  pub is_status : (status ≤ 4) × (status ≢ 2)
+  pub done : status ≡ 0 → Wrote (IsSafelyRendered further records) old new size
+  pub too_long : status ≡ 1 → IsTooLong (IsSafelyRendered further records) old new size
+  pub no_memory : status ≡ 3 → Refused old new size
+  pub malformed : status ≡ 4 → (safely_rendered further records ≡ None) × Refused old new size

@@ -20,7 +20,7 @@ use Rattle.cmark_grammar.specs.References.{first_with, references}
 use Rattle.cmark_grammar.specs.SpanDocuments.{IsReading}
 use Rattle.cmark_parser.specs.declared.parse.OffsetIter.{OffsetIter}
 use Rattle.cmark_parser.specs.Parsing.{GivesRanged, callback_of, shown_item, walk_of}
-use Rattle.cmark_room.specs.Statuses.{IsTooLong, Refused, Wrote}
+use Rattle.program_io.specs.Statuses.{IsTooLong, Refused, Wrote}
 use Rattle.cmark_text.specs.declared.event.Event.{Event}
 
 -- the output is the records of the definitions that the text's document has: of each label the first one, in its spelling (CommonMark 4.7)
@@ -38,8 +38,8 @@ IsAnsweredBy replies exchange = exchange.answer ≡ answer_at exchange.question.
 abbrev pub questions_of : List Exchange → List ℕ
 questions_of exchanges = flat_questions (map (λ exchange. exchange.question) exchanges)
 
--- the output is the records of the events of a reading of the text, then those of its questions: exactly these were put, and each got the
--- answer that the bytes `answers` have for it
+-- the output is the records of the events of a reading of the text, then those of its questions. Exactly these questions were put, and
+-- each got the answer that the bytes `answers` have for it
 pub record AreAnsweredOf (text : List ℕ) (options : Options) (lookup : Lookup) (answers output : List ℕ) : Type 0 where
   pub replies : List Reply
   pub exchanges : List Exchange

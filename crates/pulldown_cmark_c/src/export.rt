@@ -1,24 +1,25 @@
 //! The calls from C.
 
-ghost use Rattle.std.specs.Prelude.{◌≡◌, [], IsUtf8};
-ghost use Rattle.cmark_grammar.specs.Entities.{basic_entity};
+ghost use Rattle.std.specs.Prelude.{◌≡◌, [], IsUtf8, false, true};
 ghost use Rattle.cmark_grammar.specs.Headline.{IsHtmlOf};
-ghost use Rattle.cmark_room.specs.Statuses.{Answers, Refused};
-ghost use Rattle.mdevents_lines.specs.Renders.{AreLinesOf};
+ghost use Rattle.program_io.specs.Statuses.{Answers, Refused};
+ghost use Rattle.mdevents_run.specs.Renders.{AreLinesOf};
 ghost use Rattle.mdhtml_run.specs.Safe.{IsSafeAnswer};
-ghost use Rattle.pulldown_cmark_c.specs.Calls.{options_of, version_number};
+ghost use Rattle.pulldown_cmark_c.specs.Calls.{SaysUnknown, are_known, entities_of, options_of, version_number};
 
+use crate::options::{Entities, are_known, refuse_unknown};
 use bitflags::Flags;
-use cmark_room::{NOT_UTF8, answer};
-use cmark_text_parts::{BasicEntities, Options};
+use cmark_values::Options;
 use mdevents_run::EventLines;
 use mdhtml_run::{Html, SafeHtml};
+use program_io::{NOT_UTF8, answer};
 use std::alloc::Global;
 
 /// Writes the HTML of a text at the beginning of `room`, and its length in bytes into `size`, even if the room is too small.
-/// `options` has the bits of `Options`. The known entity names are the eleven of `BasicEntities`.
+/// `options` has the bits of `Options`, and that of all entity names; without this one, the names are the eleven of `BasicEntities`.
 ///
-/// Returns a status of `cmark_room`. `alloc` is not among the parameters of C.
+/// Returns a status of `program_io`, or 5 if a bit of `options` has no meaning: then `room` is unchanged and `size` is 0. `alloc` is not
+/// among the parameters of C.
 #[unsafe(no_mangle)]
 pub extern "C" fn pcm_html(
     alloc: Global,
@@ -27,11 +28,18 @@ pub extern "C" fn pcm_html(
     room: &mut [u8],
     size: &mut usize,
 ) -> u32
-    ensures { Answers (IsHtmlOf text.now (options_of options) basic_entity) text.now room.old room.new size.new result }
+    ensures known { are_known options ≡ true
+        → Answers (IsHtmlOf text.now (options_of options) (entities_of options))
+        text.now room.old room.new size.new result }
+    ensures unknown { are_known options ≡ false → SaysUnknown room.old room.new size.new result }
 {
+    if !are_known(options) {
+        return refuse_unknown(size);
+    }
+    let entities = Entities { bits: options };
     let html = Html {
         options: Options::from_bits_retain(options),
-        entities: &BasicEntities,
+        entities: &entities,
     };
     answer(alloc, &html, text, room, size)
 }
@@ -45,8 +53,14 @@ pub extern "C" fn pcm_safe_html(
     room: &mut [u8],
     size: &mut usize,
 ) -> u32
-    ensures { Answers (IsSafeAnswer text.now (options_of options) basic_entity []) text.now room.old room.new size.new result }
+    ensures known { are_known options ≡ true
+        → Answers (IsSafeAnswer text.now (options_of options) (entities_of options) [])
+        text.now room.old room.new size.new result }
+    ensures unknown { are_known options ≡ false → SaysUnknown room.old room.new size.new result }
 {
+    if !are_known(options) {
+        return refuse_unknown(size);
+    }
     safe_answer(alloc, text, options, "", room, size)
 }
 
@@ -61,9 +75,16 @@ pub extern "C" fn pcm_safe_html_with(
     room: &mut [u8],
     size: &mut usize,
 ) -> u32
-    ensures listed { IsUtf8 schemes.now → Answers (IsSafeAnswer text.now (options_of options) basic_entity schemes.now) text.now room.old room.new size.new result }
-    ensures not_listed { (IsUtf8 schemes.now → ⊥) → (result ≡ 2) × Refused room.old room.new size.new }
+    ensures listed { are_known options ≡ true → IsUtf8 schemes.now
+        → Answers (IsSafeAnswer text.now (options_of options) (entities_of options) schemes.now)
+        text.now room.old room.new size.new result }
+    ensures not_listed { are_known options ≡ true → (IsUtf8 schemes.now → ⊥)
+        → (result ≡ 2) × Refused room.old room.new size.new }
+    ensures unknown { are_known options ≡ false → SaysUnknown room.old room.new size.new result }
 {
+    if !are_known(options) {
+        return refuse_unknown(size);
+    }
     let Ok(further) = str::from_utf8(schemes) else {
         *size = 0;
         return NOT_UTF8;
@@ -80,13 +101,14 @@ fn safe_answer(
     room: &mut [u8],
     size: &mut usize,
 ) -> u32
-    ensures { Answers (IsSafeAnswer text.now (options_of bits) basic_entity further.now) text.now room.old room.new size.new result }
+    ensures { Answers (IsSafeAnswer text.now (options_of bits) (entities_of bits) further.now)
+        text.now room.old room.new size.new result }
 {
     let options = Options::from_bits_retain(bits);
-    let entities = &BasicEntities;
+    let entities = Entities { bits };
     let renderer = SafeHtml {
         options,
-        entities,
+        entities: &entities,
         further,
     };
     answer(alloc, &renderer, text, room, size)
@@ -101,11 +123,18 @@ pub extern "C" fn pcm_events_json(
     room: &mut [u8],
     size: &mut usize,
 ) -> u32
-    ensures { Answers (AreLinesOf text.now (options_of options) basic_entity) text.now room.old room.new size.new result }
+    ensures known { are_known options ≡ true
+        → Answers (AreLinesOf text.now (options_of options) (entities_of options))
+        text.now room.old room.new size.new result }
+    ensures unknown { are_known options ≡ false → SaysUnknown room.old room.new size.new result }
 {
+    if !are_known(options) {
+        return refuse_unknown(size);
+    }
+    let entities = Entities { bits: options };
     let lines = EventLines {
         options: Options::from_bits_retain(options),
-        entities: &BasicEntities,
+        entities: &entities,
     };
     answer(alloc, &lines, text, room, size)
 }

@@ -1,18 +1,18 @@
 //! The calls of C for flat records: events as records, and records as HTML.
 
-ghost use Rattle.std.specs.Prelude.{IfOk};
-ghost use Rattle.cmark_grammar.specs.Entities.{basic_entity};
+ghost use Rattle.std.specs.Prelude.{◌≡◌, false, true, IfOk};
 ghost use Rattle.cmark_parser.specs.Parsing.{CanGoRanged};
-ghost use Rattle.cmark_room.specs.Statuses.{Answers};
-ghost use Rattle.cmark_text_parts.specs.Shown.{shown_options};
-ghost use Rattle.pulldown_cmark_c.specs.Calls.{options_of};
+ghost use Rattle.program_io.specs.Statuses.{Answers};
+ghost use Rattle.cmark_values.specs.Shown.{shown_options};
+ghost use Rattle.pulldown_cmark_c.specs.Calls.{SaysUnknown, are_known, entities_of, options_of};
 ghost use Rattle.pulldown_cmark_c.specs.Flat.{AreFlatOf, AreFlatOfRest, RenderAnswers};
 
+use crate::options::{Entities, are_known, refuse_unknown};
 use bitflags::Flags;
 use cmark_flat::{DecodeError, append_given, append_short, render};
 use cmark_parser::{Coming, OffsetIter, Parser};
-use cmark_room::{NO_MEMORY, NOT_UTF8, hand_over};
-use cmark_text_parts::{BasicEntities, EntityLookup, Options};
+use cmark_values::{EntityLookup, Options};
+use program_io::{NO_MEMORY, NOT_UTF8, hand_over};
 use std::alloc::{AllocError, Global};
 
 /// The bytes are not the flat records that a call reads.
@@ -27,14 +27,21 @@ pub extern "C" fn pcm_events(
     room: &mut [u8],
     size: &mut usize,
 ) -> u32
-    ensures { Answers (AreFlatOf text.now (options_of options) basic_entity) text.now room.old room.new size.new result }
+    ensures known { are_known options ≡ true
+        → Answers (AreFlatOf text.now (options_of options) (entities_of options))
+        text.now room.old room.new size.new result }
+    ensures unknown { are_known options ≡ false → SaysUnknown room.old room.new size.new result }
 {
+    if !are_known(options) {
+        return refuse_unknown(size);
+    }
     *size = 0;
     let Ok(text) = str::from_utf8(text) else {
         return NOT_UTF8;
     };
+    let entities = Entities { bits: options };
     let options = Options::from_bits_retain(options);
-    let Ok(records) = flat_of(alloc, text, options, &BasicEntities) else {
+    let Ok(records) = flat_of(alloc, text, options, &entities) else {
         return NO_MEMORY;
     };
     hand_over(records.as_slice(), room, size)
@@ -67,7 +74,8 @@ fn flat_of<E: EntityLookup>(
     options: Options,
     entities: &E,
 ) -> Result<Vec<u8>, AllocError>
-    ensures { IfOk result (λ output. AreFlatOf text.now (shown_options options) (E.replacement entities.now) output.items) }
+    ensures { IfOk result (λ output. AreFlatOf text.now
+        (shown_options options) (E.replacement entities.now) output.items) }
 {
     let parser = Parser::new_ext(alloc, text, options, entities)?;
     let mut iter = parser.into_offset_iter();

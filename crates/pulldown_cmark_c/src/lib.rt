@@ -4,4 +4,7 @@
 mod export;
 mod flat;
 mod links;
+mod options;
+mod safe_flat;
+mod stream;
 mod within;

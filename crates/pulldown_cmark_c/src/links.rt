@@ -1,22 +1,22 @@
 //! The calls of C for link reference definitions, and for events with the caller's answers.
 
-ghost use Rattle.std.specs.Prelude.{◌≡◌, true, is_some, IfErr, IfOk};
+ghost use Rattle.std.specs.Prelude.{◌≡◌, false, true, is_some, IfErr, IfOk};
 ghost use Rattle.cmark_flat.specs.Gives.{Fails};
 ghost use Rattle.cmark_flat.specs.Questions.{decode_replies};
-ghost use Rattle.cmark_grammar.specs.Entities.{basic_entity};
 ghost use Rattle.cmark_parser.specs.Parsing.{CanGoRanged, callback_of, walk_of};
-ghost use Rattle.cmark_room.specs.Statuses.{Answers};
-ghost use Rattle.cmark_text_parts.specs.Shown.{shown_options};
-ghost use Rattle.pulldown_cmark_c.specs.Calls.{options_of};
+ghost use Rattle.program_io.specs.Statuses.{Answers};
+ghost use Rattle.cmark_values.specs.Shown.{shown_options};
+ghost use Rattle.pulldown_cmark_c.specs.Calls.{SaysUnknown, are_known, entities_of, options_of};
 ghost use Rattle.pulldown_cmark_c.specs.Links.{AnswersEvents, AreAnsweredOf, AreAnsweredRest, AreDefinitionsOf};
 
 use crate::flat::MALFORMED;
+use crate::options::{Entities, are_known, refuse_unknown};
 use bitflags::Flags;
 use cmark_flat::{DecodeError, append_given, decode_replies};
 use cmark_flat_links::{AnswerTable, Answering, append_definitions};
 use cmark_parser::{OffsetIter, Parser};
-use cmark_room::{NO_MEMORY, NOT_UTF8, hand_over};
-use cmark_text_parts::{BasicEntities, EntityLookup, Options};
+use cmark_values::{EntityLookup, Options};
+use program_io::{NO_MEMORY, NOT_UTF8, hand_over};
 use std::alloc::{AllocError, Global};
 
 /// Like `pcm_events`, but writes the records of the text's link reference definitions.
@@ -28,14 +28,21 @@ pub extern "C" fn pcm_references(
     room: &mut [u8],
     size: &mut usize,
 ) -> u32
-    ensures { Answers (AreDefinitionsOf text.now (options_of options) basic_entity) text.now room.old room.new size.new result }
+    ensures known { are_known options ≡ true
+        → Answers (AreDefinitionsOf text.now (options_of options) (entities_of options))
+        text.now room.old room.new size.new result }
+    ensures unknown { are_known options ≡ false → SaysUnknown room.old room.new size.new result }
 {
+    if !are_known(options) {
+        return refuse_unknown(size);
+    }
     *size = 0;
     let Ok(text) = str::from_utf8(text) else {
         return NOT_UTF8;
     };
+    let entities = Entities { bits: options };
     let options = Options::from_bits_retain(options);
-    let Ok(records) = definitions_of(alloc, text, options, &BasicEntities) else {
+    let Ok(records) = definitions_of(alloc, text, options, &entities) else {
         return NO_MEMORY;
     };
     hand_over(records.as_slice(), room, size)
@@ -48,7 +55,8 @@ fn definitions_of<E: EntityLookup>(
     options: Options,
     entities: &E,
 ) -> Result<Vec<u8>, AllocError>
-    ensures { IfOk result (λ output. AreDefinitionsOf text.now (shown_options options) (E.replacement entities.now) output.items) }
+    ensures { IfOk result (λ output. AreDefinitionsOf text.now
+        (shown_options options) (E.replacement entities.now) output.items) }
 {
     let parser = Parser::new_ext(alloc, text, options, entities)?;
     let mut output = Vec::new(alloc);
@@ -69,14 +77,21 @@ pub extern "C" fn pcm_events_answered(
     room: &mut [u8],
     size: &mut usize,
 ) -> u32
-    ensures { AnswersEvents text.now (options_of options) basic_entity answers.now room.old room.new size.new result }
+    ensures known { are_known options ≡ true
+        → AnswersEvents text.now (options_of options) (entities_of options) answers.now
+        room.old room.new size.new result }
+    ensures unknown { are_known options ≡ false → SaysUnknown room.old room.new size.new result }
 {
+    if !are_known(options) {
+        return refuse_unknown(size);
+    }
     *size = 0;
     let Ok(text) = str::from_utf8(text) else {
         return NOT_UTF8;
     };
+    let entities = Entities { bits: options };
     let options = Options::from_bits_retain(options);
-    match answered(alloc, text, options, &BasicEntities, answers) {
+    match answered(alloc, text, options, &entities, answers) {
         Ok(records) => hand_over(records.as_slice(), room, size),
         Err(DecodeError::NoMemory) => NO_MEMORY,
         Err(DecodeError::Malformed) => MALFORMED,
@@ -91,7 +106,8 @@ fn answered<'a, E: EntityLookup>(
     entities: &'a E,
     answers: &'a [u8],
 ) -> Result<Vec<u8>, DecodeError>
-    ensures answered { IfOk result (λ output. AreAnsweredOf text.entry.now (shown_options options) (E.replacement entities.entry.now) answers.entry.now output.items) }
+    ensures answered { IfOk result (λ output. AreAnsweredOf text.entry.now (shown_options options)
+        (E.replacement entities.entry.now) answers.entry.now output.items) }
     ensures malformed { IfErr result (λ e. Fails e (decode_replies answers.entry.now)) }
 {
     let replies = decode_replies(alloc, answers)?;

@@ -1,30 +1,31 @@
 //! HTML within a reference expansion limit of the caller.
 
-ghost use Rattle.cmark_grammar.specs.Entities.{basic_entity};
+ghost use Rattle.std.specs.Prelude.{◌≡◌, false, true};
 ghost use Rattle.cmark_grammar.specs.Headline.{IsHtmlWithin};
-ghost use Rattle.cmark_room.specs.Statuses.{Answers};
-ghost use Rattle.cmark_text_parts.specs.Shown.{shown_options};
-ghost use Rattle.pulldown_cmark_c.specs.Calls.{options_of};
+ghost use Rattle.program_io.specs.Statuses.{Answers};
+ghost use Rattle.cmark_values.specs.Shown.{shown_options};
+ghost use Rattle.pulldown_cmark_c.specs.Calls.{SaysUnknown, are_known, entities_of, options_of};
 
+use crate::options::{Entities, are_known, refuse_unknown};
 use bitflags::Flags;
 use cmark_parser::to_html_within;
-use cmark_room::answer;
-use cmark_text_parts::{BasicEntities, Options};
-use mdhtml_parts::Render;
+use cmark_values::Options;
+use program_io::{Render, answer};
 use std::alloc::{AllocError, Global};
 
 /// Renders a text as HTML within a reference expansion limit, in bytes.
 #[derive(Drop)]
 struct Within {
     options: Options,
+    entities: Entities,
     limit: usize,
 }
 
 impl Render for Within {
-    ghost renders = { λ within text output. IsHtmlWithin within.limit text (shown_options within.options) basic_entity output };
+    ghost renders = { λ within text output. IsHtmlWithin within.limit text (shown_options within.options) (entities_of within.entities.bits) output };
 
     fn render(&self, alloc: Global, text: &str) -> Result<String, AllocError> {
-        to_html_within(alloc, text, self.options, &BasicEntities, self.limit)
+        to_html_within(alloc, text, self.options, &self.entities, self.limit)
     }
 }
 
@@ -39,10 +40,17 @@ pub extern "C" fn pcm_html_within(
     room: &mut [u8],
     size: &mut usize,
 ) -> u32
-    ensures { Answers (IsHtmlWithin limit text.now (options_of options) basic_entity) text.now room.old room.new size.new result }
+    ensures known { are_known options ≡ true
+        → Answers (IsHtmlWithin limit text.now (options_of options) (entities_of options))
+        text.now room.old room.new size.new result }
+    ensures unknown { are_known options ≡ false → SaysUnknown room.old room.new size.new result }
 {
+    if !are_known(options) {
+        return refuse_unknown(size);
+    }
     let within = Within {
         options: Options::from_bits_retain(options),
+        entities: Entities { bits: options },
         limit,
     };
     answer(alloc, &within, text, room, size)

@@ -1,11 +1,14 @@
 //! A closure that is asked for references without a definition.
 
 ghost use Rattle.std.specs.Prelude.{◌≡◌, ◌≤◌, IfSome};
-ghost use Rattle.cmark_text_parts.specs.Shown.{text_bytes};
+ghost use Rattle.cmark_grammar.specs.Entities.{basic_entity};
+ghost use Rattle.cmark_parser.specs.Parsing.{CanGo, IsReady};
+ghost use Rattle.cmark_values.specs.Shown.{text_bytes};
 
 use bitflags::Flags;
-use pulldown_cmark::html::push_html;
-use pulldown_cmark::{BasicEntities, CowStr, Event, FnCallback, Options, Parser, Tag};
+use pulldown_cmark::{
+    BasicEntities, BrokenLinkCallback, CowStr, Event, FnCallback, Options, Parser, Tag,
+};
 use std::alloc::{AllocError, Global};
 use std::test::Fail;
 
@@ -17,8 +20,29 @@ fn leads_to(event: &Event<'_>, page: &str) -> bool {
     }
 }
 
+/// How many of the events that a parser still returns begin a link to `page`.
+fn links_to<'a, F: BrokenLinkCallback<'a> + Drop>(
+    parser: &mut Parser<'a, BasicEntities, F>,
+    page: &str,
+) -> Result<usize, AllocError>
+    requires goes { CanGo (λ _. basic_entity) parser.old }
+    requires ready { IsReady F.ready parser.old }
+{
+    let mut links = 0usize;
+    for event in parser {
+        if leads_to(&event?, page) {
+            links = links.saturating_add(1);
+        }
+    }
+    Ok(links)
+}
+
 /// How many references without a definition a text has, and how many links to `page`, if each of these references leads there.
-fn links_to(alloc: Global, text: &str, page: &str) -> Result<(usize, usize), AllocError> {
+fn asked_and_links<'x>(
+    alloc: Global,
+    text: &'x str,
+    page: &'x str,
+) -> Result<(usize, usize), AllocError> {
     let mut asked = 0usize;
     let callback = FnCallback::new(
         |link|
@@ -29,26 +53,21 @@ fn links_to(alloc: Global, text: &str, page: &str) -> Result<(usize, usize), All
             Some((CowStr::Borrowed(page), link.reference))
         },
     );
-    let options = Options::empty();
-    let parser = Parser::new_with_broken_link_callback(
+    let mut parser = Parser::new_with_broken_link_callback(
         alloc,
         text,
-        options,
+        Options::empty(),
         &BasicEntities,
         Some(callback),
     )?;
-    let mut links = 0usize;
-    for event in parser {
-        if leads_to(&event?, page) {
-            links = links.saturating_add(1);
-        }
-    }
-    Ok((asked, links))
+    let links = links_to(&mut parser, page);
+    drop(parser);
+    Ok((asked, links?))
 }
 
 #[test]
 fn a_closure_answers_to_the_end(rt: HostRuntime) -> Result<(), Fail> {
-    let found = links_to(rt.alloc(), "[a] [b][c] [d](e)\n\n![f] *[g][]*", "/page")?;
+    let found = asked_and_links(rt.alloc(), "[a] [b][c] [d](e)\n\n![f] *[g][]*", "/page")?;
     assert_eq!(rt; found, (4, 3));
     Ok(())
 }

@@ -51,8 +51,8 @@ fn keeps_its_definitions(parser: &mut Parser<'_, BasicEntities>) -> Result<bool,
     )?;
     pass_four_events(parser);
     let definitions = parser.reference_definitions();
-    let behind = is_defined(definitions, "FOO", "/a", Some("b"), (0, 13))?;
-    Ok(before && behind && definitions.get("d")?.is_none())
+    let following = is_defined(definitions, "FOO", "/a", Some("b"), (0, 13))?;
+    Ok(before && following && definitions.get("d")?.is_none())
 }
 
 #[test]

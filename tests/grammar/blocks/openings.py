@@ -69,7 +69,7 @@ def cut_name(bs):
 
 
 def is_lone_tag(words):
-    rest = letters.behind_tag(words)
+    rest = letters.after_tag(words)
     name = words[1:].lower().removeprefix(b"/")
     name = name[:letters.prefix_len(letters.is_name_byte, name)]
     return rest is not None and not trimmed(rest) and name not in RAW_NAMES
@@ -80,16 +80,16 @@ def html_kind(words):
     if not words.startswith(b"<"):
         return 0
     bs = words[1:].lower()
-    name, behind = cut_name(bs)
-    if name in RAW_NAMES and (is_parted(behind) or behind.startswith(b">")):
+    name, following = cut_name(bs)
+    if name in RAW_NAMES and (is_parted(following) or following.startswith(b">")):
         return 1
     for kind, start in ((2, b"!--"), (3, b"?"), (5, b"![cdata[")):
         if bs.startswith(start) and (kind != 5 or words.startswith(b"<![CDATA[")):
             return kind
     if bs.startswith(b"!") and letters.first_is(letters.is_letter, bs[1:]):
         return 4
-    name, behind = cut_name(bs.removeprefix(b"/"))
-    if name in BLOCK_NAMES and (is_parted(behind) or behind.startswith((b">", b"/>"))):
+    name, following = cut_name(bs.removeprefix(b"/"))
+    if name in BLOCK_NAMES and (is_parted(following) or following.startswith((b">", b"/>"))):
         return 6
     return 7 if is_lone_tag(words) else 0
 
@@ -100,7 +100,7 @@ def holds_html_end(kind, bs):
 
 # ## Containers
 
-def width_behind(row, size):
+def width_after(row, size):
     """The columns of a prefix: the indent, a marker of this size, and the blanks after it, of which only one counts if there are five or
     more."""
     before = indent(row.columns) + size
@@ -114,33 +114,33 @@ def list_marker(row):
     found = LIST_MARKER.match(words)
     if not found or indent(row.columns) > 3 or is_thematic_break(words) or not is_parted(words[found.end():]):
         return None
-    return found[1] or found[3], None if found[2] is None else int(found[2]), width_behind(row, len(found[0]))
+    return found[1] or found[3], None if found[2] is None else int(found[2]), width_after(row, len(found[0]))
 
 
 def definition_width(row):
     """The width of the prefix of a definition; 0 if there is no marker."""
-    return width_behind(row, 1) if indent(row.columns) <= 3 and words_of(row.columns).startswith(b":") else 0
+    return width_after(row, 1) if indent(row.columns) <= 3 and words_of(row.columns).startswith(b":") else 0
 
 
 def block_quote_width(row):
     """The width of a block quote's prefix; 0 if there is no marker."""
     if indent(row.columns) > 3 or not words_of(row.columns).startswith(b">"):
         return 0
-    behind = indent(row.columns) + 1
-    return behind + (behind < len(row.columns) and is_blank(row.columns[behind]))
+    following = indent(row.columns) + 1
+    return following + (following < len(row.columns) and is_blank(row.columns[following]))
 
 
 def footnote_label(row):
     """The label of a footnote definition, and the columns of its marker with the blanks after it."""
     words = words_of(row.columns)
     label = labels.label_in(words[2:]) if indent(row.columns) <= 3 and words.startswith(b"[^") else None
-    if label is None or not label.behind.startswith(b":"):
+    if label is None or not label.following.startswith(b":"):
         return None
-    behind = indent(row.columns) + len(without_indent(row.columns)) - len(columns_behind(row, len(words) - len(label.behind) + 1))
-    return labels.normal_form(label.bytes), behind + indent(row.columns[behind:])
+    following = indent(row.columns) + len(without_indent(row.columns)) - len(columns_after(row, len(words) - len(label.following) + 1))
+    return labels.normal_form(label.bytes), following + indent(row.columns[following:])
 
 
-def columns_behind(row, size):
+def columns_after(row, size):
     """The columns after the first `size` bytes of a line's words."""
     firsts = [n for n, c in enumerate(without_indent(row.columns)) if c.part == 0] + [len(without_indent(row.columns))]
     return without_indent(row.columns)[firsts[size]:]

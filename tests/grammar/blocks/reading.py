@@ -80,10 +80,10 @@ class Reader:
         """The alignments of the table that a line begins together with the next one; none if it begins no table."""
         if "tables" not in self.flags or not openings.pipes_in(self.words(row)):
             return []
-        following = next(ahead, None)
-        if following is None or indent(following.columns) > 3:
+        later = next(ahead, None)
+        if later is None or indent(later.columns) > 3:
             return []
-        found = openings.alignments_in(self.words(following)) or []
+        found = openings.alignments_in(self.words(later)) or []
         return found if len(found) == len(openings.cells_in(self.words(row))) else []
 
     def cells(self, row):
@@ -328,4 +328,4 @@ class Reader:
             lines += 1
         found = labels.definition_in(whole)
         is_footnote = found and "footnotes" in self.flags and found.label.startswith(b"^") and len(found.label) > 1
-        return None if found is None or is_footnote else lines - found.behind.count(b"\n")
+        return None if found is None or is_footnote else lines - found.following.count(b"\n")

@@ -90,9 +90,9 @@ def cut(found, size):
 
 
 def atx_stretches(block):
-    behind = without_indent(without_indent(block.line.columns)[block.level:])
-    start = first_place(block.line.content_end, behind)
-    end = end_place(start, drop_end(is_blank, behind))
+    following = without_indent(without_indent(block.line.columns)[block.level:])
+    start = first_place(block.line.content_end, following)
+    end = end_place(start, drop_end(is_blank, following))
     return [Stretch(start, end)] if start < end else []
 
 

@@ -121,7 +121,7 @@ def dropped(o):
     return replace(o, stands=False)
 
 
-def behind_link(is_image, openers):
+def after_link(is_image, openers):
     return openers if is_image else tuple(map(inactive, openers))
 
 
@@ -143,16 +143,16 @@ def forms(taken, formed, resume, change, s):
 
 
 def links(taken, linked, end, resume, s):
-    return forms(taken, Linking(linked, end), resume, lambda openers: behind_link(taken.opener.bracket.is_image, openers), s)
+    return forms(taken, Linking(linked, end), resume, lambda openers: after_link(taken.opener.bracket.is_image, openers), s)
 
 
 def between(leaf, start, end):
-    behind = leaf.from_(start)
-    return behind[:len(behind) - len(leaf.from_(end))]
+    following = leaf.from_(start)
+    return following[:len(following) - len(leaf.from_(end))]
 
 
 def inline_link(leaf, tail, taken, s):
-    lookup, resume = leaf.reader.lookup, leaf.place_of(tail.behind)
+    lookup, resume = leaf.reader.lookup, leaf.place_of(tail.following)
     title = letters.unescaped(lookup, leaf.is_cell, letters.title_lines(tail.title or b""))
     return links(taken, Linked("Inline", letters.unescaped(lookup, leaf.is_cell, tail.destination), title, b""), resume, resume, s)
 
@@ -203,12 +203,12 @@ def by_own_label(leaf, label, taken, closer, s):
         return footnote_reference(leaf, as_label(leaf, label[1:]), taken, closer, s)
     if not labels.is_bracketed_label(label):
         return stays(closer, s)
-    named = collapsed_or_shortcut(leaf, as_label(leaf, label), closer.end, labels.behind_collapsed(leaf.from_(closer.end)))
+    named = collapsed_or_shortcut(leaf, as_label(leaf, label), closer.end, labels.after_collapsed(leaf.from_(closer.end)))
     return refers(leaf, named, taken, closer, s)
 
 
 def full_reference(leaf, found, taken, closer, s):
-    end = leaf.place_of(found.behind)
+    end = leaf.place_of(found.following)
     return refers(leaf, Named(as_label(leaf, found.bytes), "Reference", end, end), taken, closer, replace(s, label_close=end - 1))
 
 
@@ -241,7 +241,7 @@ def name_in(bs):
     return bs.split(b"|")[0]
 
 
-def behind_pipe(at, bs):
+def after_pipe(at, bs):
     return at + bs.index(b"|") + 1 if b"|" in bs else None
 
 
@@ -251,7 +251,7 @@ def wiki_text(leaf, first, closer):
 
 def wikilink(leaf, first, closer, s):
     text = wiki_text(leaf, first, closer)
-    formed = Wiki(name_in(text), behind_pipe(first.opener.bracket.end + 1, text), closer.end + 1)
+    formed = Wiki(name_in(text), after_pipe(first.opener.bracket.end + 1, text), closer.end + 1)
     return forms(first, formed, closer.end + 1, lambda openers: tuple(undoubled(inactive(o)) for o in openers), s)
 
 

@@ -36,7 +36,7 @@ def left_to(braces):
     return Braces((), braces.next % 256, braces.next + 1)
 
 
-def behind_byte(escaped, b, braces):
+def after_byte(escaped, b, braces):
     if escaped:
         return braces
     return entered(braces) if b == ord("{") else left_to(braces) if b == ord("}") else braces
@@ -46,10 +46,10 @@ def escapes_next(escaped, b):
     return not escaped and b == ord("\\")
 
 
-def braces_behind(bs, braces):
+def braces_after(bs, braces):
     escaped = False
     for b in bs:
-        braces, escaped = behind_byte(escaped, b, braces), escapes_next(escaped, b)
+        braces, escaped = after_byte(escaped, b, braces), escapes_next(escaped, b)
     return braces
 
 
@@ -60,7 +60,7 @@ def formula_to(is_display, context, braces, bs):
         if not escaped and is_dollar(b) and context_of(braces) == context:
             closes = first_is(is_dollar, bs[at + 1:]) if is_display else is_ink(last)
             return Parsed(bs[:at], bs[at + (2 if is_display else 1):]) if closes else None
-        braces, escaped, last = behind_byte(escaped, b, braces), escapes_next(escaped, b), b
+        braces, escaped, last = after_byte(escaped, b, braces), escapes_next(escaped, b), b
     return None
 
 

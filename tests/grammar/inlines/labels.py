@@ -1,7 +1,7 @@
 """Labels, destinations and titles: the definitions of LinkDefinitions, Labels, Destinations and LinkTails."""
 from typing import NamedTuple
 
-from inlines.letters import (Parsed, and_then, behind_blanks, behind_ending, behind_start, is_content, resolved,
+from inlines.letters import (Parsed, and_then, after_leading_blanks, after_ending, after_start_of, is_content, resolved,
                              title_lines)
 
 
@@ -78,15 +78,15 @@ def title_in(bs):
     return up_to(41, 40, True, bs[1:]) if bs.startswith(b"(") else None
 
 
-def behind_separator(bs):
+def after_separator(bs):
     """After blanks with at most one line ending."""
-    here = behind_blanks(bs)
-    line = behind_ending(here)
-    return here if line is None else behind_blanks(line)
+    here = after_leading_blanks(bs)
+    line = after_ending(here)
+    return here if line is None else after_leading_blanks(line)
 
 
 def is_line_done(bs):
-    rest = behind_blanks(bs)
+    rest = after_leading_blanks(bs)
     return not rest or not is_content(rest[0])
 
 
@@ -94,31 +94,31 @@ class Defined(NamedTuple):
     label: bytes
     destination: bytes
     title: bytes
-    behind: bytes
+    following: bytes
 
 
 def untitled(label, destination):
-    return Defined(label, destination.bytes, None, destination.behind) if is_line_done(destination.behind) else None
+    return Defined(label, destination.bytes, None, destination.following) if is_line_done(destination.following) else None
 
 
 def titled(label, destination, title):
     if title is None:
         return untitled(label, destination)
-    if len(behind_separator(destination.behind)) < len(destination.behind) and is_line_done(title.behind):
-        return Defined(label, destination.bytes, title.bytes, title.behind)
+    if len(after_separator(destination.following)) < len(destination.following) and is_line_done(title.following):
+        return Defined(label, destination.bytes, title.bytes, title.following)
     return untitled(label, destination)
 
 
 def with_destination(label, destination):
-    return and_then(destination, lambda d: titled(label, d, title_in(behind_separator(d.behind))))
+    return and_then(destination, lambda d: titled(label, d, title_in(after_separator(d.following))))
 
 
-def behind_colon(label):
-    return with_destination(label.bytes, destination_in(behind_separator(label.behind[1:]))) if label.behind.startswith(b":") else None
+def after_colon(label):
+    return with_destination(label.bytes, destination_in(after_separator(label.following[1:]))) if label.following.startswith(b":") else None
 
 
 def definition_in(bs):
-    return and_then(label_in(bs[1:]), behind_colon) if bs.startswith(b"[") else None
+    return and_then(label_in(bs[1:]), after_colon) if bs.startswith(b"[") else None
 
 
 # ## Labels
@@ -155,33 +155,33 @@ def link_destination_in(bs):
 class LinkTail(NamedTuple):
     destination: bytes
     title: bytes
-    behind: bytes
+    following: bytes
 
 
 def closed_tail(destination, title, bs):
-    return and_then(behind_start(b")", behind_separator(bs)), lambda behind: LinkTail(destination, title, behind))
+    return and_then(after_start_of(b")", after_separator(bs)), lambda following: LinkTail(destination, title, following))
 
 
 def tail_inside(bs):
-    destination = link_destination_in(behind_separator(bs))
+    destination = link_destination_in(after_separator(bs))
     if destination is None:
         return None
-    title = title_in(behind_separator(destination.behind))
+    title = title_in(after_separator(destination.following))
     if title is None:
-        return closed_tail(destination.bytes, None, destination.behind)
-    return closed_tail(destination.bytes, title.bytes, title.behind)
+        return closed_tail(destination.bytes, None, destination.following)
+    return closed_tail(destination.bytes, title.bytes, title.following)
 
 
 def link_tail_in(bs):
-    return and_then(behind_start(b"(", bs), tail_inside)
+    return and_then(after_start_of(b"(", bs), tail_inside)
 
 
 def reference_label_in(bs):
-    return and_then(behind_start(b"[", bs), label_in)
+    return and_then(after_start_of(b"[", bs), label_in)
 
 
-def behind_collapsed(bs):
-    return behind_start(b"[]", bs)
+def after_collapsed(bs):
+    return after_start_of(b"[]", bs)
 
 
 def has_bracket(bs):

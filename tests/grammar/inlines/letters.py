@@ -58,34 +58,34 @@ def first_is(passes, bs):
     return bool(bs) and passes(bs[0])
 
 
-def behind_all(passes, bs):
+def after_while(passes, bs):
     return bs[prefix_len(passes, bs):]
 
 
-def behind_start(prefix, bs):
+def after_start_of(prefix, bs):
     return bs[len(prefix):] if bs.startswith(prefix) else None
 
 
-def behind_first(closer, bs):
+def after_first_of(closer, bs):
     at = bs.find(closer)
     return None if at < 0 else bs[at + len(closer):]
 
 
-def behind_if(passes, bs):
+def after_if(passes, bs):
     return bs[1:] if first_is(passes, bs) else None
 
 
-def and_then(part, following):
-    return None if part is None else following(part)
+def and_then(part, use):
+    return None if part is None else use(part)
 
 
-def behind_blanks(bs):
-    return behind_all(is_blank_byte, bs)
+def after_leading_blanks(bs):
+    return after_while(is_blank_byte, bs)
 
 
 class Parsed(NamedTuple):
     bytes: bytes
-    behind: bytes
+    following: bytes
 
 
 # ## Entities, and texts without escapes and entities
@@ -107,8 +107,8 @@ def is_hexadecimal(b):
     return is_number(b) or 97 <= lower(b) <= 102
 
 
-def numeric(base, most, size, digits, behind):
-    if 0 < len(digits) <= most and behind.startswith(b";"):
+def numeric(base, most, size, digits, following):
+    if 0 < len(digits) <= most and following.startswith(b";"):
         return Entity(character(int(digits, base)), len(digits) + size)
     return None
 
@@ -127,8 +127,8 @@ def numeric_in(bs):
     return hexadecimal_in(bs[1:]) if bs[:1] in (b"x", b"X") else decimal_in(bs)
 
 
-def named(lookup, name, behind):
-    found = lookup(name) if name and behind.startswith(b";") else None
+def named(lookup, name, following):
+    found = lookup(name) if name and following.startswith(b";") else None
     return None if found is None else Entity(found, len(name) + 2)
 
 
@@ -160,12 +160,12 @@ def resolved(lookup, bs):
     """A backslash before punctuation is dropped, and an entity is replaced by its text."""
     answer, at, escaped = b"", 0, False
     while at < len(bs):
-        b, behind = bs[at], bs[at + 1:]
-        entity = entity_in(lookup, behind) if not escaped and b == 38 else None
+        b, following = bs[at], bs[at + 1:]
+        entity = entity_in(lookup, following) if not escaped and b == 38 else None
         if entity is not None:
             answer += entity.bytes
             at += entity.size
-        elif not escaped and b == 92 and first_is(is_punctuation, behind):
+        elif not escaped and b == 92 and first_is(is_punctuation, following):
             escaped = True
             at += 1
             continue
@@ -187,13 +187,13 @@ def unescaped(lookup, is_in_table, bs):
 
 def title_lines(bs):
     """Each line ending and the blanks after it become one line feed."""
-    answer, in_front = [], False
+    answer, preceding = [], False
     for at, b in enumerate(bs):
         if ends_line(b, bs[at + 1:at + 2]):
             answer.append(10)
-            in_front = True
-        elif not (in_front and is_blank_byte(b)):
-            in_front = False
+            preceding = True
+        elif not (preceding and is_blank_byte(b)):
+            preceding = False
             if b != 13:
                 answer.append(b)
     return bytes(answer)
@@ -243,7 +243,7 @@ def code_in(bs):
     size = backticks(bs)
     if size == 0:
         return None
-    return and_then(up_to_run(size, behind_all(is_backtick, bs)), lambda found: Parsed(found.bytes, found.behind[size:]))
+    return and_then(up_to_run(size, after_while(is_backtick, bs)), lambda found: Parsed(found.bytes, found.following[size:]))
 
 
 def with_line_ends(mark, bs):
@@ -268,19 +268,19 @@ def code_text(bs):
 class LineBreak(NamedTuple):
     is_hard: bool
     before: int
-    behind: bytes
+    following: bytes
 
 
 def backslash_break_in(bs):
-    return and_then(and_then(behind_if(lambda b: b == 92, bs), behind_ending), lambda behind: LineBreak(True, 0, behind))
+    return and_then(and_then(after_if(lambda b: b == 92, bs), after_ending), lambda following: LineBreak(True, 0, following))
 
 
-def blank_break(blanks, behind):
-    return LineBreak(True, 0, behind) if blanks.endswith(b"  ") else LineBreak(False, len(blanks), behind)
+def blank_break(blanks, following):
+    return LineBreak(True, 0, following) if blanks.endswith(b"  ") else LineBreak(False, len(blanks), following)
 
 
 def blank_break_in(bs):
-    return and_then(behind_ending(behind_blanks(bs)), lambda behind: blank_break(bs[:prefix_len(is_blank_byte, bs)], behind))
+    return and_then(after_ending(after_leading_blanks(bs)), lambda following: blank_break(bs[:prefix_len(is_blank_byte, bs)], following))
 
 
 def dashes_of(n):
@@ -318,72 +318,72 @@ def is_value_byte(b):
     return not is_space_byte(b) and b not in b"\"'<=>`"
 
 
-def behind_ending(bs):
+def after_ending(bs):
     if bs.startswith(b"\r\n"):
         return bs[2:]
     return bs[1:] if bs[:1] in (b"\n", b"\r") else None
 
 
-def behind_tag_name(bs):
-    return and_then(behind_if(is_letter, bs), lambda rest: behind_all(is_name_byte, rest))
+def after_tag_name(bs):
+    return and_then(after_if(is_letter, bs), lambda rest: after_while(is_name_byte, rest))
 
 
-def behind_attribute_name(bs):
-    return and_then(behind_if(is_attribute_start, bs), lambda rest: behind_all(is_attribute_byte, rest))
+def after_attribute_name(bs):
+    return and_then(after_if(is_attribute_start, bs), lambda rest: after_while(is_attribute_byte, rest))
 
 
-def behind_bare_value(bs):
-    return and_then(behind_if(is_value_byte, bs), lambda rest: behind_all(is_value_byte, rest))
+def after_bare_value(bs):
+    return and_then(after_if(is_value_byte, bs), lambda rest: after_while(is_value_byte, rest))
 
 
-def behind_greater(bs):
-    return behind_start(b">", bs)
+def after_greater(bs):
+    return after_start_of(b">", bs)
 
 
-def behind_open_end(bs):
-    return behind_greater(bs[1:] if bs.startswith(b"/") else bs)
+def after_open_end(bs):
+    return after_greater(bs[1:] if bs.startswith(b"/") else bs)
 
 
-def behind_closing_tag(bs):
-    return and_then(behind_tag_name(bs), lambda rest: behind_greater(behind_blanks(rest)))
+def after_closing_tag(bs):
+    return and_then(after_tag_name(bs), lambda rest: after_greater(after_leading_blanks(rest)))
 
 
-def behind_space(bs):
+def after_space(bs):
     """After blanks with at most one line ending."""
-    here = behind_blanks(bs)
-    line = behind_ending(here)
-    return here if line is None else behind_blanks(line)
+    here = after_leading_blanks(bs)
+    line = after_ending(here)
+    return here if line is None else after_leading_blanks(line)
 
 
-def behind_value(bs):
-    return behind_first(bs[:1], bs[1:]) if bs[:1] in (b'"', b"'") else behind_bare_value(bs)
+def after_value(bs):
+    return after_first_of(bs[:1], bs[1:]) if bs[:1] in (b'"', b"'") else after_bare_value(bs)
 
 
-def behind_assigned(name, bs):
-    return behind_value(behind_space(bs[1:])) if bs.startswith(b"=") else name
+def after_assigned(name, bs):
+    return after_value(after_space(bs[1:])) if bs.startswith(b"=") else name
 
 
-def behind_attribute(bs):
+def after_attribute(bs):
     if not first_is(is_space_byte, bs):
         return None
-    return and_then(behind_attribute_name(behind_space(bs)), lambda name: behind_assigned(name, behind_space(name)))
+    return and_then(after_attribute_name(after_space(bs)), lambda name: after_assigned(name, after_space(name)))
 
 
-def behind_attributes(bs):
-    rest = behind_attribute(bs)
-    return bs if rest is None else behind_attributes(rest)
+def after_attributes(bs):
+    rest = after_attribute(bs)
+    return bs if rest is None else after_attributes(rest)
 
 
-def behind_open_tag(bs):
-    return and_then(behind_tag_name(bs), lambda rest: behind_open_end(behind_space(behind_attributes(rest))))
+def after_open_tag(bs):
+    return and_then(after_tag_name(bs), lambda rest: after_open_end(after_space(after_attributes(rest))))
 
 
-def behind_tag_start(bs):
-    return behind_closing_tag(bs[1:]) if bs.startswith(b"/") else behind_open_tag(bs)
+def after_tag_start(bs):
+    return after_closing_tag(bs[1:]) if bs.startswith(b"/") else after_open_tag(bs)
 
 
-def behind_tag(bs):
-    return and_then(behind_start(b"<", bs), behind_tag_start)
+def after_tag(bs):
+    return and_then(after_start_of(b"<", bs), after_tag_start)
 
 
 # ## InlineHtml and Autolinks
@@ -392,26 +392,26 @@ def takes_lines(bs):
     return b"\n" in bs or b"\r" in bs
 
 
-def behind_comment(bs):
+def after_comment(bs):
     for closer in (b">", b"->"):
         if bs.startswith(closer):
             return bs[len(closer):]
-    return behind_first(b"-->", bs)
+    return after_first_of(b"-->", bs)
 
 
-def behind_opened(bs):
+def after_opened(bs):
     """After the construct that `<!` opens, if it opens one that is closed."""
     if bs.startswith(b"--"):
-        return behind_comment(bs[2:])
+        return after_comment(bs[2:])
     if first_is(is_letter, bs):
-        return behind_first(b">", bs[1:])
-    return behind_first(b"]]>", bs[7:]) if bs.startswith(b"[CDATA[") else None
+        return after_first_of(b">", bs[1:])
+    return after_first_of(b"]]>", bs[7:]) if bs.startswith(b"[CDATA[") else None
 
 
-def behind_markup(bs):
+def after_markup(bs):
     if bs.startswith(b"<!"):
-        return behind_opened(bs[2:])
-    return behind_first(b"?>", bs[2:]) if bs.startswith(b"<?") else None
+        return after_opened(bs[2:])
+    return after_first_of(b"?>", bs[2:]) if bs.startswith(b"<?") else None
 
 
 def is_scheme_byte(b):

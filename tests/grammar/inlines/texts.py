@@ -163,8 +163,8 @@ def later_line(containers, row):
 def stretches(found):
     """Lines after their prefixes: a line that begins where the one before it ended is in the same stretch."""
     begin, answer = first_place(found[0].content_end, without_indent(found[0].columns)), []
-    for row, following in zip(found, found[1:]):
-        start = first_place(following.content_end, following.columns)
+    for row, later in zip(found, found[1:]):
+        start = first_place(later.content_end, later.columns)
         if start != row.line_end:
             answer.append(Stretch(begin, row.line_end))
             begin = start
@@ -181,9 +181,9 @@ def without_closing(columns):
 
 
 def heading_stretches(level, row):
-    behind = without_indent(without_indent(row.columns)[level:])
-    start = first_place(row.content_end, behind)
-    end = end_place(start, without_closing(drop_end(is_blank, behind)))
+    following = without_indent(without_indent(row.columns)[level:])
+    start = first_place(row.content_end, following)
+    end = end_place(start, without_closing(drop_end(is_blank, following)))
     return [Stretch(start, end)] if start < end else []
 
 
@@ -203,8 +203,8 @@ def may_open(row, is_first):
         return False
     if OPENS.match(words) or (words.startswith(b"[^") and b"]:" in words):
         return True
-    rest = letters.behind_tag(words) if is_first else None
-    return rest is not None and not letters.behind_blanks(rest)
+    rest = letters.after_tag(words) if is_first else None
+    return rest is not None and not letters.after_leading_blanks(rest)
 
 
 class Sample(NamedTuple):

@@ -261,18 +261,18 @@ class Leaf:
         return first_is(lambda b: not letters.is_content(b), self.before(at)[::-1])
 
     def read_on(self, at):
-        return self.place_of(letters.behind_blanks(self.from_(at)) if self.line_begins(at) else self.from_(at))
+        return self.place_of(letters.after_leading_blanks(self.from_(at)) if self.line_begins(at) else self.from_(at))
 
     def break_or(self, at, found, other):
         if found is None:
             return other
-        end = at + self.size_to(at, found.behind)
+        end = at + self.size_to(at, found.following)
         return Stands(Item("HardBreak" if found.is_hard else "SoftBreak", at + found.before, end), self.read_on(end))
 
     def code_or(self, at, run_length, found):
         if found is None:
             return item_at("Own", at, at + run_length)
-        return item_at("Code", at, self.place_of(found.behind), letters.code_text(self.as_in(found.bytes)))
+        return item_at("Code", at, self.place_of(found.following), letters.code_text(self.as_in(found.bytes)))
 
     def escaped_backtick(self, at, run_length, found):
         return item_at("Own", at, at + run_length) if found is None else item_at("Plain", at, at + 1)
@@ -307,11 +307,11 @@ class Leaf:
             return item_at("Plain", at, at + 1)
         autolink = letters.autolink_in(self.reader.options.email_autolinks, bs)
         if autolink is not None:
-            return item_at("Autolink", at, self.place_of(autolink.behind), autolink.bytes)
-        rest = letters.behind_markup(self.source_from(at))
+            return item_at("Autolink", at, self.place_of(autolink.following), autolink.bytes)
+        rest = letters.after_markup(self.source_from(at))
         if rest is not None:
             return self.markup_to(at, at + len(self.source_from(at)) - len(rest))
-        return self.tag_or_text(at, letters.behind_tag(self.from_(at)))
+        return self.tag_or_text(at, letters.after_tag(self.from_(at)))
 
     def run_at(self, at, delimiter, run_length):
         opens, closes = flanking(self.reader.options, delimiter, run_length, self.character_before(at), self.character_at(at + run_length))
@@ -320,7 +320,7 @@ class Leaf:
         return item_at("Plain", at, at + run_length)
 
     def formula_or(self, kind, at, found):
-        return item_at("Own", at, at + 1) if found is None else item_at(kind, at, self.place_of(found.behind), self.as_in(found.bytes))
+        return item_at("Own", at, at + 1) if found is None else item_at(kind, at, self.place_of(found.following), self.as_in(found.bytes))
 
     def dollar(self, at, bs, braces):
         if first_is(formulas.is_dollar, bs):
@@ -371,7 +371,7 @@ class Leaf:
         if b in b"*_~^=":
             return self.run_at(at, b, letters.prefix_len(lambda c: c == b, all_bytes))
         if self.reader.options.math and formulas.is_dollar(b):
-            return self.dollar(at, bs, formulas.braces_behind(self.before(at), formulas.NO_BRACES))
+            return self.dollar(at, bs, formulas.braces_after(self.before(at), formulas.NO_BRACES))
         return self.smart_or(at, b) if self.reader.options.smart_punctuation else item_at("Plain", at, at + 1)
 
     def begins_at(self, at):

@@ -19,7 +19,7 @@ loop-event-preserved g c =
       so_far = (
         i.0 ++ e ∷ [],
         given_more _ _ i.0 e i.1 c.in_ok-event.was,
-        written_more _ i.0 e _ _ _ i.2 i.3 c.in_ok-write_event.ensures.ok,
+        written_more _ i.0 e _ _ _ i.2 i.3 c.in_ok-write_event.ensures.writes.ok,
         kept_more _ i.0 e _ i.3 c.in_ok-write_event.ensures.state,
       );
     }
@@ -31,7 +31,7 @@ returns-in_err-write_event-clause-err g c =
     let steps = g.I.Iterator.next_gives in
     let all = Yields-more steps _ c.loop-event.yielded c.loop-event.iter c.in-Some.event c.next.new.self c.loop-event.yielded_by c.in-Some.ensures.steps in
     let given = subst (λ items. Yields steps c.args.iter.now items c.next.new.self) (given_more _ _ i.0 e i.1 c.in_ok-event.was) all in
-    on_err c.from_residual-in_err-write_event.result (i.0 ++ e ∷ [], inl (inl given, front_more _ i.0 e _ _ _ i.2 i.3 c.in_err-write_event.ensures.err))
+    on_err c.from_residual-in_err-write_event.result (i.0 ++ e ∷ [], inl (inl given, front_more _ i.0 e _ _ _ i.2 i.3 c.in_err-write_event.ensures.writes.err))
 
 pub returns-clause-ok : goal.returns-clause-ok
 returns-clause-ok g c =

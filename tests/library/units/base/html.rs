@@ -22,7 +22,7 @@ fn image<'a>(dest_url: &'a str, title: &'a str) -> Event<'a> {
 }
 
 #[test]
-fn writes_behind_the_old_text(rt: HostRuntime) -> Result<(), Fail> {
+fn writes_after_the_old_text(rt: HostRuntime) -> Result<(), Fail> {
     let mut html = String::from_str(rt.alloc(), "x")?;
     let items = [
         Ok(Event::Rule),

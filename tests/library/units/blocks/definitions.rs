@@ -1,6 +1,6 @@
 //! Tests of link reference definitions, with ample memory. Most examples are of CommonMark 4.7.
 
-use cmark_definitions::{Definition, is_settled, link_definition, scan_definition};
+use cmark_link_definitions::{Definition, is_settled, link_definition, scan_definition};
 use cmark_text::{BasicEntities, CowStr};
 use std::test::Fail;
 

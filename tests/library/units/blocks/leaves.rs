@@ -2,11 +2,11 @@
 
 use cmark_builder::Builder;
 use cmark_items::{Item, ItemBody};
-use cmark_leaves::{
+use cmark_leaf_nodes::{
     Stretch, draw_code_line, draw_heading, draw_html_line, draw_last_lines, draw_lines,
     draw_stretch,
 };
-use cmark_lines::LineRest;
+use cmark_line_rules::LineRest;
 use std::test::Fail;
 
 /// The first line of a text.
@@ -38,7 +38,7 @@ fn is_text(found: Option<Item>, start: usize, end: usize) -> bool {
 }
 
 #[test]
-fn the_last_line_stands_as_it_is_without_the_blanks_behind_it(rt: HostRuntime) -> Result<(), Fail> {
+fn the_last_line_stands_as_it_is_without_the_blanks_after_it(rt: HostRuntime) -> Result<(), Fail> {
     let mut builder = Builder::new(rt.alloc())?;
     draw_last_lines(&mut builder, 1, first_line(" a\\* &amp; b \n"))?;
     assert!(rt; is_text(last_item(builder), 1, 12));

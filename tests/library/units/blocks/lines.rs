@@ -1,7 +1,7 @@
 //! Lines of the standard's examples, each call on its happy path.
 
 use bitflags::Flags;
-use cmark_lines::{
+use cmark_line_rules::{
     CodeOrHtml, Container, ContainerStart, Continuation, FootnoteStart, HtmlKind, LineRest,
     Opening, ends_at_once, interrupts, underlines, what_opens,
 };
@@ -74,12 +74,12 @@ fn a_tab_is_indent_up_to_the_next_stop(rt: HostRuntime) -> Result<(), Fail> {
     let cut = line.without_indent_upto(2);
     assert_eq!(rt; (cut.begin(), cut.remaining_space()), (2, 2));
     assert_eq!(rt; cut.bytes(), b" a".as_slice());
-    assert_eq!(rt; line.behind_indent().begin(), 3);
+    assert_eq!(rt; line.after_indent().begin(), 3);
     Ok(())
 }
 
 #[test]
-fn a_tab_in_front_of_an_item_s_later_line(rt: HostRuntime) -> Result<(), Fail> {
+fn a_tab_before_an_item_s_later_line(rt: HostRuntime) -> Result<(), Fail> {
     // CommonMark 0.31.2, examples 4 and 5
     let later = Container::Item { width: 4 }.keeps(false, LineRest::new(b"\tbar", 0));
     assert_eq!(rt; later.map(|rest| rest.begin()), Some(1));
@@ -93,7 +93,7 @@ fn a_tab_in_front_of_an_item_s_later_line(rt: HostRuntime) -> Result<(), Fail> {
 }
 
 #[test]
-fn a_tab_behind_a_marker(rt: HostRuntime) -> Result<(), Fail> {
+fn a_tab_after_a_marker(rt: HostRuntime) -> Result<(), Fail> {
     // CommonMark 0.31.2, examples 6 and 7
     let block_quote = inside(LineRest::new(b">\t\tfoo", 0));
     assert_eq!(rt;
@@ -138,7 +138,7 @@ fn a_quote_keeps_lines_with_its_marker(rt: HostRuntime) -> Result<(), Fail> {
 }
 
 #[test]
-fn a_tag_directly_behind_a_marker_makes_an_alert(rt: HostRuntime) -> Result<(), Fail> {
+fn a_tag_directly_after_a_marker_makes_an_alert(rt: HostRuntime) -> Result<(), Fail> {
     let tag = LineRest::new(b"[!Tip] ", 0);
     assert_eq!(rt; tag.alert_kind(true), Some(BlockQuoteKind::Tip));
     assert_eq!(rt; tag.alert_kind(false), None);
@@ -148,7 +148,7 @@ fn a_tag_directly_behind_a_marker_makes_an_alert(rt: HostRuntime) -> Result<(), 
 }
 
 #[test]
-fn an_item_keeps_blank_lines_but_behind_a_bare_first_one(rt: HostRuntime) -> Result<(), Fail> {
+fn an_item_keeps_blank_lines_but_after_a_bare_first_one(rt: HostRuntime) -> Result<(), Fail> {
     // CommonMark 0.31.2, example 280
     let item = Container::Item { width: 2 };
     let blank = LineRest::new(b" \nfoo", 0);
@@ -413,7 +413,7 @@ fn continuation_lines_of_html(rt: HostRuntime) -> Result<(), Fail> {
 }
 
 #[test]
-fn a_footnote_definition_takes_the_blanks_behind_its_marker(rt: HostRuntime) -> Result<(), Fail> {
+fn a_footnote_definition_takes_the_blanks_after_its_marker(rt: HostRuntime) -> Result<(), Fail> {
     let line = LineRest::new(b" [^a b]: \tc", 0);
     assert_eq!(rt; footnote(line, Options::empty()).is_some(), false);
     let found = footnote(line, Options::ENABLE_FOOTNOTES);

@@ -4,7 +4,7 @@ use cmark_items::{Allocations, Item, ItemBody, ListFlags};
 use cmark_leaf_text::LeafLine;
 use cmark_text::{Event, Tag, TagEnd};
 use cmark_tree::Tree;
-use cmark_walk::{Met, Walk};
+use cmark_block_walk::{Met, Walk};
 use std::alloc::{AllocError, Global};
 use std::test::Fail;
 

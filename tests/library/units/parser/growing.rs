@@ -4,7 +4,7 @@
 use bitflags::Flags;
 use cmark_blocks::{FirstPass, run_first_pass};
 use cmark_html::Writer;
-use cmark_parser::{Parser, parse_rest, to_html, write_rest};
+use cmark_parser::{Filtering, Parser, parse_rest, to_html, write_rest};
 use cmark_text::{BasicEntities, Event, Options};
 use cmark_inline::DefaultBrokenLinkCallback;
 use cmark_items::Allocations;
@@ -60,11 +60,12 @@ fn in_two(
 ) -> Result<String, AllocError> {
     let mut html = String::new(alloc);
     let mut writer = Writer::new(alloc);
+    let filter = Filtering::AsTheyAre;
     let (front, _) = text.split_at(from);
     let mut first = Parser::new_ext(alloc, front, options, &BasicEntities)?;
-    write_rest(&mut html, &mut writer, &mut first)?;
+    write_rest(&mut html, &mut writer, &mut first, &filter)?;
     let mut rest = rest_of(alloc, text, from, options)?;
-    write_rest(&mut html, &mut writer, &mut rest)?;
+    write_rest(&mut html, &mut writer, &mut rest, &filter)?;
     Ok(html)
 }
 

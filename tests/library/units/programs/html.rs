@@ -4,7 +4,7 @@ ghost use Rattle.std.specs.Prelude.{◌≡◌};
 
 use super::scripted::{Answer, Scripted};
 use bitflags::Flags;
-use mdhtml_parts::{RunFault, Watched};
+use program_io::{RunFault, Watched};
 use mdhtml_run::{run, run_filtered};
 use pulldown_cmark::{BasicEntities, Options};
 use std::alloc::{AllocError, Global};

@@ -3,8 +3,8 @@
 ghost use Rattle.std.specs.Prelude.{◌≡◌, ◌++◌, codes};
 
 use super::scripted::{Answer, Scripted};
-use mdhtml_parts::run::run;
-use mdhtml_parts::{PATIENCE, Render, RunFault, Watched, read_all, status};
+use program_io::run::run;
+use program_io::{PATIENCE, Render, RunFault, Watched, read_all, status};
 use std::alloc::{AllocError, Global};
 use std::test::Fail;
 

@@ -2,10 +2,10 @@
 
 use super::scripted::Scripted;
 use bitflags::Flags;
-use cmark_text_parts::{EntityLookup, Options};
-use mdhtml_parts::{RunFault, Watched, status};
+use cmark_values::{EntityLookup, Options};
+use program_io::{RunFault, Watched, status};
 use mdhtml_run::run;
-use mdhtml_settings::{LineFault, Program, Settings, parse_line, read_entities};
+use program_settings::{LineFault, Program, Settings, parse_line, read_entities};
 use std::alloc::Global;
 use std::test::Fail;
 

@@ -73,7 +73,7 @@ fn bullets(rt: HostRuntime) -> Result<(), Fail> {
 }
 
 #[test]
-fn a_thematic_break_behind_bullets(rt: HostRuntime) -> Result<(), Fail> {
+fn a_thematic_break_after_bullets(rt: HostRuntime) -> Result<(), Fail> {
     let mut line = LineStart::new(b"- - * * *");
     assert_eq!(rt; line.scan_list_marker_with_indent(0), Some((b'-', 0, 2)));
     assert_eq!(rt; line.scan_list_marker_with_indent(0), Some((b'-', 0, 2)));

@@ -1,5 +1,5 @@
-use cmark_scan_over_lines::{HtmlTag, scan_html_block_inner, scan_link_label_rest};
-use cmark_scan_parts::{
+use cmark_scan::{HtmlTag, scan_html_block_inner, scan_link_label_rest};
+use cmark_scan_bytes::{
     HtmlScanGuard, scan_autolink, scan_entity, scan_footnote_marker, scan_inline_html_comment,
     scan_inline_html_processing, scan_link_dest, scan_rev_while, scan_tag, scan_while,
     scan_wikilink_pipe, unescape,

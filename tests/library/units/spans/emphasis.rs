@@ -195,7 +195,7 @@ fn quotes_in_a_line(rt: HostRuntime) -> Result<(), Fail> {
 }
 
 #[test]
-fn a_single_quote_behind_a_bracket(rt: HostRuntime) -> Result<(), Fail> {
+fn a_single_quote_after_a_bracket(rt: HostRuntime) -> Result<(), Fail> {
     let quote = quote_of(false, Some(')'), Some('s'));
     assert_eq!(rt;
         (quote.double, quote.opens, quote.closes),

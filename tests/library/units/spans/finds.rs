@@ -1,11 +1,11 @@
 //! Tests of the searches in a leaf's text, with ample memory. Most texts are examples of CommonMark 6.
 
 use bitflags::Flags;
-use cmark_finds::{
+use cmark_span_scan::{
     CodeSpan, LoopInstruction, code_span, code_text, inline_html, iterate_special_bytes,
     next_special, special_bytes,
 };
-use cmark_links::{
+use cmark_link_scan::{
     LineBreak, LinkTail, collapsed_end, is_bracketed_label, line_break, link_tail, reference_label,
     title_text,
 };

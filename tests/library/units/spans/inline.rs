@@ -6,7 +6,7 @@ use cmark_inline::{
     Reader, Steps, special_bytes,
 };
 use cmark_items::{FootnoteDefs, LinkDef, RefDefs};
-use cmark_leaf_events::LeafEvents;
+use cmark_slot_events::LeafEvents;
 use cmark_leaf_text::{LeafLine, LeafText};
 use cmark_text::{BasicEntities, CowStr, Event, LinkLabel, LinkType, Options, Tag, TagEnd};
 use std::alloc::{AllocError, Global};

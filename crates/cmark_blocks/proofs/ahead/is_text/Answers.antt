@@ -1,8 +1,8 @@
 use Rattle.std.proofs.Common.{not, ◌&&◌, true, Some, None, option_map, sym, ap, ◌∙◌}
 use Rattle.cmark_grammar.specs.Leaves.{underlines}
 use Rattle.cmark_grammar.specs.Openings.{interrupts, is_none}
-use Rattle.cmark_text_parts.specs.Shown.{level_number, shown_options}
-use Rattle.cmark_lines.specs.Rests.{row_of}
+use Rattle.cmark_values.specs.Shown.{level_number, shown_options}
+use Rattle.cmark_line_rules.specs.Rests.{row_of}
 use Rattle.cmark_blocks.proofs.ahead.is_text.Goals as goal
 
 pub returns-then-interrupts : goal.returns-then-interrupts

@@ -1,5 +1,5 @@
 use Rattle.std.proofs.Common.{◌∙◌, arith, subst}
-use Rattle.cmark_lines.specs.Rests.{row_of}
+use Rattle.cmark_line_rules.specs.Rests.{row_of}
 use Rattle.cmark_blocks.specs.IndentedLines.{DrawsLines}
 use Rattle.cmark_blocks.proofs.IndentedSteps.{draws-line, rows-more}
 use Rattle.cmark_blocks.proofs.code.draw_blank_lines.Goals as goal

@@ -1,7 +1,7 @@
 use Rattle.std.proofs.Common.{◌≡◌, List, ℕ, map, take}
 use Rattle.cmark_tree.specs.Building.{IsPlaced}
 use Rattle.cmark_items.specs.Tables.{defined}
-use Rattle.cmark_lines.specs.Rests.{row_of}
+use Rattle.cmark_line_rules.specs.Rests.{row_of}
 use Rattle.cmark_blocks.specs.IndentedLines.{DrawsLines}
 use Rattle.cmark_blocks.proofs.code.draw_blank_lines.Given as goal
 

@@ -1,7 +1,7 @@
 use Rattle.std.proofs.Common.{◌≡◌, length, get_or, ap, ◌∙◌, arith}
 use Rattle.std.proofs.lemmas.Str.{IsCharBoundary-after_ascii}
 use Rattle.cmark_grammar.specs.Rows.{words_of}
-use Rattle.cmark_lines.specs.Rests.{row_of}
+use Rattle.cmark_line_rules.specs.Rests.{row_of}
 use Rattle.cmark_blocks.proofs.footnote.label_in.Goals as goal
 
 pub range-requires-clause-start_boundary : goal.range-requires-clause-start_boundary

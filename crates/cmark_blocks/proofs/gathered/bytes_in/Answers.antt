@@ -1,6 +1,6 @@
 use Rattle.std.proofs.Common.{sym, ap, ◌∙◌, arith}
 use Rattle.cmark_grammar.specs.Tokens.{slice}
-use Rattle.cmark_lines.proofs.RestSteps.{begin-content_end}
+use Rattle.cmark_line_rules.proofs.RestSteps.{begin-content_end}
 use Rattle.cmark_blocks.proofs.GatherSteps.{rest-slice}
 use Rattle.cmark_blocks.proofs.gathered.bytes_in.Goals as goal
 

@@ -3,7 +3,7 @@ use Rattle.std.proofs.lemmas.Result.{on_ok_weaker}
 use Rattle.cmark_grammar.specs.BlockDocument.{Heading}
 use Rattle.cmark_block_model.specs.Drawing.{texts_cut}
 use Rattle.cmark_builder.specs.Drawn.{Draws}
-use Rattle.cmark_text_parts.specs.Shown.{level_number}
+use Rattle.cmark_values.specs.Shown.{level_number}
 use Rattle.cmark_blocks.specs.Setext.{FindsIf}
 use Rattle.cmark_blocks.proofs.SetextSteps.{none-attributes, found-unbraced}
 use Rattle.cmark_blocks.proofs.heading.setext_body.Goals as goal

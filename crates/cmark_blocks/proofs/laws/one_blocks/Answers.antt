@@ -5,7 +5,7 @@ use Rattle.cmark_grammar.specs.Derivation.{Derives}
 use Rattle.cmark_grammar.specs.Options.{Options}
 use Rattle.cmark_grammar.specs.References.{references}
 use Rattle.cmark_grammar.specs.SpanDocuments.{footnote_labels, segments}
-use Rattle.cmark_grammar.proofs.BlockDocumentOne.{document-only}
+use Rattle.cmark_block_model.proofs.BlockDocumentOne.{document-only}
 use Rattle.cmark_blocks.proofs.laws.one_blocks.Goals as goal
 
 same : (text : List ℕ) (options : Options) (lookup : Lookup) (first second : BlockDocument) → Derives text options lookup first → Derives text options lookup second → first ≡ second

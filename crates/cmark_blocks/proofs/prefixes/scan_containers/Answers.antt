@@ -1,8 +1,8 @@
 use Rattle.std.proofs.Common.{◌+◌, length, option_map, ◌∙◌, sym, ap, subst, arith}
 use Rattle.std.specs.Slice.Iter.{iter_rest}
-use Rattle.cmark_scan_blocks.specs.LineStart.{row_from}
+use Rattle.cmark_scan_lines.specs.LineStart.{row_from}
 use Rattle.cmark_blocks.specs.Prefixes.{shown_container}
-use Rattle.cmark_text_parts.specs.Shown.{shown_options}
+use Rattle.cmark_values.specs.Shown.{shown_options}
 use Rattle.cmark_blocks.proofs.PrefixSteps.{Continuation, further-first, next-node, passed, taken, lacked, over}
 use Rattle.cmark_blocks.proofs.prefixes.scan_containers.Goals as goal
 
@@ -25,21 +25,21 @@ item-requires c =
     next-node (shown_options c.args.options) c.args.tree.now h.0.up c.args.line.now c.loop-ix.line c.loop-ix.count c.in-Some.ix.now rest
     (subst (Continuation (shown_options c.args.options) c.args.tree.now h.0.up c.args.line.now c.loop-ix.line c.loop-ix.count) c.in-Some.ensures.steps (c.loop-ix.invariant.3 h.0 h.1))
 
-pub returns-in_default-behind_prefix-clause-count : goal.returns-in_default-behind_prefix-clause-count
-returns-in_default-behind_prefix-clause-count c = λ z holds at line_end. sym (ap (λ k. k.count) (
+pub returns-in_default-after_prefix-clause-count : goal.returns-in_default-after_prefix-clause-count
+returns-in_default-after_prefix-clause-count c = λ z holds at line_end. sym (ap (λ k. k.count) (
     lacked (shown_options c.args.options) c.args.tree.now z.up c.args.line.now c.loop-ix.line c.loop-ix.count c.in-Some.ix.now (iter_rest c.next.new.self)
     (subst (Continuation (shown_options c.args.options) c.args.tree.now z.up c.args.line.now c.loop-ix.line c.loop-ix.count) c.in-Some.ensures.steps (c.loop-ix.invariant.3 z holds))
     c.item.result.now c.item.ensures (option_map shown_container c.container_of.result) c.container_of.ensures (shown_container c.in-Some-container_of.container)
     (ap (option_map shown_container) c.in-Some-container_of.is)
-    (λ at line_end. ap (option_map (row_from at line_end)) (sym c.in_default-behind_prefix.is) ∙ c.behind_prefix.ensures at line_end) at line_end))
+    (λ at line_end. ap (option_map (row_from at line_end)) (sym c.in_default-after_prefix.is) ∙ c.after_prefix.ensures at line_end) at line_end))
 
-pub returns-in_default-behind_prefix-clause-rest : goal.returns-in_default-behind_prefix-clause-rest
-returns-in_default-behind_prefix-clause-rest c = λ z holds at line_end. sym (ap (λ k. k.rest) (
+pub returns-in_default-after_prefix-clause-rest : goal.returns-in_default-after_prefix-clause-rest
+returns-in_default-after_prefix-clause-rest c = λ z holds at line_end. sym (ap (λ k. k.rest) (
     lacked (shown_options c.args.options) c.args.tree.now z.up c.args.line.now c.loop-ix.line c.loop-ix.count c.in-Some.ix.now (iter_rest c.next.new.self)
     (subst (Continuation (shown_options c.args.options) c.args.tree.now z.up c.args.line.now c.loop-ix.line c.loop-ix.count) c.in-Some.ensures.steps (c.loop-ix.invariant.3 z holds))
     c.item.result.now c.item.ensures (option_map shown_container c.container_of.result) c.container_of.ensures (shown_container c.in-Some-container_of.container)
     (ap (option_map shown_container) c.in-Some-container_of.is)
-    (λ at line_end. ap (option_map (row_from at line_end)) (sym c.in_default-behind_prefix.is) ∙ c.behind_prefix.ensures at line_end) at line_end))
+    (λ at line_end. ap (option_map (row_from at line_end)) (sym c.in_default-after_prefix.is) ∙ c.after_prefix.ensures at line_end) at line_end))
 
 pub overflow_add-count : goal.overflow_add-count
 overflow_add-count c = let l = ap length c.in-Some.ensures.steps in omega (arith, l, c.loop-ix.invariant.2)
@@ -55,8 +55,8 @@ loop-ix-preserved c =
           (subst (Continuation (shown_options c.args.options) c.args.tree.now z.up c.args.line.now c.loop-ix.line c.loop-ix.count) c.in-Some.ensures.steps (c.loop-ix.invariant.3 z holds))
           c.item.result.now c.item.ensures (option_map shown_container c.container_of.result) c.container_of.ensures (shown_container c.in-Some-container_of.container)
           (ap (option_map shown_container) c.in-Some-container_of.is)
-          c.in-Some-behind_prefix.behind
-          (λ at line_end. ap (option_map (row_from at line_end)) (sym c.in-Some-behind_prefix.is) ∙ c.behind_prefix.ensures at line_end)
+          c.in-Some-after_prefix.following
+          (λ at line_end. ap (option_map (row_from at line_end)) (sym c.in-Some-after_prefix.is) ∙ c.after_prefix.ensures at line_end)
           (c.loop-ix.count + 1) (omega arith),
     )
 

@@ -3,7 +3,7 @@ use Rattle.std.specs.Slice.Iter.{iter_rest}
 use Rattle.cmark_tree.specs.Tree.{Holds}
 use Rattle.cmark_tree.specs.Zip.{Zip}
 use Rattle.cmark_items.specs.declared.item.Item.{Item}
-use Rattle.cmark_text_parts.specs.Shown.{shown_options}
+use Rattle.cmark_values.specs.Shown.{shown_options}
 use Rattle.cmark_blocks.proofs.PrefixSteps.{Continuation}
 use Rattle.cmark_blocks.proofs.prefixes.scan_containers.Given as goal
 

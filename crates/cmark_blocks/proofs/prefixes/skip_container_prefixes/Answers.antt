@@ -1,6 +1,6 @@
 use Rattle.std.proofs.Common.{sym, ap, ◌∙◌}
 use Rattle.cmark_grammar.specs.Rows.{begin_of}
-use Rattle.cmark_text_parts.specs.Shown.{shown_options}
+use Rattle.cmark_values.specs.Shown.{shown_options}
 use Rattle.cmark_blocks.specs.Prefixes.{containers_of, kept}
 use Rattle.cmark_blocks.proofs.prefixes.skip_container_prefixes.Goals as goal
 

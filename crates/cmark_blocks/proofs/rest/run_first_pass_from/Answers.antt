@@ -1,4 +1,4 @@
-use Rattle.cmark_text_parts.specs.Shown.{shown_options}
+use Rattle.cmark_values.specs.Shown.{shown_options}
 use Rattle.cmark_block_model.specs.BlockPass.{lines_fed}
 use Rattle.cmark_block_model.specs.Tails.{starting_at}
 use Rattle.cmark_blocks.specs.Ahead.{lines_at}

@@ -1,4 +1,4 @@
-use Rattle.cmark_grammar.proofs.EmphasisSound.{sound}
+use Rattle.cmark_inline_model.proofs.EmphasisSound.{sound}
 use Rattle.cmark_emphasis.proofs.laws.emphasis_is_derived.Goals as goal
 
 pub returns : goal.returns

@@ -1,7 +1,7 @@
 use Rattle.std.proofs.Common.{sym, ◌∙◌, ap, subst, length, []}
 use Rattle.cmark_emphasis.specs.Shown.{shown_pair}
 use Rattle.cmark_emphasis.specs.Slots.{AreBalanced, mark_pairs}
-use Rattle.cmark_grammar.specs.EmphasisModel.{spans_of}
+use Rattle.cmark_inline_model.specs.EmphasisModel.{spans_of}
 use Rattle.std.specs.Prelude.{map}
 use Rattle.cmark_emphasis.proofs.Marked.{length-stays, fresh, ends, within_all, balanced}
 use Rattle.cmark_emphasis.proofs.marking.write_slots.Goals as goal

@@ -1,6 +1,6 @@
 use Rattle.std.proofs.Common.{◌≡◌, length, drop, map}
 use Rattle.cmark_emphasis.specs.Shown.{shown_pair}
-use Rattle.cmark_grammar.specs.SpanEntries.{AllWithin}
+use Rattle.cmark_inline_model.specs.SpanEntries.{AllWithin}
 use Rattle.cmark_emphasis.specs.Slots.{stays, mark_pairs}
 use Rattle.cmark_emphasis.proofs.marking.write_slots.Given as goal
 

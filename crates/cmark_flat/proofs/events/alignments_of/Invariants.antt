@@ -1,6 +1,6 @@
 use Rattle.std.proofs.Common.{◌≡◌, drop, map}
 use Rattle.cmark_flat.specs.Decode.{alignment_of, each}
-use Rattle.cmark_text_parts.specs.Shown.{shown_alignment}
+use Rattle.cmark_values.specs.Shown.{shown_alignment}
 use Rattle.cmark_flat.proofs.Loop.{with_front}
 use Rattle.cmark_flat.proofs.events.alignments_of.Given as goal
 

@@ -24,7 +24,7 @@ loop-ranged-preserved c =
     let es : List Event = bare (map shown_ranged rs) in
     let w = writing c.loop-ranged.writer in
     record {
-      written = written_on w es (shown r.event) i.kept (string_bytes c.args.out.now) (string_bytes c.loop-ranged.out) (string_bytes c.write_event.new.out) i.written c.in_ok-write_event.ensures.ok
+      written = written_on w es (shown r.event) i.kept (string_bytes c.args.out.now) (string_bytes c.loop-ranged.out) (string_bytes c.write_event.new.out) i.written c.in_ok-write_event.ensures.writes.ok
           ∙ ap (λ l. string_bytes c.args.out.now ++ pieces l) (sym (one_more rs r));
       kept = kept_on w es (shown r.event) i.kept (writing c.write_event.new.writer) c.in_ok-write_event.ensures.state ∙ ap (λ l. moved_all at_line_start l) (sym (one_more rs r));
     }

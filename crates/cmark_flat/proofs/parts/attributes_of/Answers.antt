@@ -2,7 +2,7 @@ use Rattle.std.proofs.Common.{◌≡◌, ◌+◌, Some, None, drop, length, map,
 use Rattle.std.proofs.lemmas.List.{length-drop, map_push}
 use Rattle.cmark_flat.specs.Decode.{attribute_at, attributes_of}
 use Rattle.cmark_flat.specs.Records.{shown_record}
-use Rattle.cmark_text_parts.specs.Shown.{shown_attribute}
+use Rattle.cmark_values.specs.Shown.{shown_attribute}
 use Rattle.cmark_flat.proofs.Loop.{attribute_fails, attribute_step, attributes_done, with_front}
 use Rattle.cmark_flat.proofs.parts.attributes_of.Goals as goal
 

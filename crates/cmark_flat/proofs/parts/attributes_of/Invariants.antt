@@ -1,7 +1,7 @@
 use Rattle.std.proofs.Common.{◌≡◌, ◌≤◌, ◌-◌, drop, length, map}
 use Rattle.cmark_flat.specs.Decode.{attributes_of}
 use Rattle.cmark_flat.specs.Records.{shown_record}
-use Rattle.cmark_text_parts.specs.Shown.{shown_attribute}
+use Rattle.cmark_values.specs.Shown.{shown_attribute}
 use Rattle.cmark_flat.proofs.Loop.{with_front}
 use Rattle.cmark_flat.proofs.parts.attributes_of.Given as goal
 

@@ -1,7 +1,7 @@
 use Rattle.std.proofs.Common.{◌≡◌, length, map}
 use Rattle.cmark_flat.specs.Decode.{classes_at}
 use Rattle.cmark_flat.specs.Records.{shown_record}
-use Rattle.cmark_text_parts.specs.Shown.{text_bytes}
+use Rattle.cmark_values.specs.Shown.{text_bytes}
 use Rattle.cmark_flat.proofs.Loop.{with_classes}
 use Rattle.cmark_flat.proofs.parts.classes_at.Given as goal
 

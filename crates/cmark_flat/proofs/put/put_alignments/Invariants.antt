@@ -1,6 +1,6 @@
 use Rattle.std.proofs.Common.{◌≡◌, ◌++◌, map, take}
 use Rattle.cmark_flat.specs.Flat.{alignment_number}
-use Rattle.cmark_text_parts.specs.Shown.{shown_alignment}
+use Rattle.cmark_values.specs.Shown.{shown_alignment}
 use Rattle.cmark_flat.proofs.put.put_alignments.Given as goal
 
 abbrev pub invariant-loop-alignment : goal.invariant-loop-alignment

@@ -1,7 +1,7 @@
 use Rattle.std.proofs.Common.{◌≡◌, ◌++◌, map, take}
 use Rattle.cmark_flat.specs.Flat.{class_part}
 use Rattle.cmark_flat.specs.Records.{spelled}
-use Rattle.cmark_text_parts.specs.Shown.{text_bytes}
+use Rattle.cmark_values.specs.Shown.{text_bytes}
 use Rattle.cmark_flat.proofs.put.put_classes.Given as goal
 
 abbrev pub invariant-loop-class : goal.invariant-loop-class

@@ -1,6 +1,9 @@
-use Rattle.std.proofs.Common.{arith}
+use Rattle.std.proofs.Common.{rules, arith}
 use Rattle.std.proofs.lemmas.Grind.{common_steps}
 use Rattle.cmark_html.proofs.short.write_short.Goals as goal
 
-pub returns-in-HardBreak-clause-err : goal.returns-in-HardBreak-clause-err
-returns-in-HardBreak-clause-err c = grind (arith, common_steps)
+pub returns-in-HardBreak-clause-writes : goal.returns-in-HardBreak-clause-writes
+returns-in-HardBreak-clause-writes c = record {
+  ok = search rules;
+  err = grind (arith, common_steps);
+}

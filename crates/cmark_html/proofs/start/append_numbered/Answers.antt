@@ -1,6 +1,9 @@
-use Rattle.std.proofs.Common.{arith}
+use Rattle.std.proofs.Common.{rules, arith}
 use Rattle.std.proofs.lemmas.Grind.{elements}
 use Rattle.cmark_html.proofs.start.append_numbered.Goals as goal
 
-pub returns-clause-ok : goal.returns-clause-ok
-returns-clause-ok c = grind (arith, elements)
+pub returns : goal.returns
+returns c = record {
+  ok = grind (arith, elements);
+  err = search rules;
+}

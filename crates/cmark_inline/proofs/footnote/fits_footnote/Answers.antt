@@ -1,5 +1,5 @@
 use Rattle.std.proofs.Common.{sym, ◌∙◌}
-use Rattle.cmark_text_parts.specs.Shown.{shown_options}
+use Rattle.cmark_values.specs.Shown.{shown_options}
 use Rattle.cmark_inline.proofs.FootnoteSteps.{fits-on-one-line}
 use Rattle.cmark_inline.proofs.footnote.fits_footnote.Goals as goal
 

@@ -2,7 +2,7 @@ use Rattle.std.specs.Prelude.{Some}
 use Rattle.std.proofs.Common.{refl, sym, ap, subst, ◌∙◌}
 use Rattle.cmark_grammar.specs.Labels.{fold}
 use Rattle.cmark_leaf_text.specs.Reads.{is_cell_of}
-use Rattle.cmark_text_parts.specs.Shown.{shown_options}
+use Rattle.cmark_values.specs.Shown.{shown_options}
 use Rattle.cmark_inline.specs.Footnoted.{CountsOf, forms_footnote}
 use Rattle.cmark_inline.proofs.FootnoteSteps.{counts-found, none-off}
 use Rattle.cmark_inline.proofs.UsesCounted.{either-rises, kept-rise}

@@ -1,7 +1,7 @@
 use Rattle.std.proofs.Common.{◌≤◌, ◌<◌, ◌+◌, ◌-◌, ℕ, List, length, drop, get_or, sym, ap, ◌∙◌, arith, true≢false}
 use Rattle.std.proofs.lemmas.Str.{IsCharBoundary-before_ascii}
 use Rattle.cmark_grammar.specs.Autolinks.{autolink_in}
-use Rattle.cmark_scan_parts.specs.Shown.{shown_cut}
+use Rattle.cmark_scan_bytes.specs.Shown.{shown_cut}
 use Rattle.cmark_inline.proofs.AutolinkSteps.{autolink-at}
 use Rattle.cmark_inline.proofs.place.autolink_end.Goals as goal
 use Rattle.cmark_inline.proofs.place.autolink_end.Goals.{else-end-at-via-then-end-at+else-is_char_boundary, else-end-at-via-else-end-at}

@@ -2,7 +2,7 @@ use Rattle.std.proofs.Common.{◌≡◌, ◌≤◌, ◌<◌, ◌-◌, ℕ, true,
 use Rattle.std.proofs.Math.Nat.{eq-or-lt_of_le}
 use Rattle.std.proofs.lemmas.Str.{IsCharBoundary-before_ascii}
 use Rattle.cmark_grammar.specs.Columns.{is_blank_byte}
-use Rattle.cmark_grammar.proofs.RowEdges.{blank-ascii}
+use Rattle.cmark_block_model.proofs.RowEdges.{blank-ascii}
 use Rattle.cmark_inline.proofs.place.before_blanks.Goals as goal
 
 pub overflow_sub-text_end : goal.overflow_sub-text_end

@@ -16,5 +16,5 @@ returns-clause-value c =
       | in-10 w ↦ ends-line (get_or c.as_bytes.result.now (at - 1) 0) w.in-10.is
       | in_default w ↦ absurd (true≢false (sym c.if-not-matches.false ∙ w.matches-is))
     ] in
-    sym (read-on-words c.args.text.now at c.requires.0 c.behind_blanks.result (let q : 0 < at = omega (arith, some) in q)
-    (ap (λ (bs : List ℕ). not (is_content (get_or bs (at - 1) 0))) (sym c.as_bytes.ensures.value) ∙ ends) c.behind_blanks.ensures.value c.behind_blanks.ensures.boundary.0)
+    sym (read-on-words c.args.text.now at c.requires.0 c.after_leading_blanks.result (let q : 0 < at = omega (arith, some) in q)
+    (ap (λ (bs : List ℕ). not (is_content (get_or bs (at - 1) 0))) (sym c.as_bytes.ensures.value) ∙ ends) c.after_leading_blanks.ensures.value c.after_leading_blanks.ensures.boundary.0)

@@ -1,7 +1,7 @@
 use Rattle.std.specs.Prelude.{IfOk}
 use Rattle.std.proofs.Common.{◌≡◌, subst, ◌∙◌}
 use Rattle.cmark_grammar.specs.Labels.{fold, normal_form}
-use Rattle.cmark_text_parts.specs.Labelled.{link_key, link_text}
+use Rattle.cmark_values.specs.Labelled.{link_key, link_text}
 use Rattle.cmark_inline.proofs.reference.label_of.Goals as goal
 
 pub returns-clause-key : goal.returns-clause-key

@@ -3,7 +3,7 @@ use Rattle.std.proofs.Common.{◌+◌, ◌-◌, List, ℕ, None, Some, refl, sym
 use Rattle.cmark_grammar.specs.Labels.{fold, normal_form}
 use Rattle.cmark_references.specs.Definitions.{definition}
 use Rattle.cmark_leaf_text.specs.Reads.{is_cell_of, place_of}
-use Rattle.cmark_text_parts.specs.Shown.{shown_link_type}
+use Rattle.cmark_values.specs.Shown.{shown_link_type}
 use Rattle.cmark_inline.specs.Footnoted.{as_label}
 use Rattle.cmark_inline.specs.Linked.{Answers, IsAnswered, IsLed, said_by, shown_destination}
 use Rattle.cmark_inline.proofs.LastCalls.{on-err}

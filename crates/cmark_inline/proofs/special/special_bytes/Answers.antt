@@ -1,7 +1,7 @@
 use Rattle.std.proofs.Common.{◌≡◌, ℕ, List, ◌||◌, Bool, sym, ap, ◌∙◌}
 use Rattle.cmark_grammar.specs.Options.{Options}
 use Rattle.cmark_search.specs.Sets.{in_rows}
-use Rattle.cmark_text_parts.specs.Shown.{shown_options}
+use Rattle.cmark_values.specs.Shown.{shown_options}
 use Rattle.cmark_inline.specs.declared.special.TheConstants.{ALWAYS, CARET, EQUALS, FORMULAS, PIPE, PUNCTUATION, TILDE}
 use Rattle.cmark_inline.proofs.SpecialRows.{all_layers, layer, no_row}
 use Rattle.cmark_inline.proofs.special.special_bytes.Goals.{then-contains, else-contains}

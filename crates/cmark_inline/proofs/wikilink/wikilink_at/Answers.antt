@@ -7,13 +7,13 @@ use Rattle.cmark_grammar.specs.Autolinks.{piped_name_in}
 use Rattle.cmark_grammar.specs.Tokens.{slice}
 use Rattle.cmark_leaf_text.specs.Reads.{IsPart, IsFirstFrom, source_of}
 use Rattle.cmark_leaf_text.proofs.StretchSteps.{slice-length}
-use Rattle.cmark_scan_parts.specs.Shown.{cut_at, shown_cut}
+use Rattle.cmark_scan_bytes.specs.Shown.{cut_at, shown_cut}
 use Rattle.cmark_inline.specs.Wikilinks.{wiki_start}
 use Rattle.cmark_inline.proofs.SourcePlaces.{first-edge}
 use Rattle.cmark_inline.proofs.WikiSteps.{is-whole, is-piped, slice-edge}
 use Rattle.cmark_inline.proofs.wikilink.wikilink_at.Goals as goal
 
--- the whole of a list from its front
+-- all of a list from its first element on
 front : (bs : List ℕ) → take (length bs) (drop 0 bs) ≡ bs
 front bs = take_all (length bs) bs (omega arith)
 
@@ -21,8 +21,8 @@ nonempty : (n : ℕ) → (n == 0) ≡ false → 0 < n
 nonempty zero e = absurd (true≢false e)
 nonempty (suc n) e = omega arith
 
-not-behind : (a b : ℕ) → (a < b → ⊥) → b ≤ a
-not-behind a b h = go (nat_lt a b) refl
+not-following : (a b : ℕ) → (a < b → ⊥) → b ≤ a
+not-following a b h = go (nat_lt a b) refl
   where
     go : (z : Bool) → nat_lt a b ≡ z → b ≤ a
     go true e = absurd (h (ltb-true a b e))
@@ -72,4 +72,4 @@ returns-clause-display c =
     let first = c.first_from.ensures in
     let close : ℕ = c.args.close in
     let there = c.range-source_end.ensures.start in
-    (subst (λ (t : List ℕ). IsCharBoundary t c.first_from.result) (sym c.requires.same) (first-edge leaf c.requires.read (a + c.in-Some.piped.end) c.first_from.result edge first), not-behind close c.first_from.result (λ l. let p = first.before close l in omega (arith, p, there, high, n, m)))
+    (subst (λ (t : List ℕ). IsCharBoundary t c.first_from.result) (sym c.requires.same) (first-edge leaf c.requires.read (a + c.in-Some.piped.end) c.first_from.result edge first), not-following close c.first_from.result (λ l. let p = first.before close l in omega (arith, p, there, high, n, m)))

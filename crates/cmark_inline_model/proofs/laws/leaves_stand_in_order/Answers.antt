@@ -1,5 +1,5 @@
 use Rattle.std.proofs.Common.{length, arith}
-use Rattle.cmark_grammar.proofs.RangeLaws.{derived-order}
+use Rattle.cmark_block_model.proofs.RangeLaws.{derived-order}
 use Rattle.cmark_inline_model.proofs.DocumentLeaves.{segments-turn}
 use Rattle.cmark_inline_model.proofs.laws.leaves_stand_in_order.Goals as goal
 

@@ -1,5 +1,5 @@
 use Rattle.std.proofs.Common.{◌≡◌, map, take}
-use Rattle.cmark_text_parts.specs.Shown.{shown_alignment}
+use Rattle.cmark_values.specs.Shown.{shown_alignment}
 use Rattle.cmark_json.specs.EventData.{alignment_data}
 use Rattle.serde_json.specs.View.{view}
 use Rattle.cmark_json.proofs.leaf.alignments.Given as goal

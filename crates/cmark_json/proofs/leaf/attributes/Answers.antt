@@ -1,5 +1,5 @@
 use Rattle.std.proofs.Common.{ap, ◌∙◌}
-use Rattle.cmark_text_parts.specs.Shown.{shown_attribute}
+use Rattle.cmark_values.specs.Shown.{shown_attribute}
 use Rattle.cmark_json.specs.EventData.{attribute_data}
 use Rattle.serde_json.specs.Data.{array}
 use Rattle.serde_json.specs.View.{items_of}

@@ -1,5 +1,5 @@
 use Rattle.std.proofs.Common.{◌≡◌, map, take}
-use Rattle.cmark_text_parts.specs.Shown.{text_bytes}
+use Rattle.cmark_values.specs.Shown.{text_bytes}
 use Rattle.serde_json.specs.Data.{string}
 use Rattle.serde_json.specs.View.{view}
 use Rattle.cmark_json.proofs.leaf.texts.Given as goal

@@ -1,4 +1,4 @@
-use Rattle.cmark_grammar.specs.Merge.{ranged_of, text_of_ranged}
+use Rattle.cmark_merge.specs.Merge.{ranged_of, text_of_ranged}
 use Rattle.cmark_merge.proofs.SameMerge.{merge-ok}
 use Rattle.cmark_merge.proofs.laws.items_are_merged_as_their_events.Goals as goal
 

@@ -1,7 +1,7 @@
 use Rattle.std.proofs.Common.{string_bytes, subst}
 use Rattle.std.proofs.lemmas.Result.{on_ok_weaker}
 use Rattle.cmark_html.specs.Writer.{writing}
-use Rattle.cmark_span_walk.specs.Walking.{as_next}
+use Rattle.cmark_event_walk.specs.Walking.{as_next}
 use Rattle.cmark_parser.specs.Parsing.{GivesAs}
 use Rattle.cmark_parser.specs.Rendering.{WritesLong, WritesSome, written}
 use Rattle.cmark_parser.proofs.RenderSteps.{all-written, joined, long-kept, none-open, none-written, short-written}
@@ -21,15 +21,15 @@ loop-short-preserved-in-Continue-branch-3 g c =
     let replacement = g.E.EntityLookup.replacement in
     let filtered = g.T.Filter.filtered c.args.filter.now in
     let parser = c.loop-short.parser in
-    let behind = c.next_short.new.self in
+    let following = c.next_short.new.self in
     let short = c.in-Span.short in
     let made = c.short_of.result in
     let old = written (writing c.args.writer.now) (string_bytes c.args.out.now) in
     let mid = written (writing c.loop-short.writer) (string_bytes c.loop-short.out) in
     let new = written (writing c.write_short.new.writer) (string_bytes c.write_short.new.out) in
     let e = c.in_ok-write_short-in-Span.ensures in
-    let h = subst (λ n. GivesAs Says replacement parser (as_next n) behind) c.in-Span.is c.in_ok-short.ensures.gives in (
-      joined Says replacement filtered c.args.parser.now parser behind old mid new c.loop-short.invariant.0 (short-written Says replacement filtered parser behind short made _ _ mid new h c.short_of.ensures c.loop-short.invariant.1 e.ok e.state),
+    let h = subst (λ n. GivesAs Says replacement parser (as_next n) following) c.in-Span.is c.in_ok-short.ensures.gives in (
+      joined Says replacement filtered c.args.parser.now parser following old mid new c.loop-short.invariant.0 (short-written Says replacement filtered parser following short made _ _ mid new h c.short_of.ensures c.loop-short.invariant.1 e.writes.ok e.state),
       none-open mid.writing new.writing made e.state,
       c.in_ok-short.ensures.ready,
     )
@@ -40,15 +40,15 @@ loop-short-preserved-in-Continue-branch-4 g c =
     let replacement = g.E.EntityLookup.replacement in
     let filtered = g.T.Filter.filtered c.args.filter.now in
     let parser = c.loop-short.parser in
-    let behind = c.next_short.new.self in
+    let following = c.next_short.new.self in
     let short = c.in-Block.short in
     let made = c.short_of-in-Block.result in
     let old = written (writing c.args.writer.now) (string_bytes c.args.out.now) in
     let mid = written (writing c.loop-short.writer) (string_bytes c.loop-short.out) in
     let new = written (writing c.write_short-in-Block.new.writer) (string_bytes c.write_short-in-Block.new.out) in
     let e = c.in_ok-write_short-in-Block.ensures in
-    let h = subst (λ n. GivesAs Says replacement parser (as_next n) behind) c.in-Block.is c.in_ok-short.ensures.gives in (
-      joined Says replacement filtered c.args.parser.now parser behind old mid new c.loop-short.invariant.0 (short-written Says replacement filtered parser behind short made _ _ mid new h c.short_of-in-Block.ensures c.loop-short.invariant.1 e.ok e.state),
+    let h = subst (λ n. GivesAs Says replacement parser (as_next n) following) c.in-Block.is c.in_ok-short.ensures.gives in (
+      joined Says replacement filtered c.args.parser.now parser following old mid new c.loop-short.invariant.0 (short-written Says replacement filtered parser following short made _ _ mid new h c.short_of-in-Block.ensures c.loop-short.invariant.1 e.writes.ok e.state),
       none-open mid.writing new.writing made e.state,
       c.in_ok-short.ensures.ready,
     )
@@ -60,14 +60,14 @@ loop-short-preserved g c =
     let filtered = g.T.Filter.filtered c.args.filter.now in
     let first = c.args.parser.now in
     let parser = c.loop-short.parser in
-    let behind = c.next_short.new.self in
+    let following = c.next_short.new.self in
     let old = written (writing c.args.writer.now) (string_bytes c.args.out.now) in
     let mid = written (writing c.loop-short.writer) (string_bytes c.loop-short.out) in
     let new = written (writing c.write_long.new.writer) (string_bytes c.write_long.new.out) in
-    let h = subst (λ n. GivesAs Says replacement parser (as_next n) behind) c.in-Long.is c.in_ok-short.ensures.gives in
-    let kept = joined Says replacement filtered first parser behind old mid mid c.loop-short.invariant.0 (long-kept Says replacement filtered parser behind mid h) in
-    let wrote = subst (λ b. WritesLong Says replacement filtered b behind mid c.write_long.new.parser new) c.if-not-is_given.false c.in_ok-is_given-in-Long.ensures.writes in
-    (joined Says replacement filtered first behind c.write_long.new.parser old mid new kept wrote.some, wrote.closed, c.in_ok-is_given-in-Long.ensures.ready)
+    let h = subst (λ n. GivesAs Says replacement parser (as_next n) following) c.in-Long.is c.in_ok-short.ensures.gives in
+    let kept = joined Says replacement filtered first parser following old mid mid c.loop-short.invariant.0 (long-kept Says replacement filtered parser following mid h) in
+    let wrote = subst (λ b. WritesLong Says replacement filtered b following mid c.write_long.new.parser new) c.if-not-is_given.false c.in_ok-is_given-in-Long.ensures.writes in
+    (joined Says replacement filtered first following c.write_long.new.parser old mid new kept wrote.some, wrote.closed, c.in_ok-is_given-in-Long.ensures.ready)
 
 pub returns-then-not-is_given : goal.returns-then-not-is_given
 returns-then-not-is_given g c =
@@ -76,15 +76,15 @@ returns-then-not-is_given g c =
     let filtered = g.T.Filter.filtered c.args.filter.now in
     let first = c.args.parser.now in
     let parser = c.loop-short.parser in
-    let behind = c.next_short.new.self in
+    let following = c.next_short.new.self in
     let old = written (writing c.args.writer.now) (string_bytes c.args.out.now) in
     let mid = written (writing c.loop-short.writer) (string_bytes c.loop-short.out) in
     let new = written (writing c.write_long.new.writer) (string_bytes c.write_long.new.out) in
-    let h = subst (λ n. GivesAs Says replacement parser (as_next n) behind) c.in-Long.is c.in_ok-short.ensures.gives in
-    let kept = joined Says replacement filtered first parser behind old mid mid c.loop-short.invariant.0 (long-kept Says replacement filtered parser behind mid h) in
-    let wrote = subst (λ b. WritesLong Says replacement filtered b behind mid c.write_long.new.parser new) c.if-not-is_given.true c.in_ok-is_given-in-Long.ensures.writes in
+    let h = subst (λ n. GivesAs Says replacement parser (as_next n) following) c.in-Long.is c.in_ok-short.ensures.gives in
+    let kept = joined Says replacement filtered first parser following old mid mid c.loop-short.invariant.0 (long-kept Says replacement filtered parser following mid h) in
+    let wrote = subst (λ b. WritesLong Says replacement filtered b following mid c.write_long.new.parser new) c.if-not-is_given.true c.in_ok-is_given-in-Long.ensures.writes in
     on_ok_weaker c.finish.result
-    (all-written Says replacement filtered first wrote.last c.write_long.new.parser wrote.taken old (string_bytes c.finish.new.out) new (joined Says replacement filtered first behind wrote.last old mid new kept wrote.some) wrote.asks wrote.none) c.finish.ensures.ok
+    (all-written Says replacement filtered first wrote.last c.write_long.new.parser wrote.taken old (string_bytes c.finish.new.out) new (joined Says replacement filtered first following wrote.last old mid new kept wrote.some) wrote.asks wrote.none) c.finish.ensures.ok
 
 pub returns-in-Over : goal.returns-in-Over
 returns-in-Over g c =
@@ -92,9 +92,9 @@ returns-in-Over g c =
     let replacement = g.E.EntityLookup.replacement in
     let filtered = g.T.Filter.filtered c.args.filter.now in
     let parser = c.loop-short.parser in
-    let behind = c.next_short.new.self in
+    let following = c.next_short.new.self in
     let old = written (writing c.args.writer.now) (string_bytes c.args.out.now) in
     let mid = written (writing c.loop-short.writer) (string_bytes c.loop-short.out) in
-    let h = subst (λ n. GivesAs Says replacement parser (as_next n) behind) c.in-Over.is c.in_ok-short.ensures.gives in
+    let h = subst (λ n. GivesAs Says replacement parser (as_next n) following) c.in-Over.is c.in_ok-short.ensures.gives in
     on_ok_weaker c.finish-in-Over.result
-    (all-written Says replacement filtered c.args.parser.now parser behind h.answers.taken old (string_bytes c.finish-in-Over.new.out) mid c.loop-short.invariant.0 h.answers.asks h.answers.none) c.finish-in-Over.ensures.ok
+    (all-written Says replacement filtered c.args.parser.now parser following h.answers.taken old (string_bytes c.finish-in-Over.new.out) mid c.loop-short.invariant.0 h.answers.asks h.answers.none) c.finish-in-Over.ensures.ok

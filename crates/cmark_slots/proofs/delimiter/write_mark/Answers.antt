@@ -1,7 +1,7 @@
 use Rattle.std.proofs.Common.{◌∷◌, get_or, set, refl, sym, ap, subst, ◌∙◌}
 use Rattle.std.specs.Prelude.{map, reverse}
 use Rattle.cmark_inline_model.specs.SlotRows.{marked}
-use Rattle.cmark_text_parts.specs.Shown.{shown_options}
+use Rattle.cmark_values.specs.Shown.{shown_options}
 use Rattle.cmark_slots.specs.MarkedSlots.{AreReady, BeganFrom, EndWithin, begun_as, ended, shown_mark}
 use Rattle.cmark_slots.specs.SlotViews.{shown_slots}
 use Rattle.cmark_slots.specs.Cuts.{hidden}
@@ -12,53 +12,53 @@ use Rattle.cmark_slots.proofs.RunPlaces.{pushed}
 use Rattle.cmark_slots.proofs.delimiter.write_mark.Goals as goal
 
 pub returns-in-Single-clause-ready : goal.returns-in-Single-clause-ready
-returns-in-Single-clause-ready c = λ behind others r.
-    ready-single c.args.slots.now.items (reverse c.args.begun.now.items) c.args.slot behind others (subst (λ m. AreReady c.args.slots.now.items (reverse c.args.begun.now.items) (c.args.slot ∷ behind) (m ∷ others)) c.in-Single.is r)
+returns-in-Single-clause-ready c = λ following others r.
+    ready-single c.args.slots.now.items (reverse c.args.begun.now.items) c.args.slot following others (subst (λ m. AreReady c.args.slots.now.items (reverse c.args.begun.now.items) (c.args.slot ∷ following) (m ∷ others)) c.in-Single.is r)
 
 pub returns-in-Blank-clause-ready : goal.returns-in-Blank-clause-ready
-returns-in-Blank-clause-ready c = λ behind others r.
-    ready-blank c.args.slots.now.items (reverse c.args.begun.now.items) c.args.slot behind others c.use_up.new.slots.items (subst (λ m. AreReady c.args.slots.now.items (reverse c.args.begun.now.items) (c.args.slot ∷ behind) (m ∷ others)) c.in-Blank.is r) (λ d. c.use_up.ensures.hides d refl)
+returns-in-Blank-clause-ready c = λ following others r.
+    ready-blank c.args.slots.now.items (reverse c.args.begun.now.items) c.args.slot following others c.use_up.new.slots.items (subst (λ m. AreReady c.args.slots.now.items (reverse c.args.begun.now.items) (c.args.slot ∷ following) (m ∷ others)) c.in-Blank.is r) (λ d. c.use_up.ensures.hides d refl)
 
 pub returns-in-Blank-clause-marks : goal.returns-in-Blank-clause-marks
-returns-in-Blank-clause-marks c = λ leaf texts links behind others r.
-    ap (λ m. marked (shown_options c.args.options) (c.args.slot ∷ behind) (shown_mark m ∷ map shown_mark others) (shown_slots leaf texts links c.args.slots.now.items) (reverse c.args.begun.now.items)) c.in-Blank.is
-    ∙ ap (λ l. marked (shown_options c.args.options) behind (map shown_mark others) l (reverse c.args.begun.now.items))
+returns-in-Blank-clause-marks c = λ leaf texts links following others r.
+    ap (λ m. marked (shown_options c.args.options) (c.args.slot ∷ following) (shown_mark m ∷ map shown_mark others) (shown_slots leaf texts links c.args.slots.now.items) (reverse c.args.begun.now.items)) c.in-Blank.is
+    ∙ ap (λ l. marked (shown_options c.args.options) following (map shown_mark others) l (reverse c.args.begun.now.items))
     (blank-view leaf texts links c.args.slots.now.items c.use_up.new.slots.items c.args.slot (get_or c.args.slots.now.items c.args.slot no-slot) (c.use_up.ensures.hides no-slot refl))
 
 pub returns-in_ok-push-in-Begin-clause-ready : goal.returns-in_ok-push-in-Begin-clause-ready
-returns-in_ok-push-in-Begin-clause-ready c = λ behind others r.
+returns-in_ok-push-in-Begin-clause-ready c = λ following others r.
     let begun = reverse c.args.begun.now.items in
-    let made = ready-begin c.args.slots.now.items begun c.args.slot behind others c.in-Begin.field-0 (subst (λ m. AreReady c.args.slots.now.items begun (c.args.slot ∷ behind) (m ∷ others)) c.in-Begin.is r) in
-    subst (λ b. AreReady c.args.slots.now.items b behind others) (sym (pushed c.args.begun.now.items c.push.new.self.items c.args.slot c.in_ok-push-in-Begin.ensures.items)) made
+    let made = ready-begin c.args.slots.now.items begun c.args.slot following others c.in-Begin.field-0 (subst (λ m. AreReady c.args.slots.now.items begun (c.args.slot ∷ following) (m ∷ others)) c.in-Begin.is r) in
+    subst (λ b. AreReady c.args.slots.now.items b following others) (sym (pushed c.args.begun.now.items c.push.new.self.items c.args.slot c.in_ok-push-in-Begin.ensures.items)) made
 
 pub returns-in-Some-clause-ready : goal.returns-in-Some-clause-ready
-returns-in-Some-clause-ready c = λ behind others r.
+returns-in-Some-clause-ready c = λ following others r.
     let old = c.args.slots.now.items in
-    let e = ends-one old (reverse c.args.begun.now.items) c.args.slot behind others c.in-End.kind (subst (λ m. AreReady old (reverse c.args.begun.now.items) (c.args.slot ∷ behind) (m ∷ others)) c.in-End.is r) in
-    some-ready old c.end_last.new.slots.items (reverse c.args.begun.now.items) (reverse c.end_last.new.begun.items) c.args.slot behind others e (c.end_last.ensures.begun e.first e.before e.is) c.in-Some.element
+    let e = ends-one old (reverse c.args.begun.now.items) c.args.slot following others c.in-End.kind (subst (λ m. AreReady old (reverse c.args.begun.now.items) (c.args.slot ∷ following) (m ∷ others)) c.in-End.is r) in
+    some-ready old c.end_last.new.slots.items (reverse c.args.begun.now.items) (reverse c.end_last.new.begun.items) c.args.slot following others e (c.end_last.ensures.begun e.first e.before e.is) c.in-Some.element
     (c.end_last.ensures.value e.first e.before no-slot e.is)
 
 pub returns-in-Some-clause-marks : goal.returns-in-Some-clause-marks
-returns-in-Some-clause-marks c = λ leaf texts links behind others r.
+returns-in-Some-clause-marks c = λ leaf texts links following others r.
     let old = c.args.slots.now.items in
-    let e = ends-one old (reverse c.args.begun.now.items) c.args.slot behind others c.in-End.kind (subst (λ m. AreReady old (reverse c.args.begun.now.items) (c.args.slot ∷ behind) (m ∷ others)) c.in-End.is r) in
-    ap (λ m. marked (shown_options c.args.options) (c.args.slot ∷ behind) (shown_mark m ∷ map shown_mark others) (shown_slots leaf texts links c.args.slots.now.items) (reverse c.args.begun.now.items)) c.in-End.is
-    ∙ end-some leaf texts links (shown_options c.args.options) old c.end_last.new.slots.items (reverse c.args.begun.now.items) (reverse c.end_last.new.begun.items) c.args.slot behind others c.in-End.kind e
+    let e = ends-one old (reverse c.args.begun.now.items) c.args.slot following others c.in-End.kind (subst (λ m. AreReady old (reverse c.args.begun.now.items) (c.args.slot ∷ following) (m ∷ others)) c.in-End.is r) in
+    ap (λ m. marked (shown_options c.args.options) (c.args.slot ∷ following) (shown_mark m ∷ map shown_mark others) (shown_slots leaf texts links c.args.slots.now.items) (reverse c.args.begun.now.items)) c.in-End.is
+    ∙ end-some leaf texts links (shown_options c.args.options) old c.end_last.new.slots.items (reverse c.args.begun.now.items) (reverse c.end_last.new.begun.items) c.args.slot following others c.in-End.kind e
     (c.end_last.ensures.begun e.first e.before e.is) c.in-Some.element (c.end_last.ensures.value e.first e.before no-slot e.is) (c.in-Some.ensures.tag links)
 
 pub returns-in-None-clause-ready : goal.returns-in-None-clause-ready
-returns-in-None-clause-ready c = λ behind others r.
+returns-in-None-clause-ready c = λ following others r.
     let old = c.args.slots.now.items in
-    let e = ends-one old (reverse c.args.begun.now.items) c.args.slot behind others c.in-End.kind (subst (λ m. AreReady old (reverse c.args.begun.now.items) (c.args.slot ∷ behind) (m ∷ others)) c.in-End.is r) in
-    none-ready old c.merge_last.new.slots.items (reverse c.args.begun.now.items) (reverse c.merge_last.new.begun.items) c.args.slot behind others e (c.merge_last.ensures.begun e.first e.before e.is)
+    let e = ends-one old (reverse c.args.begun.now.items) c.args.slot following others c.in-End.kind (subst (λ m. AreReady old (reverse c.args.begun.now.items) (c.args.slot ∷ following) (m ∷ others)) c.in-End.is r) in
+    none-ready old c.merge_last.new.slots.items (reverse c.args.begun.now.items) (reverse c.merge_last.new.begun.items) c.args.slot following others e (c.merge_last.ensures.begun e.first e.before e.is)
     (c.merge_last.ensures.value e.first e.before e.is)
 
 pub returns-in-None-clause-marks : goal.returns-in-None-clause-marks
-returns-in-None-clause-marks c = λ leaf texts links behind others r.
+returns-in-None-clause-marks c = λ leaf texts links following others r.
     let old = c.args.slots.now.items in
-    let e = ends-one old (reverse c.args.begun.now.items) c.args.slot behind others c.in-End.kind (subst (λ m. AreReady old (reverse c.args.begun.now.items) (c.args.slot ∷ behind) (m ∷ others)) c.in-End.is r) in
-    ap (λ m. marked (shown_options c.args.options) (c.args.slot ∷ behind) (shown_mark m ∷ map shown_mark others) (shown_slots leaf texts links c.args.slots.now.items) (reverse c.args.begun.now.items)) c.in-End.is
-    ∙ end-none leaf texts links (shown_options c.args.options) old c.merge_last.new.slots.items (reverse c.args.begun.now.items) (reverse c.merge_last.new.begun.items) c.args.slot behind others c.in-End.kind e
+    let e = ends-one old (reverse c.args.begun.now.items) c.args.slot following others c.in-End.kind (subst (λ m. AreReady old (reverse c.args.begun.now.items) (c.args.slot ∷ following) (m ∷ others)) c.in-End.is r) in
+    ap (λ m. marked (shown_options c.args.options) (c.args.slot ∷ following) (shown_mark m ∷ map shown_mark others) (shown_slots leaf texts links c.args.slots.now.items) (reverse c.args.begun.now.items)) c.in-End.is
+    ∙ end-none leaf texts links (shown_options c.args.options) old c.merge_last.new.slots.items (reverse c.args.begun.now.items) (reverse c.merge_last.new.begun.items) c.args.slot following others c.in-End.kind e
     (c.merge_last.ensures.begun e.first e.before e.is) (c.merge_last.ensures.value e.first e.before e.is) c.in-None.ensures.value
 
 pub returns-in-Single-clause-before : goal.returns-in-Single-clause-before
@@ -75,22 +75,22 @@ returns-in_ok-push-in-Begin-clause-before c = λ low h le.
 
 pub returns-in-Some-clause-before : goal.returns-in-Some-clause-before
 returns-in-Some-clause-before c = λ low h le.
-    let behind = c.requires.0 in
+    let following = c.requires.0 in
     let others = c.requires.1 in
     let r = c.requires.2 in
     let old = c.args.slots.now.items in
-    let e = ends-one old (reverse c.args.begun.now.items) c.args.slot behind others c.in-End.kind (subst (λ m. AreReady old (reverse c.args.begun.now.items) (c.args.slot ∷ behind) (m ∷ others)) c.in-End.is r) in
-    some-before low old c.end_last.new.slots.items (reverse c.args.begun.now.items) (reverse c.end_last.new.begun.items) c.args.slot behind others e (c.end_last.ensures.begun e.first e.before e.is)
+    let e = ends-one old (reverse c.args.begun.now.items) c.args.slot following others c.in-End.kind (subst (λ m. AreReady old (reverse c.args.begun.now.items) (c.args.slot ∷ following) (m ∷ others)) c.in-End.is r) in
+    some-before low old c.end_last.new.slots.items (reverse c.args.begun.now.items) (reverse c.end_last.new.begun.items) c.args.slot following others e (c.end_last.ensures.begun e.first e.before e.is)
     (ended (get_or old c.args.slot no-slot)) (begun_as c.in-Some.element (get_or old c.args.slot no-slot).end (get_or old e.first no-slot)) (c.end_last.ensures.value e.first e.before no-slot e.is) h
 
 pub returns-in-None-clause-before : goal.returns-in-None-clause-before
 returns-in-None-clause-before c = λ low h le.
-    let behind = c.requires.0 in
+    let following = c.requires.0 in
     let others = c.requires.1 in
     let r = c.requires.2 in
     let old = c.args.slots.now.items in
-    let e = ends-one old (reverse c.args.begun.now.items) c.args.slot behind others c.in-End.kind (subst (λ m. AreReady old (reverse c.args.begun.now.items) (c.args.slot ∷ behind) (m ∷ others)) c.in-End.is r) in
-    none-before low old c.merge_last.new.slots.items (reverse c.args.begun.now.items) (reverse c.merge_last.new.begun.items) c.args.slot behind others e (c.merge_last.ensures.begun e.first e.before e.is)
+    let e = ends-one old (reverse c.args.begun.now.items) c.args.slot following others c.in-End.kind (subst (λ m. AreReady old (reverse c.args.begun.now.items) (c.args.slot ∷ following) (m ∷ others)) c.in-End.is r) in
+    none-before low old c.merge_last.new.slots.items (reverse c.args.begun.now.items) (reverse c.merge_last.new.begun.items) c.args.slot following others e (c.merge_last.ensures.begun e.first e.before e.is)
     (c.merge_last.ensures.value e.first e.before e.is) h
 
 pub returns-in-Single-clause-within : goal.returns-in-Single-clause-within
@@ -106,22 +106,22 @@ returns-in_ok-push-in-Begin-clause-within c = λ h. h
 
 pub returns-in-Some-clause-within : goal.returns-in-Some-clause-within
 returns-in-Some-clause-within c = λ h.
-    let behind = c.requires.0 in
+    let following = c.requires.0 in
     let others = c.requires.1 in
     let r = c.requires.2 in
     let old = c.args.slots.now.items in
-    let e = ends-one old (reverse c.args.begun.now.items) c.args.slot behind others c.in-End.kind (subst (λ m. AreReady old (reverse c.args.begun.now.items) (c.args.slot ∷ behind) (m ∷ others)) c.in-End.is r) in
+    let e = ends-one old (reverse c.args.begun.now.items) c.args.slot following others c.in-End.kind (subst (λ m. AreReady old (reverse c.args.begun.now.items) (c.args.slot ∷ following) (m ∷ others)) c.in-End.is r) in
     let last = ended (get_or old c.args.slot no-slot) in
     let first = begun_as c.in-Some.element (get_or old c.args.slot no-slot).end (get_or old e.first no-slot) in
     subst EndWithin (sym (c.end_last.ensures.value e.first e.before no-slot e.is)) (within-set (set old c.args.slot last) e.first first (within-set old c.args.slot last h (λ i. refl)) (λ i. refl))
 
 pub returns-in-None-clause-within : goal.returns-in-None-clause-within
 returns-in-None-clause-within c = λ h.
-    let behind = c.requires.0 in
+    let following = c.requires.0 in
     let others = c.requires.1 in
     let r = c.requires.2 in
     let old = c.args.slots.now.items in
-    let e = ends-one old (reverse c.args.begun.now.items) c.args.slot behind others c.in-End.kind (subst (λ m. AreReady old (reverse c.args.begun.now.items) (c.args.slot ∷ behind) (m ∷ others)) c.in-End.is r) in
+    let e = ends-one old (reverse c.args.begun.now.items) c.args.slot following others c.in-End.kind (subst (λ m. AreReady old (reverse c.args.begun.now.items) (c.args.slot ∷ following) (m ∷ others)) c.in-End.is r) in
     within-merges e.first c.args.slot old c.merge_last.new.slots.items (c.merge_last.ensures.value e.first e.before e.is) e.below e.within h
 
 pub returns-in-Single-clause-names : goal.returns-in-Single-clause-names
@@ -137,11 +137,11 @@ returns-in_ok-push-in-Begin-clause-names c = no-more-same c.args.slots.now.items
 
 pub returns-in-Some-clause-names : goal.returns-in-Some-clause-names
 returns-in-Some-clause-names c =
-    let behind = c.requires.0 in
+    let following = c.requires.0 in
     let others = c.requires.1 in
     let r = c.requires.2 in
     let old = c.args.slots.now.items in
-    let e = ends-one old (reverse c.args.begun.now.items) c.args.slot behind others c.in-End.kind (subst (λ m. AreReady old (reverse c.args.begun.now.items) (c.args.slot ∷ behind) (m ∷ others)) c.in-End.is r) in
+    let e = ends-one old (reverse c.args.begun.now.items) c.args.slot following others c.in-End.kind (subst (λ m. AreReady old (reverse c.args.begun.now.items) (c.args.slot ∷ following) (m ∷ others)) c.in-End.is r) in
     let last = ended (get_or old c.args.slot no-slot) in
     let first = begun_as c.in-Some.element (get_or old c.args.slot no-slot).end (get_or old e.first no-slot) in
     subst (NamesNoMore old) (sym (c.end_last.ensures.value e.first e.before no-slot e.is))
@@ -149,11 +149,11 @@ returns-in-Some-clause-names c =
 
 pub returns-in-None-clause-names : goal.returns-in-None-clause-names
 returns-in-None-clause-names c =
-    let behind = c.requires.0 in
+    let following = c.requires.0 in
     let others = c.requires.1 in
     let r = c.requires.2 in
     let old = c.args.slots.now.items in
-    let e = ends-one old (reverse c.args.begun.now.items) c.args.slot behind others c.in-End.kind (subst (λ m. AreReady old (reverse c.args.begun.now.items) (c.args.slot ∷ behind) (m ∷ others)) c.in-End.is r) in
+    let e = ends-one old (reverse c.args.begun.now.items) c.args.slot following others c.in-End.kind (subst (λ m. AreReady old (reverse c.args.begun.now.items) (c.args.slot ∷ following) (m ∷ others)) c.in-End.is r) in
     no-more-merges e.first c.args.slot old c.merge_last.new.slots.items no-slot (c.merge_last.ensures.value e.first e.before e.is)
 
 pub use_up-requires : goal.use_up-requires

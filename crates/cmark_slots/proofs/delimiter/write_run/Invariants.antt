@@ -2,8 +2,8 @@ use Rattle.std.proofs.Common.{◌≡◌, ◌≤◌, ◌+◌, ◌-◌, ℕ, List,
 use Rattle.std.specs.Prelude.{map, reverse}
 use Rattle.cmark_inline_model.specs.SlotRows.{marked, run_places}
 use Rattle.cmark_leaf_text.specs.declared.leaf_text.LeafText.{LeafText}
-use Rattle.cmark_text_parts.specs.Shown.{shown_options}
-use Rattle.cmark_text_parts.specs.declared.text.CowStr.{CowStr}
+use Rattle.cmark_values.specs.Shown.{shown_options}
+use Rattle.cmark_values.specs.declared.text.CowStr.{CowStr}
 use Rattle.cmark_slots.specs.MarkedSlots.{AreReady, BeganFrom, EndWithin, SameBefore, shown_mark}
 use Rattle.cmark_slots.specs.SlotViews.{shown_slots}
 use Rattle.cmark_slots.specs.Standing.{NamesNoMore}
@@ -16,12 +16,12 @@ invariant-loop-byte l =
     ((text : List ℕ) (place : ℕ) → AreSlots text place l.initial.slots.items → AreSlots text place l.slots.items)
     × (length l.slots.items ≡ length l.initial.slots.items)
     × NoNewLink l.initial.slots.items l.slots.items
-    × ((behind : List ℕ) → AreReady l.initial.slots.items (reverse l.initial.begun.items) (run_places l.placed.slot l.placed.run.run_length behind) l.marks
-    → AreReady l.slots.items (reverse l.begun.items) (run_places (l.placed.slot + l.byte) (l.placed.run.run_length - l.byte) behind) (drop l.byte l.marks))
-    × ((leaf : LeafText) (texts : List CowStr) (links : List Link) (behind : List ℕ)
-    → AreReady l.initial.slots.items (reverse l.initial.begun.items) (run_places l.placed.slot l.placed.run.run_length behind) l.marks
-    → marked (shown_options l.options) (run_places l.placed.slot l.placed.run.run_length behind) (map shown_mark l.marks) (shown_slots leaf texts links l.initial.slots.items) (reverse l.initial.begun.items)
-    ≡ marked (shown_options l.options) (run_places (l.placed.slot + l.byte) (l.placed.run.run_length - l.byte) behind) (map shown_mark (drop l.byte l.marks)) (shown_slots leaf texts links l.slots.items) (reverse l.begun.items))
+    × ((following : List ℕ) → AreReady l.initial.slots.items (reverse l.initial.begun.items) (run_places l.placed.slot l.placed.run.run_length following) l.marks
+    → AreReady l.slots.items (reverse l.begun.items) (run_places (l.placed.slot + l.byte) (l.placed.run.run_length - l.byte) following) (drop l.byte l.marks))
+    × ((leaf : LeafText) (texts : List CowStr) (links : List Link) (following : List ℕ)
+    → AreReady l.initial.slots.items (reverse l.initial.begun.items) (run_places l.placed.slot l.placed.run.run_length following) l.marks
+    → marked (shown_options l.options) (run_places l.placed.slot l.placed.run.run_length following) (map shown_mark l.marks) (shown_slots leaf texts links l.initial.slots.items) (reverse l.initial.begun.items)
+    ≡ marked (shown_options l.options) (run_places (l.placed.slot + l.byte) (l.placed.run.run_length - l.byte) following) (map shown_mark (drop l.byte l.marks)) (shown_slots leaf texts links l.slots.items) (reverse l.begun.items))
     × ((low : ℕ) → BeganFrom low (reverse l.initial.begun.items) → low ≤ l.placed.slot → SameBefore low l.initial.slots.items l.slots.items × BeganFrom low (reverse l.begun.items))
     × (EndWithin l.initial.slots.items → EndWithin l.slots.items)
     × NamesNoMore l.initial.slots.items l.slots.items

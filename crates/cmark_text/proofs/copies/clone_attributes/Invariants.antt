@@ -1,5 +1,5 @@
 use Rattle.std.proofs.Common.{◌≡◌, map, take}
-use Rattle.cmark_text_parts.specs.Shown.{shown_attribute}
+use Rattle.cmark_values.specs.Shown.{shown_attribute}
 use Rattle.cmark_text.proofs.copies.clone_attributes.Given as goal
 
 abbrev pub invariant-loop-attribute : goal.invariant-loop-attribute

@@ -1,5 +1,5 @@
 use Rattle.std.proofs.Common.{◌≡◌, map}
-use Rattle.cmark_text_parts.specs.Shown.{text_bytes}
+use Rattle.cmark_values.specs.Shown.{text_bytes}
 use Rattle.cmark_text.proofs.copies.static_texts.Given as goal
 
 abbrev pub invariant-loop-text : goal.invariant-loop-text

@@ -5,12 +5,12 @@ use Rattle.std.specs.Str.{IsCharBoundary}
 use Rattle.cmark_text.proofs.escape.append_excerpt.Goals as goal
 
 -- the old text and sixteen bytes after it, cut so that only the bytes of the part remain
-cut_behind : (old ahead : List ℕ) (len : ℕ) → len ≤ 16 → take (length old + len) (old ++ take 16 ahead) ≡ old ++ take len ahead
-cut_behind old ahead len few = take-append-add old (take 16 ahead) len ∙ ap (λ l. old ++ l) (take-take len 16 ahead few)
+cut_after : (old ahead : List ℕ) (len : ℕ) → len ≤ 16 → take (length old + len) (old ++ take 16 ahead) ≡ old ++ take len ahead
+cut_after old ahead len few = take-append-add old (take 16 ahead) len ∙ ap (λ l. old ++ l) (take-take len 16 ahead few)
 
 -- the cut is at a character boundary
-boundary_behind : (old ahead : List ℕ) (len : ℕ) → len ≤ 16 → 16 ≤ length ahead → IsCharBoundary ahead len → IsCharBoundary (old ++ take 16 ahead) (length old + len)
-boundary_behind old ahead len few enough boundary =
+boundary_after : (old ahead : List ℕ) (len : ℕ) → len ≤ 16 → 16 ≤ length ahead → IsCharBoundary ahead len → IsCharBoundary (old ++ take 16 ahead) (length old + len)
+boundary_after old ahead len few enough boundary =
     let many : length (take 16 ahead) ≡ 16 = length-take-le 16 ahead enough in
     let whole = length-append old (take 16 ahead) in (
       omega arith,
@@ -27,7 +27,7 @@ truncate-requires c =
     let there : string_bytes c.push_str.new.self ≡ string_bytes c.args.out.now ++ take 16 ahead = c.in_ok-push_str.ensures.bytes ∙ ap (λ l. string_bytes c.args.out.now ++ l) front in
     let place : c.len.result ≡ length (string_bytes c.args.out.now) = c.len.ensures ∙ c.args.out.now.bytes.ok.0 in
     let boundary : IsCharBoundary (string_bytes c.push_str.new.self) (c.len.result + c.args.excerpt.len)
-    = rw there (rw place (boundary_behind (string_bytes c.args.out.now) ahead c.args.excerpt.len c.if-excerpt-le16.true (omega arith) c.args.excerpt.boundary)) in
+    = rw there (rw place (boundary_after (string_bytes c.args.out.now) ahead c.args.excerpt.len c.if-excerpt-le16.true (omega arith) c.args.excerpt.boundary)) in
     λ _. (boundary.0, λ _. boundary.1)
 
 pub returns-then-is_char_boundary-clause-ok : goal.returns-then-is_char_boundary-clause-ok
@@ -38,4 +38,4 @@ returns-then-is_char_boundary-clause-ok c =
     let place : c.len.result ≡ length (string_bytes c.args.out.now) = c.len.ensures ∙ c.args.out.now.bytes.ok.0 in
     c.truncate.ensures.bytes ∙ ap (λ n. take (n + c.args.excerpt.len) (string_bytes c.push_str.new.self)) place
     ∙ ap (λ l. take (length (string_bytes c.args.out.now) + c.args.excerpt.len) l) there
-    ∙ cut_behind (string_bytes c.args.out.now) ahead c.args.excerpt.len c.if-excerpt-le16.true
+    ∙ cut_after (string_bytes c.args.out.now) ahead c.args.excerpt.len c.if-excerpt-le16.true

@@ -1,4 +1,4 @@
-use Rattle.std.proofs.Common.{◌≡◌, ◌++◌, string_bytes, get_or, take, subst, sym, ap, ◌∙◌, arith}
+use Rattle.std.proofs.Common.{rules, ◌≡◌, ◌++◌, string_bytes, get_or, take, subst, sym, ap, ◌∙◌, arith}
 use Rattle.std.proofs.lemmas.Str.{IsCharBoundary-after_ascii}
 use Rattle.memchr.specs.Find.{IsFirstByte}
 use Rattle.cmark_grammar.specs.Escapes.{body_text_byte}
@@ -7,17 +7,22 @@ use Rattle.cmark_text.proofs.Escaping.{IsFirstMark, first_mark-byte, all_kept-by
 use Rattle.cmark_text.proofs.Marks.{keeps-body_text_byte, ascii-body_text_mark}
 use Rattle.cmark_text.proofs.escape.escape_from.Goals as goal
 
-pub returns-in_err-push_str-clause-err : goal.returns-in_err-push_str-clause-err
-returns-in_err-push_str-clause-err c =
-    on_err c.from_residual.result (written_front body_text_byte _ _ _ _ _ c.loop-found.invariant.written c.in_err-push_str.ensures.bytes)
+pub returns-in_err-push_str : goal.returns-in_err-push_str
+returns-in_err-push_str c = record {
+  ok = search rules;
+  err = on_err c.from_residual.result (written_front body_text_byte _ _ _ _ _ c.loop-found.invariant.written c.in_err-push_str.ensures.bytes);
+}
 
-pub returns-in_err-push_str-2-clause-err : goal.returns-in_err-push_str-2-clause-err
-returns-in_err-push_str-2-clause-err c =
-    let first : IsFirstMark is_body_text_mark c.loop-found.rest.now c.in-Some.at = first_mark-byte is_body_text_mark c.loop-found.rest.now c.in-Some.at (subst (IsFirstByte is_body_text_mark c.loop-found.rest.now) c.in-Some.is c.loop-found.invariant.found) in
-    let front : c.range.result.now ≡ take c.in-Some.at c.loop-found.rest.now = grind (arith, c.range.ensures.value) in
-    on_err c.from_residual-in_err-push_str-2.result (written_front body_text_byte _ _ _ _ _
-    (written_to_mark body_text_byte is_body_text_mark keeps-body_text_byte _ _ _ _ c.loop-found.rest.now c.in-Some.at (omega (arith, first.below)) first.before c.loop-found.invariant.written (c.in_ok-push_str.ensures.bytes ∙ ap (λ l. string_bytes c.loop-found.out ++ l) front))
-    c.in_err-push_str-2.ensures.bytes)
+pub returns-in_err-push_str-2 : goal.returns-in_err-push_str-2
+returns-in_err-push_str-2 c = record {
+  ok = search rules;
+  err =
+      let first : IsFirstMark is_body_text_mark c.loop-found.rest.now c.in-Some.at = first_mark-byte is_body_text_mark c.loop-found.rest.now c.in-Some.at (subst (IsFirstByte is_body_text_mark c.loop-found.rest.now) c.in-Some.is c.loop-found.invariant.found) in
+      let front : c.range.result.now ≡ take c.in-Some.at c.loop-found.rest.now = grind (arith, c.range.ensures.value) in
+      on_err c.from_residual-in_err-push_str-2.result (written_front body_text_byte _ _ _ _ _
+      (written_to_mark body_text_byte is_body_text_mark keeps-body_text_byte _ _ _ _ c.loop-found.rest.now c.in-Some.at (omega (arith, first.below)) first.before c.loop-found.invariant.written (c.in_ok-push_str.ensures.bytes ∙ ap (λ l. string_bytes c.loop-found.out ++ l) front))
+      c.in_err-push_str-2.ensures.bytes);
+}
 
 pub range_from-rest-requires : goal.range_from-rest-requires
 range_from-rest-requires c =
@@ -38,11 +43,11 @@ loop-found-preserved c =
       found = c.find_body_text_mark-found.ensures;
     }
 
-pub returns-clause-ok : goal.returns-clause-ok
-returns-clause-ok c =
-    at_ok c.push_str-2.result _ _ _ c.push_str-2.ensures.bytes (λ ok.
-    written_to_end body_text_byte is_body_text_mark keeps-body_text_byte _ _ _ _ c.loop-found.rest.now (all_kept-byte is_body_text_mark c.loop-found.rest.now (subst (IsFirstByte is_body_text_mark c.loop-found.rest.now) c.in_default.is c.loop-found.invariant.found)) c.loop-found.invariant.written
-    ok)
-
-pub returns-clause-err : goal.returns-clause-err
-returns-clause-err c = at_err c.push_str-2.result _ _ _ c.push_str-2.ensures.bytes (λ err. written_front body_text_byte _ _ _ _ _ c.loop-found.invariant.written err)
+pub returns : goal.returns
+returns c = record {
+  ok =
+      at_ok c.push_str-2.result _ _ _ c.push_str-2.ensures.bytes (λ ok.
+      written_to_end body_text_byte is_body_text_mark keeps-body_text_byte _ _ _ _ c.loop-found.rest.now (all_kept-byte is_body_text_mark c.loop-found.rest.now (subst (IsFirstByte is_body_text_mark c.loop-found.rest.now) c.in_default.is c.loop-found.invariant.found)) c.loop-found.invariant.written
+      ok);
+  err = at_err c.push_str-2.result _ _ _ c.push_str-2.ensures.bytes (λ err. written_front body_text_byte _ _ _ _ _ c.loop-found.invariant.written err);
+}

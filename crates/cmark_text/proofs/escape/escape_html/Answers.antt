@@ -1,23 +1,28 @@
-use Rattle.std.proofs.Common.{◌≡◌, ◌++◌, string_bytes, get_or, take, subst, sym, ap, ◌∙◌, arith}
+use Rattle.std.proofs.Common.{rules, ◌≡◌, ◌++◌, string_bytes, get_or, take, subst, sym, ap, ◌∙◌, arith}
 use Rattle.std.proofs.lemmas.Str.{IsCharBoundary-after_ascii, IsCharBoundary-before_ascii}
 use Rattle.cmark_grammar.specs.Escapes.{html_byte}
 use Rattle.cmark_text.specs.Marks.{is_html_mark}
 use Rattle.cmark_text.proofs.Escaping.{IsFirstMark, first_mark-position, Written, written_front, written_to_mark, written_past_mark, written_to_end, on_err, at_ok, at_err}
-use Rattle.cmark_text_parts.proofs.Kept.{all_kept-position}
+use Rattle.cmark_values.proofs.Kept.{all_kept-position}
 use Rattle.cmark_text.proofs.Marks.{keeps-html_byte, ascii-html_mark}
 use Rattle.cmark_text.proofs.escape.escape_html.Goals as goal
 
-pub returns-in_err-push_str-clause-err : goal.returns-in_err-push_str-clause-err
-returns-in_err-push_str-clause-err c =
-    on_err c.from_residual.result (written_front html_byte _ _ _ _ _ c.loop-at.invariant.written c.in_err-push_str.ensures.bytes)
+pub returns-in_err-push_str : goal.returns-in_err-push_str
+returns-in_err-push_str c = record {
+  ok = search rules;
+  err = on_err c.from_residual.result (written_front html_byte _ _ _ _ _ c.loop-at.invariant.written c.in_err-push_str.ensures.bytes);
+}
 
-pub returns-in_err-push_str-2-clause-err : goal.returns-in_err-push_str-2-clause-err
-returns-in_err-push_str-2-clause-err c =
-    let first : IsFirstMark is_html_mark c.loop-at.rest.now c.in-Some.at = first_mark-position is_html_mark c.loop-at.rest.now c.in-Some.at c.find_html_mark.result c.find_html_mark.ensures c.in-Some.is in
-    let front : c.range.result.now ≡ take c.in-Some.at c.loop-at.rest.now = grind (arith, c.range.ensures.value) in
-    on_err c.from_residual-in_err-push_str-2.result (written_front html_byte _ _ _ _ _
-    (written_to_mark html_byte is_html_mark keeps-html_byte _ _ _ _ c.loop-at.rest.now c.in-Some.at (omega (arith, first.below)) first.before c.loop-at.invariant.written (c.in_ok-push_str.ensures.bytes ∙ ap (λ l. string_bytes c.loop-at.out ++ l) front))
-    c.in_err-push_str-2.ensures.bytes)
+pub returns-in_err-push_str-2 : goal.returns-in_err-push_str-2
+returns-in_err-push_str-2 c = record {
+  ok = search rules;
+  err =
+      let first : IsFirstMark is_html_mark c.loop-at.rest.now c.in-Some.at = first_mark-position is_html_mark c.loop-at.rest.now c.in-Some.at c.find_html_mark.result c.find_html_mark.ensures c.in-Some.is in
+      let front : c.range.result.now ≡ take c.in-Some.at c.loop-at.rest.now = grind (arith, c.range.ensures.value) in
+      on_err c.from_residual-in_err-push_str-2.result (written_front html_byte _ _ _ _ _
+      (written_to_mark html_byte is_html_mark keeps-html_byte _ _ _ _ c.loop-at.rest.now c.in-Some.at (omega (arith, first.below)) first.before c.loop-at.invariant.written (c.in_ok-push_str.ensures.bytes ∙ ap (λ l. string_bytes c.loop-at.out ++ l) front))
+      c.in_err-push_str-2.ensures.bytes);
+}
 
 pub range_from-rest-requires : goal.range_from-rest-requires
 range_from-rest-requires c =
@@ -37,14 +42,14 @@ loop-at-preserved c =
           (c.in_ok-push_str-2.ensures.bytes ∙ ap (λ l. string_bytes c.push_str.new.self ++ l) entity));
     }
 
-pub returns-clause-ok : goal.returns-clause-ok
-returns-clause-ok c =
-    at_ok c.push_str-2.result _ _ _ c.push_str-2.ensures.bytes (λ ok.
-    written_to_end html_byte is_html_mark keeps-html_byte _ _ _ _ c.loop-at.rest.now (all_kept-position is_html_mark c.loop-at.rest.now c.find_html_mark.result c.find_html_mark.ensures c.in_default.is) c.loop-at.invariant.written
-    ok)
-
-pub returns-clause-err : goal.returns-clause-err
-returns-clause-err c = at_err c.push_str-2.result _ _ _ c.push_str-2.ensures.bytes (λ err. written_front html_byte _ _ _ _ _ c.loop-at.invariant.written err)
+pub returns : goal.returns
+returns c = record {
+  ok =
+      at_ok c.push_str-2.result _ _ _ c.push_str-2.ensures.bytes (λ ok.
+      written_to_end html_byte is_html_mark keeps-html_byte _ _ _ _ c.loop-at.rest.now (all_kept-position is_html_mark c.loop-at.rest.now c.find_html_mark.result c.find_html_mark.ensures c.in_default.is) c.loop-at.invariant.written
+      ok);
+  err = at_err c.push_str-2.result _ _ _ c.push_str-2.ensures.bytes (λ err. written_front html_byte _ _ _ _ _ c.loop-at.invariant.written err);
+}
 
 pub range-requires-clause-end_boundary : goal.range-requires-clause-end_boundary
 range-requires-clause-end_boundary c =

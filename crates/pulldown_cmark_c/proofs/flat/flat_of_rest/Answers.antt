@@ -2,7 +2,7 @@ use Rattle.std.proofs.Common.{◌≡◌, ◌++◌, Some, subst}
 use Rattle.cmark_flat.specs.Flat.{records}
 use Rattle.cmark_flat.specs.Records.{spelled}
 use Rattle.cmark_parser.specs.Parsing.{GivesAs, GivesStep}
-use Rattle.cmark_span_walk.specs.Walking.{as_next}
+use Rattle.cmark_event_walk.specs.Walking.{as_next}
 use Rattle.cmark_text.specs.Short.{ranged_short}
 use Rattle.pulldown_cmark_c.specs.Flat.{says-nothing}
 use Rattle.pulldown_cmark_c.proofs.FlatSteps.{all_given, event_more, long_kept, short_given, short_more}

@@ -3,7 +3,7 @@ use Rattle.cmark_flat.specs.Definitions.{flat_definitions}
 use Rattle.cmark_grammar.specs.References.{references}
 use Rattle.cmark_parser.specs.Parsing.{definitions}
 use Rattle.cmark_references.specs.Definitions.{entry_of, shown_entry}
-use Rattle.cmark_text_parts.specs.Labelled.{link_key}
+use Rattle.cmark_values.specs.Labelled.{link_key}
 use Rattle.pulldown_cmark_c.proofs.ReferenceSteps.{all_first}
 use Rattle.pulldown_cmark_c.proofs.links.definitions_of.Goals as goal
 

@@ -1,9 +1,9 @@
 use Rattle.std.proofs.Common.{[], ◌∷◌, ◌++◌, map, sym, ap, ◌∙◌, subst}
-use Rattle.cmark_lines.specs.Rests.{row_of}
+use Rattle.cmark_line_rules.specs.Rests.{row_of}
 use Rattle.cmark_block_model.specs.OpenBlocks as model
-use Rattle.cmark_leaves.specs.Stretches.{shown_waits}
+use Rattle.cmark_leaf_nodes.specs.Stretches.{shown_waits}
 use Rattle.cmark_blocks.specs.Ahead.{lines_at}
-use Rattle.cmark_blocks.specs.IndentedLines.{DrawsLines, lines_drawn, waits_behind}
+use Rattle.cmark_blocks.specs.IndentedLines.{DrawsLines, lines_drawn, waits_after}
 use Rattle.cmark_blocks.specs.Runs.{Runs, ShowsLeaf}
 use Rattle.cmark_blocks.specs.declared.state.OpenLeaf.TheVariants as leaf
 use Rattle.cmark_blocks.proofs.CodeSteps.{indented-shown}
@@ -25,6 +25,6 @@ returns-clause-runs g c text options lookup m runs =
     let lines = draws-line text row before.builder c.draw_blank_lines.new.builder new blank c.args.waits c.in_ok-waits.waits c.in_ok-left.left waiting (c.in_ok-left.ensures.drawn text) (c.in_ok-left.ensures.waits text) in
     subst (λ p. Runs replacement text options lookup p (record before { builder = new; leaf = leaf.Indented c.in_ok-left.left c.line_end.result; blank_lines = c.clear.new.self }))
     (sym (indented-goes-on text options lookup row (lines_at text row.line_end) m waits c.args.end blank is c.requires.goes_on))
-    (runs-waiting replacement text options lookup _ _ (leaf.Indented c.in_ok-left.left c.line_end.result) c.clear.new.self (model.InIndented (waits_behind text rows waits) row.line_end [])
+    (runs-waiting replacement text options lookup _ _ (leaf.Indented c.in_ok-left.left c.line_end.result) c.clear.new.self (model.InIndented (waits_after text rows waits) row.line_end [])
     (runs-builder replacement text options lookup m before new (lines_drawn text rows waits m.drawing) runs (lines.draws m.drawing runs.drawing) (c.in_ok-left.ensures.definitions ∙ c.in_ok-waits.ensures.definitions))
-    (indented-shown text c.in_ok-left.left (waits_behind text rows waits) c.line_end.result row.line_end c.clear.new.self.items [] lines.left_is c.line_end.ensures.place (ap (map row_of) c.clear.ensures.items)))
+    (indented-shown text c.in_ok-left.left (waits_after text rows waits) c.line_end.result row.line_end c.clear.new.self.items [] lines.left_is c.line_end.ensures.place (ap (map row_of) c.clear.ensures.items)))

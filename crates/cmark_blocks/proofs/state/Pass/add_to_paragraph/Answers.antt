@@ -2,7 +2,7 @@ use Rattle.std.proofs.Common.{◌≡◌, map, sym, ap, subst, ◌∙◌}
 use Rattle.cmark_grammar.specs.BlockDocument.{Nil}
 use Rattle.cmark_grammar.specs.Rows.{begin_of}
 use Rattle.cmark_grammar.specs.Tokens.{stretch_then}
-use Rattle.cmark_lines.specs.Rests.{row_of}
+use Rattle.cmark_line_rules.specs.Rests.{row_of}
 use Rattle.cmark_block_model.specs.BlockPass.{kept_lines}
 use Rattle.cmark_block_model.specs.Drawing.{drawn}
 use Rattle.cmark_block_model.specs.OpenBlocks as model

@@ -3,10 +3,10 @@ use Rattle.std.proofs.Common.{length, false, sym, subst, ◌∙◌}
 use Rattle.cmark_grammar.specs.Blocks.{place_in}
 use Rattle.cmark_grammar.specs.Containers.{is_alert, enter}
 use Rattle.cmark_block_model.specs.BlockPass.{ahead_in, begin_in, container_begun, inside_begun, is_item, place_of}
-use Rattle.cmark_lines.specs.Rests.{row_of}
-use Rattle.cmark_lines.specs.declared.opening.Opening.TheVariants as opening
-use Rattle.cmark_lines.proofs.RestSteps.{whole}
-use Rattle.cmark_text_parts.specs.Shown.{shown_options}
+use Rattle.cmark_line_rules.specs.Rests.{row_of}
+use Rattle.cmark_line_rules.specs.declared.opening.Opening.TheVariants as opening
+use Rattle.cmark_line_rules.proofs.RestSteps.{whole}
+use Rattle.cmark_values.specs.Shown.{shown_options}
 use Rattle.cmark_blocks.specs.Ahead.{lines_at}
 use Rattle.cmark_blocks.specs.Runs.{Runs}
 use Rattle.cmark_blocks.proofs.FlushRows.{BeginsOnly, letter-begins, bracket-begins}

@@ -1,6 +1,6 @@
 use Rattle.std.proofs.lemmas.Result.{on_ok_weaker}
 use Rattle.std.proofs.Common.{option_map, refl, ap}
-use Rattle.cmark_text_parts.specs.Shown.{shown_block_quote_kind}
+use Rattle.cmark_values.specs.Shown.{shown_block_quote_kind}
 use Rattle.cmark_grammar.specs.BlockDocument.{BlockQuote}
 use Rattle.cmark_grammar.specs.Containers.{BlockQuote as BlockQuotePrefix}
 use Rattle.cmark_block_model.specs.BlockPass.{block_begun}

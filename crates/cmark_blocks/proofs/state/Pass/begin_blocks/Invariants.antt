@@ -1,9 +1,9 @@
 use Rattle.std.proofs.Common.{◌≡◌, false, length}
-use Rattle.cmark_lines.specs.Rests.{row_of}
+use Rattle.cmark_line_rules.specs.Rests.{row_of}
 use Rattle.cmark_blocks.specs.Entered.{BeginsSoFar}
 use Rattle.cmark_blocks.specs.declared.state.OpenLeaf.TheVariants as leaf
 use Rattle.cmark_blocks.specs.Runs.{IsGood}
-use Rattle.cmark_leaves.specs.TextColumns.{IsRead}
+use Rattle.cmark_leaf_nodes.specs.TextColumns.{IsRead}
 use Rattle.cmark_blocks.proofs.state.Pass.begin_blocks.Given as goal
 
 abbrev pub invariant-loop-inside : goal.invariant-loop-inside

@@ -3,7 +3,7 @@ use Rattle.std.proofs.Common.{◌≡◌, true, sym, ap, subst, ◌∙◌}
 use Rattle.cmark_grammar.specs.Openings.{text_lines}
 use Rattle.cmark_grammar.specs.LinkDefinitions.{further_bytes}
 use Rattle.cmark_grammar.specs.Rows.{words_of}
-use Rattle.cmark_lines.specs.Rests.{row_of}
+use Rattle.cmark_line_rules.specs.Rests.{row_of}
 use Rattle.cmark_block_model.specs.BlockPass.{ahead_in}
 use Rattle.cmark_blocks.specs.Ahead.{lines_at}
 use Rattle.cmark_blocks.specs.Brackets.{begins_none}

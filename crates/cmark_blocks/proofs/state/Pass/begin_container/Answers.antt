@@ -3,21 +3,21 @@ use Rattle.std.specs.Prelude.{IfSome}
 use Rattle.cmark_grammar.specs.Containers.{Container, Item, marker_width}
 use Rattle.cmark_grammar.specs.Rows.{Row}
 use Rattle.cmark_grammar.specs.Options.{Options}
-use Rattle.cmark_text_parts.specs.Shown.{shown_block_quote_kind, shown_options}
+use Rattle.cmark_values.specs.Shown.{shown_block_quote_kind, shown_options}
 use Rattle.cmark_block_model.specs.BlockPass.{container_begun, block_quote_begun, item_begun_in, is_item}
 use Rattle.cmark_block_model.specs.OpenBlocks as model
-use Rattle.cmark_lines.specs.Boxes.{is_checked, IsBehindBox}
-use Rattle.cmark_lines.specs.Rests.{row_of, IsIn}
-use Rattle.cmark_lines.specs.Starts.{shown_start, inside_of, Enters}
-use Rattle.cmark_lines.specs.declared.container.ContainerStart.TheVariants as begun
-use Rattle.cmark_leaves.specs.TextColumns.{StandInText, IsRead}
-use Rattle.cmark_leaves.proofs.TextColumnSteps.{without-in_text}
+use Rattle.cmark_line_rules.specs.Boxes.{is_checked, IsAfterBox}
+use Rattle.cmark_line_rules.specs.Rests.{row_of, IsIn}
+use Rattle.cmark_line_rules.specs.Starts.{shown_start, inside_of, Enters}
+use Rattle.cmark_line_rules.specs.declared.container.ContainerStart.TheVariants as begun
+use Rattle.cmark_leaf_nodes.specs.TextColumns.{StandInText, IsRead}
+use Rattle.cmark_leaf_nodes.proofs.TextColumnSteps.{without-in_text}
 use Rattle.cmark_blocks.specs.declared.state.OpenLeaf.TheVariants as leaf
 use Rattle.cmark_blocks.specs.Entered.{takes_line, line_taken}
 use Rattle.cmark_blocks.specs.Runs.{Runs}
 use Rattle.cmark_blocks.proofs.BoxSteps.{box-read}
 use Rattle.cmark_blocks.proofs.LineSteps.{block_quote-in_text, alert-in_text}
-use Rattle.cmark_blocks.proofs.RunSteps.{runs-leaf, none_behind_closed}
+use Rattle.cmark_blocks.proofs.RunSteps.{runs-leaf, none_after_closed}
 use Rattle.cmark_blocks.proofs.TaskSteps.{item-alone, item-taken}
 use Rattle.cmark_blocks.proofs.state.Pass.begin_container.Goals as goal
 
@@ -29,10 +29,10 @@ begin_task-requires-clause-line g c =
     let inside = c.in-Item.inside in
     let read = sym (c.task_marker-task.ensures.task options (sym c.reads_tasklists.ensures)) ∙ ap (option_map is_checked) c.in-Some.is in
     let is_inside = subst (λ s. Enters row s) c.in-Item.is c.requires.enters options in
-    let is_behind = subst (λ o. IfSome o (IsBehindBox (row_of inside))) c.in-Some.is c.task_marker-task.ensures.behind in
+    let is_after = subst (λ o. IfSome o (IsAfterBox (row_of inside))) c.in-Some.is c.task_marker-task.ensures.following in
     let in_text = subst (λ (s : Row). StandInText text s.columns) (sym is_inside) (without-in_text text (marker_width (shown_start options row (begun.Item c.in-Item.item inside)) row) row c.requires.line.in_text) in
-    subst (λ t. IsRead t.now c.in-Some.behind) (sym c.in_ok-begin_item-in-Item.ensures.text)
-    (box-read text options inside c.in-Some.behind c.in-Some.is_checked read is_behind (subst (λ s. IsIn text (inside_of s)) c.in-Item.is c.requires.placed) in_text)
+    subst (λ t. IsRead t.now c.in-Some.following) (sym c.in_ok-begin_item-in-Item.ensures.text)
+    (box-read text options inside c.in-Some.following c.in-Some.is_checked read is_after (subst (λ s. IsIn text (inside_of s)) c.in-Item.is c.requires.placed) in_text)
 
 pub returns-then-is_some-clause-runs : goal.returns-then-is_some-clause-runs
 returns-then-is_some-clause-runs g c text options lookup m runs =
@@ -42,10 +42,10 @@ returns-then-is_some-clause-runs g c text options lookup m runs =
     let in_text = c.alert_kind-alert.ensures options (ap (λ (o : Options). o.gfm) (sym runs.options_is) ∙ sym c.reads_alerts.ensures) in
     let same = block_quote-in_text options row c.args.start c.in-BlockQuote.inside alert c.in-BlockQuote.is in_text in
     let begun = subst (λ at. Runs replacement text options lookup (block_quote_begun alert at m) c.begin_block_quote.new.self) c.words_begin.ensures.place (c.in_ok-begin_block_quote-in-BlockQuote.ensures.runs text options lookup m runs) in
-    let closed = none_behind_closed replacement text options lookup _ c.begin_block_quote.new.self (c.in_ok-begin_block_quote-in-BlockQuote.ensures.leaf ∙ c.requires.closed) begun in
-    let tagged = runs-leaf replacement text options lookup _ c.begin_block_quote.new.self leaf.BehindTag model.BehindTag begun (refl, closed) in (
+    let closed = none_after_closed replacement text options lookup _ c.begin_block_quote.new.self (c.in_ok-begin_block_quote-in-BlockQuote.ensures.leaf ∙ c.requires.closed) begun in
+    let tagged = runs-leaf replacement text options lookup _ c.begin_block_quote.new.self leaf.AfterTag model.AfterTag begun (refl, closed) in (
       subst (λ k. takes_line k ≡ true) (sym same) (alert-in_text c.alert_kind-alert.result true (sym c.is_some.ensures ∙ c.if-is_some.true)),
-      subst (λ (k : Container). Runs replacement text options lookup (line_taken text options lookup k row (container_begun k row m)) (record c.begin_block_quote.new.self { leaf = leaf.BehindTag })) (sym same) tagged,
+      subst (λ (k : Container). Runs replacement text options lookup (line_taken text options lookup k row (container_begun k row m)) (record c.begin_block_quote.new.self { leaf = leaf.AfterTag })) (sym same) tagged,
     )
 
 pub returns-else-is_some-clause-runs : goal.returns-else-is_some-clause-runs
@@ -71,12 +71,12 @@ returns-in-Some-clause-runs g c text options lookup m runs =
     let read = sym (c.task_marker-task.ensures.task options (ap (λ (o : Options). o.tasklists) (sym runs.options_is) ∙ sym c.reads_tasklists.ensures)) ∙ ap (option_map is_checked) c.in-Some.is in
     let same = ap (shown_start options row) c.in-Item.is ∙ ap (Item item.delimiter item.number item.width) read in
     let is_inside = subst (λ s. Enters row s) c.in-Item.is c.requires.enters options in
-    let is_behind = subst (λ o. IfSome o (IsBehindBox inside)) c.in-Some.is c.task_marker-task.ensures.behind in
+    let is_after = subst (λ o. IfSome o (IsAfterBox inside)) c.in-Some.is c.task_marker-task.ensures.following in
     let begun = c.in_ok-begin_task-in-Item.ensures.runs text options lookup _ (c.in_ok-begin_item-in-Item.ensures.runs (Some checked) text options lookup m runs) in (
       ap takes_line same,
       subst (λ (k : Container). Runs replacement text options lookup (line_taken text options lookup k row (container_begun k row m)) c.begin_task.new.self) (sym same)
           (subst (λ p. Runs replacement text options lookup p c.begin_task.new.self)
-          (item-taken text options lookup m row inside (row_of c.in-Some.behind) item.delimiter item.number item.width checked c.begin.result c.begin-in-Some.result is_inside is_behind c.begin.ensures.place c.begin-in-Some.ensures.place)
+          (item-taken text options lookup m row inside (row_of c.in-Some.following) item.delimiter item.number item.width checked c.begin.result c.begin-in-Some.result is_inside is_after c.begin.ensures.place c.begin-in-Some.ensures.place)
           begun),
     )
 

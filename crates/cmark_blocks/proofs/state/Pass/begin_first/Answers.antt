@@ -7,13 +7,13 @@ use Rattle.cmark_blocks.proofs.DefinitionRows.{definition-begins}
 use Rattle.cmark_grammar.specs.Leaves.{counted}
 use Rattle.cmark_grammar.specs.Metadata.{metadata_continuation}
 use Rattle.cmark_grammar.specs.Openings.{MetadataBlock}
-use Rattle.cmark_text_parts.specs.Shown.{shown_metadata_block_kind, shown_options}
+use Rattle.cmark_values.specs.Shown.{shown_metadata_block_kind, shown_options}
 use Rattle.cmark_block_model.specs.BlockPass.{ahead_in, begin_in, container_begun, inside_begun, is_item, definition_begun_in}
-use Rattle.cmark_lines.specs.Opened.{InsideIsIn}
-use Rattle.cmark_lines.specs.Rests.{row_of}
-use Rattle.cmark_lines.proofs.RestSteps.{whole}
-use Rattle.cmark_leaves.specs.TextColumns.{StandInText}
-use Rattle.cmark_leaves.proofs.TextColumnSteps.{without-in_text}
+use Rattle.cmark_line_rules.specs.Opened.{InsideIsIn}
+use Rattle.cmark_line_rules.specs.Rests.{row_of}
+use Rattle.cmark_line_rules.proofs.RestSteps.{whole}
+use Rattle.cmark_leaf_nodes.specs.TextColumns.{StandInText}
+use Rattle.cmark_leaf_nodes.proofs.TextColumnSteps.{without-in_text}
 use Rattle.cmark_blocks.specs.Ahead.{lines_at}
 use Rattle.cmark_blocks.specs.Entered.{OpensAs}
 use Rattle.cmark_blocks.specs.Runs.{Runs}

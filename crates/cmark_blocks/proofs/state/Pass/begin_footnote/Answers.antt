@@ -3,9 +3,9 @@ use Rattle.std.proofs.Common.{refl, ap, sym, ◌∙◌, subst}
 use Rattle.cmark_grammar.specs.BlockDocument.{FootnoteDefinition}
 use Rattle.cmark_grammar.specs.Labels.{normal_form}
 use Rattle.cmark_grammar.specs.Rows.{start_of, words_of}
-use Rattle.cmark_lines.specs.Rests.{row_of}
-use Rattle.cmark_lines.specs.Starts.{shown_footnote}
-use Rattle.cmark_scan_parts.specs.Footnotes.{marked}
+use Rattle.cmark_line_rules.specs.Rests.{row_of}
+use Rattle.cmark_line_rules.specs.Starts.{shown_footnote}
+use Rattle.cmark_scan_bytes.specs.Footnotes.{marked}
 use Rattle.cmark_block_model.specs.BlockPass.{block_begun}
 use Rattle.cmark_block_model.specs.Drawing.{opened}
 use Rattle.cmark_builder.specs.Drawn.{Draws}

@@ -1,9 +1,9 @@
 use Rattle.std.proofs.lemmas.Result.{on_ok_weaker}
 use Rattle.std.proofs.Common.{◌≡◌, Some, None, option_map, sym, ap, ◌∙◌, subst, ◌-◌}
 use Rattle.cmark_grammar.specs.LinkDefinitions.{definition_in}
-use Rattle.cmark_lines.specs.Rests.{row_of}
-use Rattle.cmark_definitions.specs.Settled.{defined_before}
-use Rattle.cmark_definitions.specs.Shown.{shown_definition}
+use Rattle.cmark_line_rules.specs.Rests.{row_of}
+use Rattle.cmark_link_definitions.specs.Settled.{defined_before}
+use Rattle.cmark_link_definitions.specs.Shown.{shown_definition}
 use Rattle.cmark_block_model.specs.BlockPass.{ahead_in}
 use Rattle.cmark_blocks.specs.Ahead.{lines_at}
 use Rattle.cmark_blocks.specs.Runs.{Runs}
@@ -42,10 +42,10 @@ returns-clause-runs g c =
     let more = left_bytes text options lookup m c.args.rest gathered holds in
     let some : Some found ≡ definition_in para = ap (option_map (shown_definition para)) (sym c.in-Some.is) ∙ c.scan_definition.ensures.value in
     subst (λ p. Runs replacement text options lookup p c.begin_definition.new.self)
-    (begins-definition text options lookup m inside r ahead bare (defined_before more found) c.words_begin.result c.content_end_behind-end.result c.saturating_sub-more.result
+    (begins-definition text options lookup m inside r ahead bare (defined_before more found) c.words_begin.result c.content_end_after-end.result c.saturating_sub-more.result
     (ap (option_map (defined_before more)) some ∙ decided text options lookup m c.args.rest gathered holds para c.as_str-paragraph.ensures.value (c.requires.decides text options lookup m runs))
     c.words_begin.ensures.place
-    (c.saturating_sub-more.ensures ∙ ap (λ n. gathered.lines - n) c.line_ends_behind-behind.ensures ∙ lines-taken text options lookup m c.args.rest gathered holds found.behind)
-    (c.content_end_behind-end.ensures text options lookup m runs))
+    (c.saturating_sub-more.ensures ∙ ap (λ n. gathered.lines - n) c.line_ends_after-following.ensures ∙ lines-taken text options lookup m c.args.rest gathered holds found.following)
+    (c.content_end_after-end.ensures text options lookup m runs))
     (ran text options lookup m runs))
     c.begin_definition.ensures.runs

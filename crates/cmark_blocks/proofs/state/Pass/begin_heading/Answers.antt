@@ -6,8 +6,8 @@ use Rattle.cmark_grammar.specs.Leaves.{run}
 use Rattle.cmark_grammar.specs.Rows.{start_of, words_of}
 use Rattle.cmark_grammar.specs.Tokens.{heading_tokens, heading_attributes, attribute_columns, content_columns}
 use Rattle.cmark_items.specs.ItemNodes.{ranged}
-use Rattle.cmark_text_parts.specs.Shown.{level_number}
-use Rattle.cmark_lines.specs.Rests.{row_of}
+use Rattle.cmark_values.specs.Shown.{level_number}
+use Rattle.cmark_line_rules.specs.Rests.{row_of}
 use Rattle.cmark_block_model.specs.BlockPass.{block_begun}
 use Rattle.cmark_block_model.specs.Drawing.{Drawing, drawn, opened, closed_at}
 use Rattle.cmark_builder.specs.Drawn.{Draws}

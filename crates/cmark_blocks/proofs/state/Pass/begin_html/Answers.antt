@@ -2,8 +2,8 @@ use Rattle.std.proofs.Common.{refl, sym, ap, ◌∙◌, subst}
 use Rattle.cmark_grammar.specs.BlockDocument.{HtmlBlock, Nil}
 use Rattle.cmark_grammar.specs.Rows.{begin_of}
 use Rattle.cmark_grammar.specs.Tokens.{html_then, verbatim_line}
-use Rattle.cmark_lines.specs.Rests.{row_of}
-use Rattle.cmark_scan_blocks.specs.HtmlLines.{kind_number}
+use Rattle.cmark_line_rules.specs.Rests.{row_of}
+use Rattle.cmark_scan_lines.specs.HtmlLines.{kind_number}
 use Rattle.cmark_block_model.specs.BlockPass.{block_begun, html_begun, html_line, node_opened}
 use Rattle.cmark_block_model.specs.Drawing.{Drawing, drawn, opened, closed_at}
 use Rattle.cmark_block_model.specs.OpenBlocks as model
@@ -11,7 +11,7 @@ use Rattle.cmark_builder.specs.Drawn.{Draws}
 use Rattle.cmark_builder.proofs.DrawnSteps.{draws-open, draws-close}
 use Rattle.cmark_blocks.specs.declared.state.OpenLeaf.TheVariants as leaf
 use Rattle.cmark_blocks.specs.Runs.{Runs}
-use Rattle.cmark_blocks.proofs.RunSteps.{runs-builder, runs-leaf, none_behind_closed}
+use Rattle.cmark_blocks.proofs.RunSteps.{runs-builder, runs-leaf, none_after_closed}
 use Rattle.cmark_blocks.proofs.state.Pass.begin_html.Goals as goal
 use Rattle.cmark_items.specs.Tables.{defined}
 
@@ -34,7 +34,7 @@ returns-then-ends_at_once-clause-runs g c more text options lookup m ahead runs 
     (runs-leaf replacement text options lookup _ _ leaf.Closed model.Closed
     (runs-builder replacement text options lookup (block_begun m) before c.close.new.self (closed_at row.line_end line) r draws
     (ap defined c.close.ensures.tables ∙ c.in_ok-draw_html_line.ensures.definitions ∙ ap defined c.in_ok-open.ensures.tables))
-    (refl, ap (λ b. b.items) c.begin_block.ensures.others.blank_lines ∙ none_behind_closed replacement text options lookup m c.args.self.now c.requires.closed runs))
+    (refl, ap (λ b. b.items) c.begin_block.ensures.others.blank_lines ∙ none_after_closed replacement text options lookup m c.args.self.now c.requires.closed runs))
 
 pub returns-else-ends_at_once-clause-runs : goal.returns-else-ends_at_once-clause-runs
 returns-else-ends_at_once-clause-runs g c more text options lookup m ahead runs =
@@ -53,4 +53,4 @@ returns-else-ends_at_once-clause-runs g c more text options lookup m ahead runs 
     (runs-leaf replacement text options lookup _ _ (leaf.Html c.args.kind) (model.InHtml kind)
     (runs-builder replacement text options lookup (block_begun m) before c.draw_html_line.new.builder line r (c.in_ok-draw_html_line.ensures.drawn text begun first)
     (c.in_ok-draw_html_line.ensures.definitions ∙ ap defined c.in_ok-open.ensures.tables))
-    (refl, ap (λ b. b.items) c.begin_block.ensures.others.blank_lines ∙ none_behind_closed replacement text options lookup m c.args.self.now c.requires.closed runs))
+    (refl, ap (λ b. b.items) c.begin_block.ensures.others.blank_lines ∙ none_after_closed replacement text options lookup m c.args.self.now c.requires.closed runs))

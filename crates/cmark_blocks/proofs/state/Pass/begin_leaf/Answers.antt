@@ -4,10 +4,10 @@ use Rattle.cmark_grammar.specs.Leaves.{counted, code_continuation}
 use Rattle.cmark_grammar.specs.HtmlBlocks.{html_lines}
 use Rattle.cmark_grammar.specs.Leaves.{fence_continuation}
 use Rattle.cmark_grammar.specs.Rows.{words_of}
-use Rattle.cmark_text_parts.specs.Shown.{shown_options}
-use Rattle.cmark_lines.specs.Rests.{row_of}
-use Rattle.cmark_scan_blocks.specs.HtmlLines.{kind_number}
-use Rattle.cmark_scan_blocks.specs.LeafLines.{shown_fence}
+use Rattle.cmark_values.specs.Shown.{shown_options}
+use Rattle.cmark_line_rules.specs.Rests.{row_of}
+use Rattle.cmark_scan_lines.specs.HtmlLines.{kind_number}
+use Rattle.cmark_scan_lines.specs.LeafLines.{shown_fence}
 use Rattle.cmark_block_model.specs.BlockPass.{ahead_in}
 use Rattle.cmark_blocks.specs.Ahead.{lines_at}
 use Rattle.cmark_blocks.specs.Entered.{BeginsAs}

@@ -7,7 +7,7 @@ use Rattle.cmark_items.specs.Tables.{defined}
 use Rattle.cmark_grammar.specs.Tables.{delimiter_row}
 use Rattle.cmark_grammar.specs.TableTokens.{row_cells, row_tokens, table_tokens}
 use Rattle.cmark_items.specs.ItemNodes.{columns_of, ranged}
-use Rattle.cmark_lines.specs.Rests.{row_of}
+use Rattle.cmark_line_rules.specs.Rests.{row_of}
 use Rattle.cmark_block_model.specs.BlockPass.{ahead_in, block_begun, with_drawn}
 use Rattle.cmark_block_model.specs.Drawing.{Drawing, drawn, opened, closed_at}
 use Rattle.cmark_block_model.specs.OpenBlocks as model
@@ -17,7 +17,7 @@ use Rattle.cmark_blocks.specs.declared.state.OpenLeaf.TheVariants as leaf
 use Rattle.cmark_blocks.specs.Ahead.{lines_at}
 use Rattle.cmark_blocks.specs.Runs.{Runs}
 use Rattle.cmark_blocks.specs.TablesAhead.{rows_taken}
-use Rattle.cmark_blocks.proofs.RunSteps.{runs-builder, runs-leaf, none_behind_closed}
+use Rattle.cmark_blocks.proofs.RunSteps.{runs-builder, runs-leaf, none_after_closed}
 use Rattle.cmark_blocks.proofs.TableRuns.{in_table}
 use Rattle.cmark_blocks.proofs.state.Pass.begin_table.Goals as goal
 
@@ -30,8 +30,8 @@ returns-clause-runs g c text options lookup m runs many =
     let columns = c.args.columns in
     let row = row_of c.args.rest in
     let next = row_of c.args.delimiter in
-    let behind = ahead_in text options lookup m.outer (lines_at text next.line_end) in
-    let taken = rows_taken options columns most_filled behind in
+    let following = ahead_in text options lookup m.outer (lines_at text next.line_end) in
+    let taken = rows_taken options columns most_filled following in
     let kind = Table (columns_of (delimiter_row (words_of next))) in
     let d = (block_begun m).drawing in
     let begun : Drawing = opened (start_of row) kind d in
@@ -43,12 +43,12 @@ returns-clause-runs g c text options lookup m runs many =
     let mid = runs-builder replacement text options lookup (block_begun m) before c.draw_head.new.builder head r (c.in_ok-draw_head.ensures.drawn text begun first)
     (c.in_ok-draw_head.ensures.definitions ∙ ap defined c.in_ok-open.ensures.tables ∙ c.in_ok-body.ensures.definitions) in
     let rows = c.in_ok-count.ensures.runs text options lookup _ mid in
-    let none = none_behind_closed replacement text options lookup _ drew (c.in_ok-count.ensures.leaf ∙ c.begin_block.ensures.others.leaf ∙ c.requires.closed) rows.0 in
+    let none = none_after_closed replacement text options lookup _ drew (c.in_ok-count.ensures.leaf ∙ c.begin_block.ensures.others.leaf ∙ c.requires.closed) rows.0 in
     let whole : Drawing = drawn (Node (node kind (start_of row) (last_line_end next taken)) (table_tokens text columns row (next ∷ taken)) Nil) d in
     let closed = subst (λ line_end. Draws text new (closed_at line_end (drawn (row_tokens text columns taken) head))) rows.2
     (draws-close text drew.builder new c.in_ok-count.line_end _ c.close.ensures.closed c.close.ensures.none c.close.ensures.tables rows.0.drawing) in
-    subst (λ (k : ℕ). Runs replacement text options lookup (record (with_drawn (Node (node kind (start_of row) (last_line_end next taken)) (table_tokens text k row (next ∷ taken)) Nil) (block_begun m)) { leaf = model.InTable (suc (count_rows options columns most_filled behind)) }) (record drew { builder = new; leaf = leaf.Table (c.in_ok-count.count + 1) }))
+    subst (λ (k : ℕ). Runs replacement text options lookup (record (with_drawn (Node (node kind (start_of row) (last_line_end next taken)) (table_tokens text k row (next ∷ taken)) Nil) (block_begun m)) { leaf = model.InTable (suc (count_rows options columns most_filled following)) }) (record drew { builder = new; leaf = leaf.Table (c.in_ok-count.count + 1) }))
     (sym many)
-    (runs-leaf replacement text options lookup _ _ (leaf.Table (c.in_ok-count.count + 1)) (model.InTable (suc (count_rows options columns most_filled behind)))
+    (runs-leaf replacement text options lookup _ _ (leaf.Table (c.in_ok-count.count + 1)) (model.InTable (suc (count_rows options columns most_filled following)))
     (runs-builder replacement text options lookup _ drew new whole rows.0 closed (ap defined c.close.ensures.tables))
-    (in_table text options columns c.in_ok-count.count behind _ rows.1 none))
+    (in_table text options columns c.in_ok-count.count following _ rows.1 none))

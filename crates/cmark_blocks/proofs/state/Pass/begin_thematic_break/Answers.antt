@@ -2,7 +2,7 @@ use Rattle.std.proofs.lemmas.Result.{on_ok_weaker}
 use Rattle.std.proofs.Common.{refl, ap, subst}
 use Rattle.cmark_grammar.specs.BlockDocument.{ThematicBreak, Node, Nil, node}
 use Rattle.cmark_grammar.specs.Rows.{start_of}
-use Rattle.cmark_lines.specs.Rests.{row_of}
+use Rattle.cmark_line_rules.specs.Rests.{row_of}
 use Rattle.cmark_block_model.specs.BlockPass.{block_begun}
 use Rattle.cmark_block_model.specs.Drawing.{drawn}
 use Rattle.cmark_builder.specs.Drawn.{Draws}

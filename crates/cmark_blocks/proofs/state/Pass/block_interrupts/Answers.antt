@@ -1,6 +1,6 @@
 use Rattle.std.proofs.Common.{◌&&◌, ◌||◌, sym, ap, ◌∙◌}
 use Rattle.cmark_grammar.specs.DefinitionLists.{begins_definition}
-use Rattle.cmark_lines.specs.Rests.{row_of}
+use Rattle.cmark_line_rules.specs.Rests.{row_of}
 use Rattle.cmark_blocks.proofs.state.Pass.block_interrupts.Goals as goal
 
 pub returns-then-table_interrupts : goal.returns-then-table_interrupts

@@ -1,6 +1,6 @@
 use Rattle.std.proofs.Common.{[], ◌∷◌, ◌++◌, ap, ◌∙◌, subst, length, arith, length-append}
 use Rattle.std.proofs.lemmas.List.{nil_from_length}
-use Rattle.cmark_block_model.specs.BlockPass.{ended, behind_container}
+use Rattle.cmark_block_model.specs.BlockPass.{ended, after_container}
 use Rattle.cmark_block_model.specs.Drawing.{closed_at}
 use Rattle.cmark_builder.specs.Drawn.{Draws}
 use Rattle.cmark_builder.proofs.DrawnSteps.{draws-close}
@@ -19,12 +19,12 @@ returns-in-Some-clause-runs g c text options lookup m outer last split runs =
     let drawing = ended m.inner m.drawing in
     let draws = subst (λ end. Draws text c.close.new.self (closed_at end drawing)) r.line_end
     (draws-close text before.builder c.close.new.self before.line_end drawing c.close.ensures.closed c.close.ensures.none c.close.ensures.tables r.drawing) in
-    runs-inner replacement text options lookup _ _ c.siblings_behind-self.result (behind_container last.container m.line_end m.inner last.around)
+    runs-inner replacement text options lookup _ _ c.siblings_after-self.result (after_container last.container m.line_end m.inner last.around)
     (runs-builder replacement text options lookup _ _ c.close.new.self (closed_at m.line_end drawing)
     (runs-outer replacement text options lookup _ before c.pop.new.self outer r parts.0) draws (ap defined c.close.ensures.tables))
-    (c.siblings_behind-self.ensures last parts.1
-    ∙ ap (λ end. behind_container last.container end (shown_siblings before.inner) last.around) r.line_end
-    ∙ ap (λ inside. behind_container last.container m.line_end inside last.around) r.inner)
+    (c.siblings_after-self.ensures last parts.1
+    ∙ ap (λ end. after_container last.container end (shown_siblings before.inner) last.around) r.line_end
+    ∙ ap (λ inside. after_container last.container m.line_end inside last.around) r.inner)
 
 pub returns-in-Some-clause-fewer : goal.returns-in-Some-clause-fewer
 returns-in-Some-clause-fewer g c =

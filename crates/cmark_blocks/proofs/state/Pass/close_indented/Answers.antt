@@ -1,11 +1,11 @@
 use Rattle.std.proofs.Common.{map, sym, ap, ◌∙◌, subst}
 use Rattle.cmark_block_model.specs.BlockPass.{close_leaf, is_some}
-use Rattle.cmark_lines.specs.Rests.{row_of}
+use Rattle.cmark_line_rules.specs.Rests.{row_of}
 use Rattle.cmark_block_model.specs.CodeLines.{texts_of, rest_of}
 use Rattle.cmark_block_model.specs.Drawing.{Drawing, drawn, closed_at}
 use Rattle.cmark_block_model.specs.OpenBlocks as model
 use Rattle.cmark_builder.proofs.DrawnSteps.{draws-close}
-use Rattle.cmark_leaves.specs.Stretches.{shown_waits}
+use Rattle.cmark_leaf_nodes.specs.Stretches.{shown_waits}
 use Rattle.cmark_blocks.specs.Runs.{Runs, ShowsLeaf}
 use Rattle.cmark_blocks.specs.declared.state.OpenLeaf.TheVariants as leaf
 use Rattle.cmark_blocks.proofs.RunSteps.{runs-builder, runs-inner, runs-closed}

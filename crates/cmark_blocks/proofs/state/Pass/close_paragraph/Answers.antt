@@ -1,7 +1,7 @@
 use Rattle.std.proofs.Common.{sym, subst}
 use Rattle.cmark_grammar.specs.BlockDocument.{Nil}
 use Rattle.cmark_grammar.specs.Tokens.{words_end, stretch_then}
-use Rattle.cmark_lines.specs.Rests.{row_of}
+use Rattle.cmark_line_rules.specs.Rests.{row_of}
 use Rattle.cmark_block_model.specs.BlockPass.{close_leaf}
 use Rattle.cmark_block_model.specs.Drawing.{Drawing, drawn, closed_at}
 use Rattle.cmark_builder.specs.Drawn.{Draws}

@@ -4,7 +4,7 @@ use Rattle.cmark_block_model.specs.Drawing.{Drawing, drawn, closed_at}
 use Rattle.cmark_block_model.specs.OpenBlocks as model
 use Rattle.cmark_builder.specs.Drawn.{Draws}
 use Rattle.cmark_builder.proofs.DrawnSteps.{draws-close}
-use Rattle.cmark_leaves.specs.Stretches.{shown_waits}
+use Rattle.cmark_leaf_nodes.specs.Stretches.{shown_waits}
 use Rattle.cmark_blocks.specs.Runs.{Runs}
 use Rattle.cmark_blocks.specs.declared.state.OpenLeaf.TheVariants as leaf
 use Rattle.cmark_blocks.proofs.LeafSteps.{verbatim-closes}

@@ -1,5 +1,5 @@
 use Rattle.std.proofs.Common.{arith}
-use Rattle.cmark_lines.specs.Rests.{row_of}
+use Rattle.cmark_line_rules.specs.Rests.{row_of}
 use Rattle.cmark_blocks.proofs.TableRuns.{one-row-more, rows-drawn}
 use Rattle.cmark_blocks.proofs.state.Pass.draw_rows.Goals as goal
 

@@ -1,5 +1,5 @@
 use Rattle.std.proofs.Common.{◌≡◌, ◌-◌, ◌≤◌, false, length}
-use Rattle.cmark_lines.specs.Rests.{IsIn, row_of}
+use Rattle.cmark_line_rules.specs.Rests.{IsIn, row_of}
 use Rattle.cmark_blocks.specs.Runs.{IsGood}
 use Rattle.cmark_blocks.specs.TablesAhead.{DrawsRowsSoFar}
 use Rattle.cmark_blocks.proofs.state.Pass.draw_rows.Given as goal

@@ -1,9 +1,9 @@
 use Rattle.std.proofs.Common.{◌<◌, ◌≤◌, refl, sym, ap, subst, ◌∙◌, length, arith}
 use Rattle.std.specs.Str.{IsCharBoundary}
 use Rattle.cmark_grammar.specs.Rows.{Row}
-use Rattle.cmark_lines.specs.Rests.{row_of, IsIn}
-use Rattle.cmark_leaves.specs.TextColumns.{StandInText}
-use Rattle.cmark_leaves.proofs.TextColumnSteps.{line-in_text}
+use Rattle.cmark_line_rules.specs.Rests.{row_of, IsIn}
+use Rattle.cmark_leaf_nodes.specs.TextColumns.{StandInText}
+use Rattle.cmark_leaf_nodes.proofs.TextColumnSteps.{line-in_text}
 use Rattle.cmark_blocks.proofs.FeedSteps.{feeds-start, feeds-step, feeds-end}
 use Rattle.cmark_blocks.proofs.state.Pass.feed_all.Goals as goal
 

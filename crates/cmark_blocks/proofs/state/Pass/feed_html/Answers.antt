@@ -2,8 +2,8 @@ use Rattle.std.proofs.lemmas.Result.{on_ok_weaker}
 use Rattle.std.proofs.Common.{[], refl, sym, ap, ◌∙◌, subst}
 use Rattle.cmark_grammar.specs.BlockDocument.{Nil}
 use Rattle.cmark_grammar.specs.Tokens.{html_then, verbatim_line}
-use Rattle.cmark_lines.specs.Rests.{row_of}
-use Rattle.cmark_scan_blocks.specs.HtmlLines.{kind_number}
+use Rattle.cmark_line_rules.specs.Rests.{row_of}
+use Rattle.cmark_scan_lines.specs.HtmlLines.{kind_number}
 use Rattle.cmark_block_model.specs.Drawing.{Drawing, drawn, closed_at}
 use Rattle.cmark_block_model.specs.OpenBlocks as model
 use Rattle.cmark_builder.specs.Drawn.{Draws}

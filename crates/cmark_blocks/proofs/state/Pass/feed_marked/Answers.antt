@@ -2,9 +2,9 @@ use Rattle.std.proofs.lemmas.Result.{on_ok_weaker}
 use Rattle.std.proofs.Common.{◌≡◌, ◌≤◌, true, false, ◌||◌, length, map, option_map, sym, ap, subst, ◌∙◌, arith, true≢false}
 use Rattle.cmark_grammar.specs.Openings.{interrupts}
 use Rattle.cmark_blocks.specs.TablesAhead.{block_interrupts}
-use Rattle.cmark_text_parts.specs.Shown.{level_number}
-use Rattle.cmark_lines.specs.Rests.{row_of}
-use Rattle.cmark_lines.proofs.RestSteps.{whole}
+use Rattle.cmark_values.specs.Shown.{level_number}
+use Rattle.cmark_line_rules.specs.Rests.{row_of}
+use Rattle.cmark_line_rules.proofs.RestSteps.{whole}
 use Rattle.cmark_block_model.specs.BlockPass.{ahead_in}
 use Rattle.cmark_blocks.specs.Ahead.{lines_at}
 use Rattle.cmark_blocks.specs.Runs.{Runs}
@@ -20,7 +20,7 @@ returns-in-Some-clause-runs g c =
     let replacement = g.E.EntityLookup.replacement in
     let row = row_of c.args.rest in
     subst (λ p. Runs replacement text options lookup p c.underline.new.self)
-    (sym (feeds-underline text options lookup row (lines_at text row.line_end) m (map row_of c.args.self.now.blank_lines.items) c.args.from (row_of c.args.last) (level_number c.in-Some.level) (ap (option_map level_number) (sym c.in-Some.is) ∙ c.underlines.ensures) (in_paragraph replacement text options lookup m c.args.self.now runs c.args.from c.args.last c.requires.behind.is)))
+    (sym (feeds-underline text options lookup row (lines_at text row.line_end) m (map row_of c.args.self.now.blank_lines.items) c.args.from (row_of c.args.last) (level_number c.in-Some.level) (ap (option_map level_number) (sym c.in-Some.is) ∙ c.underlines.ensures) (in_paragraph replacement text options lookup m c.args.self.now runs c.args.from c.args.last c.requires.following.is)))
     (ran text options lookup m runs))
     c.underline.ensures.runs
 
@@ -42,7 +42,7 @@ returns-then-block_interrupts-clause-runs g c =
     ] in
     subst (λ p. Runs replacement text options lookup p c.begin_anew.new.self)
     (sym (feeds-interrupted text options lookup row next m (map row_of c.args.self.now.blank_lines.items) c.args.from (row_of c.args.last) (ap (option_map level_number) (sym c.in_default.is) ∙ c.underlines.ensures) (whole c.args.rest)
-    ends (in_paragraph replacement text options lookup m c.args.self.now runs c.args.from c.args.last c.requires.behind.is)))
+    ends (in_paragraph replacement text options lookup m c.args.self.now runs c.args.from c.args.last c.requires.following.is)))
     (ran text options lookup m runs))
     c.begin_anew.ensures.runs
 
@@ -64,6 +64,6 @@ returns-else-block_interrupts-clause-runs g c =
     ] in
     subst (λ p. Runs replacement text options lookup p c.add_to_paragraph.new.self)
     (sym (feeds-text text options lookup row next m (map row_of c.args.self.now.blank_lines.items) c.args.from (row_of c.args.last) (ap (option_map level_number) (sym c.in_default.is) ∙ c.underlines.ensures) (whole c.args.rest)
-    goes_on (in_paragraph replacement text options lookup m c.args.self.now runs c.args.from c.args.last c.requires.behind.is)))
+    goes_on (in_paragraph replacement text options lookup m c.args.self.now runs c.args.from c.args.last c.requires.following.is)))
     (ran text options lookup m runs))
     c.add_to_paragraph.ensures.runs

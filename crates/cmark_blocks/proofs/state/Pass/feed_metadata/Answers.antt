@@ -1,12 +1,12 @@
 use Rattle.std.proofs.Common.{refl, sym, ap, ◌∙◌, subst}
-use Rattle.cmark_lines.specs.Rests.{row_of}
-use Rattle.cmark_text_parts.specs.Shown.{shown_metadata_block_kind}
+use Rattle.cmark_line_rules.specs.Rests.{row_of}
+use Rattle.cmark_values.specs.Shown.{shown_metadata_block_kind}
 use Rattle.cmark_block_model.specs.CodeLines.{code_line, rest_of, texts_of}
 use Rattle.cmark_block_model.specs.Drawing.{Drawing, drawn, closed_at}
 use Rattle.cmark_block_model.specs.OpenBlocks as model
 use Rattle.cmark_builder.specs.Drawn.{Draws}
 use Rattle.cmark_builder.proofs.DrawnSteps.{draws-close}
-use Rattle.cmark_leaves.specs.Stretches.{shown_waits}
+use Rattle.cmark_leaf_nodes.specs.Stretches.{shown_waits}
 use Rattle.cmark_blocks.specs.Ahead.{lines_at}
 use Rattle.cmark_blocks.specs.Runs.{Runs, ShowsLeaf}
 use Rattle.cmark_blocks.specs.declared.state.OpenLeaf.TheVariants as leaf

@@ -1,5 +1,5 @@
 use Rattle.std.specs.Prelude.{string_bytes}
-use Rattle.cmark_lines.specs.Rests.{row_of}
+use Rattle.cmark_line_rules.specs.Rests.{row_of}
 use Rattle.cmark_blocks.specs.Gathered.{texts_at}
 use Rattle.cmark_blocks.proofs.DefinitionSteps.{whole-decides, whole-of, kept-of}
 use Rattle.cmark_blocks.proofs.state.Pass.gather.Goals as goal

@@ -1,5 +1,5 @@
 use Rattle.std.proofs.Common.{◌-◌, length}
-use Rattle.cmark_lines.specs.Rests.{row_of}
+use Rattle.cmark_line_rules.specs.Rests.{row_of}
 use Rattle.cmark_blocks.specs.Gathered.{IsGathered, Gathers}
 use Rattle.cmark_blocks.proofs.state.Pass.gather.Given as goal
 

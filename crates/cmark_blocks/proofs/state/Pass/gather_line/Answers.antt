@@ -2,7 +2,7 @@ use Rattle.std.proofs.Common.{◌≡◌, ◌++◌, ◌+◌, ap, ◌∙◌, arith
 use Rattle.std.specs.Prelude.{string_bytes}
 use Rattle.cmark_grammar.specs.Columns.{bytes_of}
 use Rattle.cmark_grammar.specs.LinkDefinitions.{line_end_of}
-use Rattle.cmark_lines.specs.Rests.{row_of}
+use Rattle.cmark_line_rules.specs.Rests.{row_of}
 use Rattle.cmark_blocks.proofs.GatherSteps.{holds-more}
 use Rattle.cmark_blocks.proofs.state.Pass.gather_line.Goals as goal
 

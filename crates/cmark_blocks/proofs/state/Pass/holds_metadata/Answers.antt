@@ -1,8 +1,8 @@
 use Rattle.std.proofs.Common.{◌≡◌, true, false, ◌||◌, sym, ap, ◌∙◌}
 use Rattle.cmark_grammar.specs.Metadata.{ends_metadata}
 use Rattle.cmark_grammar.specs.Rows.{is_blank_line}
-use Rattle.cmark_text_parts.specs.Shown.{shown_metadata_block_kind}
-use Rattle.cmark_lines.specs.Rests.{row_of}
+use Rattle.cmark_values.specs.Shown.{shown_metadata_block_kind}
+use Rattle.cmark_line_rules.specs.Rests.{row_of}
 use Rattle.cmark_block_model.specs.BlockPass.{ahead_in}
 use Rattle.cmark_blocks.specs.Ahead.{lines_at}
 use Rattle.cmark_blocks.proofs.MetadataSteps.{holds-first, ended-none, ended-next, or-true}

@@ -2,8 +2,8 @@ use Rattle.std.proofs.Common.{◌≡◌, ◌-◌, ℕ, List, length}
 use Rattle.cmark_grammar.specs.Answers.{Lookup}
 use Rattle.cmark_grammar.specs.Metadata.{is_ended, holds_metadata}
 use Rattle.cmark_grammar.specs.Options.{Options}
-use Rattle.cmark_text_parts.specs.Shown.{shown_metadata_block_kind}
-use Rattle.cmark_lines.specs.Rests.{row_of, IsIn}
+use Rattle.cmark_values.specs.Shown.{shown_metadata_block_kind}
+use Rattle.cmark_line_rules.specs.Rests.{row_of, IsIn}
 use Rattle.cmark_block_model.specs.BlockPass.{ahead_in}
 use Rattle.cmark_block_model.specs.OpenBlocks as model
 use Rattle.cmark_blocks.specs.Ahead.{lines_at}

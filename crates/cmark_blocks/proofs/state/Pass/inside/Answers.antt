@@ -1,6 +1,6 @@
 use Rattle.std.proofs.Common.{◌≡◌, List, [], ◌∷◌, length, refl, sym, ap, ◌∙◌, subst, vec_len, arith}
-use Rattle.cmark_lines.specs.Rests.{row_of}
-use Rattle.cmark_lines.proofs.RestSteps.{whole}
+use Rattle.cmark_line_rules.specs.Rests.{row_of}
+use Rattle.cmark_line_rules.proofs.RestSteps.{whole}
 use Rattle.cmark_block_model.specs.BlockPass.{ahead_in, kept_by}
 use Rattle.cmark_block_model.specs.OpenBlocks as model
 use Rattle.cmark_blocks.specs.Shown.{ShowsContainers}
@@ -24,8 +24,8 @@ returns-then-is_empty-clause-seen g c text options lookup m more runs =
     let empty = nothing-open outer.items m.outer (omega (arith, none, outer.ok.0)) runs.outer in
     (refl, subst (λ cs. ahead_in text options lookup cs (r ∷ more) ≡ r ∷ ahead_in text options lookup cs more) (sym empty) refl)
 
-pub returns-then-is_empty-clause-behind : goal.returns-then-is_empty-clause-behind
-returns-then-is_empty-clause-behind g c = (0, ((row_of c.args.line).held, refl))
+pub returns-then-is_empty-clause-following : goal.returns-then-is_empty-clause-following
+returns-then-is_empty-clause-following g c = (0, ((row_of c.args.line).held, refl))
 
 pub returns-then-kept-len-clause-seen : goal.returns-then-kept-len-clause-seen
 returns-then-kept-len-clause-seen g c text options lookup m more runs =

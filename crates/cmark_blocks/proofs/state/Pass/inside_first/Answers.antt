@@ -1,16 +1,16 @@
 use Rattle.std.proofs.Common.{◌<◌, length, option_map, refl, sym, ap, ◌∙◌, arith}
 use Rattle.std.proofs.lemmas.Option.{slice_get_read}
-use Rattle.cmark_lines.specs.Rests.{row_of}
+use Rattle.cmark_line_rules.specs.Rests.{row_of}
 use Rattle.cmark_blocks.proofs.AheadSteps.{inside-start}
 use Rattle.cmark_blocks.proofs.InsideSteps.{first-keeps, first-misses, first-all}
-use Rattle.cmark_blocks.proofs.KeepingSteps.{behind-more}
+use Rattle.cmark_blocks.proofs.KeepingSteps.{following-more}
 use Rattle.cmark_blocks.proofs.state.Pass.inside_first.Goals as goal
 
 pub loop-at-init : goal.loop-at-init
 loop-at-init g c = record {
   seen = λ text options lookup m more runs. inside-start text options lookup _ (row_of c.args.line) more;
   placed = λ text is. is;
-  behind = (0, ((row_of c.args.line).held, refl));
+  following = (0, ((row_of c.args.line).held, refl));
   within = omega arith;
 }
 
@@ -36,12 +36,12 @@ loop-at-preserved g c =
           (slice_get_read cs (length cs) at c.index.result.now refl within c.index.ensures) c.loop-at-test.true inside
           (λ k shows. ap (option_map row_of) (sym c.in_ok-rest.was) ∙ c.keeps.ensures.row k shows) _ (omega arith) (c.loop-at.invariant.seen text options lookup m more runs);
       placed = λ text is. c.in_ok-rest.ensures.placed text (c.loop-at.invariant.placed text is);
-      behind = behind-more c.args.line rest inside c.index.result.now.container _ (λ k shows. ap (option_map row_of) (sym c.in_ok-rest.was) ∙ c.keeps.ensures.row k shows) c.loop-at.invariant.behind;
+      following = following-more c.args.line rest inside c.index.result.now.container _ (λ k shows. ap (option_map row_of) (sym c.in_ok-rest.was) ∙ c.keeps.ensures.row k shows) c.loop-at.invariant.following;
       within = omega (arith, c.loop-at-test.true);
     }
 
 pub returns-clause-seen : goal.returns-clause-seen
 returns-clause-seen g c text options lookup m more runs = (
-  ap (λ r. r.line_end) (sym c.loop-at.invariant.behind.1.1),
+  ap (λ r. r.line_end) (sym c.loop-at.invariant.following.1.1),
   first-all text options lookup m.outer c.args.count c.loop-at.at (row_of c.args.line) more c.loop-at.rest c.loop-at-test.false (c.loop-at.invariant.seen text options lookup m more runs),
 )

@@ -1,6 +1,6 @@
 use Rattle.std.proofs.Common.{true, false, take, length, refl, sym, ap, ◌∙◌, true≢false}
 use Rattle.std.proofs.lemmas.Option.{slice_get_read}
-use Rattle.cmark_lines.specs.Rests.{row_of}
+use Rattle.cmark_line_rules.specs.Rests.{row_of}
 use Rattle.cmark_block_model.specs.BlockPass.{ahead_in}
 use Rattle.cmark_block_model.specs.OpenBlocks.{takes_lazy}
 use Rattle.cmark_grammar.specs.Openings.{interrupts, lazily}

@@ -7,9 +7,9 @@ use Rattle.cmark_references.specs.Definitions.{definition, entry_of, first_of, a
 use Rattle.cmark_references.proofs.EntrySteps.{looked_up}
 use Rattle.cmark_references.proofs.SpellingSteps.{at}
 use Rattle.cmark_references.specs.declared.definitions.LinkDef.{LinkDef}
-use Rattle.cmark_text_parts.specs.Labelled.{link_key}
-use Rattle.cmark_text_parts.specs.declared.label.LinkLabel.{LinkLabel}
-use Rattle.cmark_definitions.specs.Shown.{written}
+use Rattle.cmark_values.specs.Labelled.{link_key}
+use Rattle.cmark_values.specs.declared.label.LinkLabel.{LinkLabel}
+use Rattle.cmark_link_definitions.specs.Shown.{written}
 use Rattle.cmark_blocks.specs.Runs.{Runs}
 use Rattle.cmark_blocks.proofs.DefinitionSteps.{runs-references}
 use Rattle.cmark_blocks.proofs.ReferenceSteps.{fold-again, shown-first, with-more, with-known, known-some, known-reference}

@@ -2,9 +2,9 @@ use Rattle.std.proofs.Common.{◌≡◌, suc, ◌<◌, ◌&&◌, None, option_ma
 use Rattle.std.specs.Prelude.{◌==◌}
 use Rattle.std.proofs.lemmas.Option.{slice_get_read}
 use Rattle.cmark_grammar.specs.Containers as grammar
-use Rattle.cmark_lines.specs.Rests.{row_of}
-use Rattle.cmark_lines.specs.Starts.{Shows}
-use Rattle.cmark_blocks.proofs.KeepingSteps.{keeps-on, keeps-not, keeps-all, behind-more}
+use Rattle.cmark_line_rules.specs.Rests.{row_of}
+use Rattle.cmark_line_rules.specs.Starts.{Shows}
+use Rattle.cmark_blocks.proofs.KeepingSteps.{keeps-on, keeps-not, keeps-all, following-more}
 use Rattle.cmark_blocks.proofs.state.Pass.kept_by.Goals as goal
 
 pub loop-kept-init : goal.loop-kept-init
@@ -36,7 +36,7 @@ loop-kept-preserved g c =
           _ (omega arith),
       omega (arith, within),
       λ text is. c.in-Some.ensures.placed text (c.loop-kept.invariant.2 text is),
-      behind-more c.args.line rest c.in-Some.inside c.index.result.now.container c.is_bare-bare.result
+      following-more c.args.line rest c.in-Some.inside c.index.result.now.container c.is_bare-bare.result
           (λ k shows. ap (option_map row_of) (sym c.in-Some.is) ∙ c.keeps.ensures.row k shows) c.loop-kept.invariant.3,
     )
 

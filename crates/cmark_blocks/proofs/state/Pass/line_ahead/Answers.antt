@@ -1,10 +1,10 @@
 use Rattle.std.proofs.Common.{Option, Some, None, ap, ◌∙◌, subst, length, arith}
 use Rattle.std.specs.Prelude.{IfSome}
-use Rattle.cmark_leaves.specs.TextColumns.{StandInText}
-use Rattle.cmark_leaves.proofs.TextColumnSteps.{line-in_text, without-in_text}
-use Rattle.cmark_lines.specs.Rests.{row_of}
-use Rattle.cmark_lines.specs.declared.line_rest.LineRest.{LineRest}
-use Rattle.cmark_blocks.specs.KeepingContainers.{IsBehind}
+use Rattle.cmark_leaf_nodes.specs.TextColumns.{StandInText}
+use Rattle.cmark_leaf_nodes.proofs.TextColumnSteps.{line-in_text, without-in_text}
+use Rattle.cmark_line_rules.specs.Rests.{row_of}
+use Rattle.cmark_line_rules.specs.declared.line_rest.LineRest.{LineRest}
+use Rattle.cmark_blocks.specs.KeepingContainers.{IsAfter}
 use Rattle.cmark_blocks.proofs.AheadSteps.{next-line, no-line}
 use Rattle.cmark_blocks.proofs.state.Pass.line_ahead.Goals as goal
 
@@ -19,7 +19,7 @@ returns-clause-next g c text options lookup m runs =
     (λ more. c.inside.ensures.seen text options lookup m more runs)
 
 pub returns-clause-in_text : goal.returns-clause-in_text
-returns-clause-in_text g c = go c.inside.result c.inside.ensures.behind
+returns-clause-in_text g c = go c.inside.result c.inside.ensures.following
   where
     in_text : StandInText c.args.self.now.text.now (row_of c.new-line.result).columns
     in_text =
@@ -32,6 +32,6 @@ returns-clause-in_text g c = go c.inside.result c.inside.ensures.behind
         line-in_text bytes start line (omega (arith, c.line_end-start.ensures.within text c.requires.within, ap length c.as_bytes.ensures.value)) new.line (λ e. ap (λ r. r.columns) (new.none e)) in
         subst (λ t. StandInText t line.columns) c.as_bytes.ensures.value whole_line
 
-    go : (o : Option LineRest) → IfSome o (IsBehind c.new-line.result) → IfSome o (λ rest. StandInText c.args.self.now.text.now (row_of rest).columns)
-    go None behind = tt
-    go (Some rest) behind = subst (λ r. StandInText c.args.self.now.text.now r.columns) behind.1.1 (without-in_text c.args.self.now.text.now behind.0 (row_of c.new-line.result) in_text)
+    go : (o : Option LineRest) → IfSome o (IsAfter c.new-line.result) → IfSome o (λ rest. StandInText c.args.self.now.text.now (row_of rest).columns)
+    go None following = tt
+    go (Some rest) following = subst (λ r. StandInText c.args.self.now.text.now r.columns) following.1.1 (without-in_text c.args.self.now.text.now following.0 (row_of c.new-line.result) in_text)

@@ -17,10 +17,10 @@ returns-then-is_some-clause-runs g c text options lookup m runs =
     let parted = c.args.title.parted in
     let some = shown-some shown_list c.args.title.list ∙ sym c.is_some.ensures ∙ c.if-is_some.true in
     let draws = draws-titled text c.args.self.now.builder c.title_last.new.self m.drawing c.title_last.ensures.turned c.title_last.ensures.none c.title_last.ensures.tables runs.drawing in
-    subst (λ p. Runs replacement text options lookup p (record c.args.self.now { builder = c.title_last.new.self; inner = c.behind_title-self.result })) (sym (made-some o parted c.args.start m some))
-    (runs-inner replacement text options lookup _ _ c.behind_title-self.result (with_title o parted c.args.start m.inner)
+    subst (λ p. Runs replacement text options lookup p (record c.args.self.now { builder = c.title_last.new.self; inner = c.after_title-self.result })) (sym (made-some o parted c.args.start m some))
+    (runs-inner replacement text options lookup _ _ c.after_title-self.result (with_title o parted c.args.start m.inner)
     (runs-builder replacement text options lookup m c.args.self.now c.title_last.new.self (retitled DefinitionListTitle m.drawing) runs draws (ap defined c.title_last.ensures.tables))
-    (c.behind_title-self.ensures ∙ ap (with_title o parted c.args.start) runs.inner))
+    (c.after_title-self.ensures ∙ ap (with_title o parted c.args.start) runs.inner))
 
 pub returns-clause-runs : goal.returns-clause-runs
 returns-clause-runs g c text options lookup m runs =
@@ -29,7 +29,7 @@ returns-clause-runs g c text options lookup m runs =
     let parted = c.args.title.parted in
     let none = shown-some shown_list c.args.title.list ∙ sym c.is_some.ensures ∙ c.if-is_some.false in
     let draws = draws-enclosed text c.args.self.now.builder c.enclose_title.new.self _ (DefinitionList false) m.drawing c.in_ok-enclose_title.ensures.ok c.in_ok-enclose_title.ensures.none c.in_ok-enclose_title.ensures.tables (ap (λ t. Some (DefinitionList t)) c.list_flags.ensures) runs.drawing in
-    subst (λ p. Runs replacement text options lookup p (record c.args.self.now { builder = c.enclose_title.new.self; inner = c.behind_title-self-2.result })) (sym (made-none o parted c.args.start m none))
-    (runs-inner replacement text options lookup _ _ c.behind_title-self-2.result (with_title o parted c.args.start m.inner)
+    subst (λ p. Runs replacement text options lookup p (record c.args.self.now { builder = c.enclose_title.new.self; inner = c.after_title-self-2.result })) (sym (made-none o parted c.args.start m none))
+    (runs-inner replacement text options lookup _ _ c.after_title-self-2.result (with_title o parted c.args.start m.inner)
     (runs-builder replacement text options lookup m c.args.self.now c.enclose_title.new.self (enclosed (DefinitionList false) DefinitionListTitle m.drawing) runs draws (ap defined c.in_ok-enclose_title.ensures.tables))
-    (c.behind_title-self-2.ensures ∙ ap (with_title o parted c.args.start) runs.inner))
+    (c.after_title-self-2.ensures ∙ ap (with_title o parted c.args.start) runs.inner))

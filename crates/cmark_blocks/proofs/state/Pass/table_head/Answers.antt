@@ -2,8 +2,8 @@ use Rattle.std.proofs.Common.{[], take, sym, ap, ◌∙◌}
 use Rattle.cmark_grammar.specs.Options.{Options}
 use Rattle.cmark_grammar.specs.Rows.{words_of}
 use Rattle.cmark_grammar.specs.TableRows.{holds_pipe, count_cells}
-use Rattle.cmark_lines.specs.Rests.{row_of}
-use Rattle.cmark_lines.proofs.RestSteps.{whole}
+use Rattle.cmark_line_rules.specs.Rests.{row_of}
+use Rattle.cmark_line_rules.proofs.RestSteps.{whole}
 use Rattle.cmark_block_model.specs.BlockPass.{ahead_in}
 use Rattle.cmark_blocks.specs.Ahead.{lines_at}
 use Rattle.cmark_blocks.proofs.TableSteps.{cells-some, head-alone, head-is, head-not}

@@ -1,6 +1,6 @@
 use Rattle.std.proofs.Common.{true, take, refl, sym, ◌∙◌}
 use Rattle.cmark_grammar.specs.TableRows.{table_head}
-use Rattle.cmark_lines.specs.Rests.{row_of}
+use Rattle.cmark_line_rules.specs.Rests.{row_of}
 use Rattle.cmark_block_model.specs.BlockPass.{ahead_in}
 use Rattle.cmark_blocks.specs.Ahead.{lines_at}
 use Rattle.cmark_blocks.proofs.TableSteps.{head-in_text, interrupts-by}

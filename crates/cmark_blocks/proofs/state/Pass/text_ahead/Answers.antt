@@ -2,8 +2,8 @@ use Rattle.std.proofs.Common.{◌≤◌, true, false, ◌&&◌, not, length, ref
 use Rattle.cmark_grammar.specs.Leaves.{underlines}
 use Rattle.cmark_grammar.specs.Openings.{interrupts, is_none, text_lines}
 use Rattle.cmark_blocks.specs.TablesAhead.{block_interrupts}
-use Rattle.cmark_lines.specs.Rests.{row_of}
-use Rattle.cmark_lines.proofs.RestSteps.{whole}
+use Rattle.cmark_line_rules.specs.Rests.{row_of}
+use Rattle.cmark_line_rules.proofs.RestSteps.{whole}
 use Rattle.cmark_block_model.specs.BlockPass.{ahead_in}
 use Rattle.cmark_blocks.specs.Ahead.{lines_at}
 use Rattle.cmark_blocks.proofs.AheadSteps.{text-if}

@@ -3,9 +3,9 @@ use Rattle.cmark_grammar.specs.BlockDocument.{Heading, Nil}
 use Rattle.cmark_grammar.specs.SetextAttributes.{setext_attributes}
 use Rattle.cmark_grammar.specs.Tokens.{words_end, stretch_then}
 use Rattle.cmark_items.specs.Tables.{defined}
-use Rattle.cmark_text_parts.specs.Shown.{level_number}
-use Rattle.cmark_lines.specs.Rests.{row_of}
-use Rattle.cmark_leaves.specs.Contents.{AreRead, content_columns}
+use Rattle.cmark_values.specs.Shown.{level_number}
+use Rattle.cmark_line_rules.specs.Rests.{row_of}
+use Rattle.cmark_leaf_nodes.specs.Contents.{AreRead, content_columns}
 use Rattle.cmark_block_model.specs.Drawing.{Drawing, drawn, closed_as, unbraced}
 use Rattle.cmark_block_model.specs.OpenBlocks as model
 use Rattle.cmark_builder.specs.Drawn.{Draws}

@@ -1,9 +1,8 @@
 use Rattle.std.proofs.Math.Path.{subst}
-use Rattle.cmark_text_parts.specs.Shown.{text_bytes}
+use Rattle.cmark_values.specs.Shown.{text_bytes}
 use Rattle.cmark_inline.proofs.BoxedCallbacks.{said_at_home}
 use Rattle.cmark_inline.proofs.callback.BoxDynOwnedLinkCallbackBrokenLinkCallback.handle_broken_link.Goals as goal
 
--- src/callback.rt:93:5
 pub returns-clause-answers : goal.returns-clause-answers
 returns-clause-answers g c =
     let link = c.args.link in

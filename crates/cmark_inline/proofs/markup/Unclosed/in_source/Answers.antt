@@ -10,7 +10,7 @@ use Rattle.cmark_inline.proofs.SourceOrder.{source-ends}
 use Rattle.cmark_inline.proofs.SourcePlaces.{found-edge, source-edge}
 use Rattle.cmark_inline.proofs.markup.Unclosed.in_source.Goals as goal
 
--- what closes in the source ends behind the place, and cuts no character of the text
+-- markup that is closed in the source ends at a later character boundary of the text
 ends : (c : goal.After-from_residual-in_err-end) → ⊥
 ends c =
     let leaf = c.args.leaf.now in

@@ -2,10 +2,10 @@ use Rattle.std.specs.Prelude.{None, Some, option_map}
 use Rattle.std.specs.Str.{IsCharBoundary}
 use Rattle.std.proofs.Common.{◌≡◌, ◌+◌, ◌-◌, ◌≤◌, List, ℕ, length, drop, sym, ap, subst, ◌∙◌, rules, arith}
 use Rattle.std.proofs.lemmas.Str.{IsCharBoundary-end, IsCharBoundary-start}
-use Rattle.cmark_grammar.specs.InlineHtml.{behind_markup}
+use Rattle.cmark_grammar.specs.InlineHtml.{after_markup}
 use Rattle.cmark_grammar.specs.Tokens.{slice}
 use Rattle.cmark_leaf_text.specs.Reads.{IsPart, source_of, place_of}
-use Rattle.cmark_scan_parts.specs.Guards.{AreMarks, may_pass}
+use Rattle.cmark_scan_bytes.specs.Guards.{AreMarks, may_pass}
 use Rattle.cmark_inline.specs.Counted.{extent_of}
 use Rattle.cmark_inline.specs.MarkupInSource.{source_from}
 use Rattle.cmark_inline.proofs.PaidSteps.{extent-is}
@@ -55,7 +55,7 @@ returns-in_err-end-clause-value c =
     let none : c.from_residual.result ≡ None = search rules in
     let empty : c.inline_markup-found.result.end ≡ None = search rules in
     ap (option_map (λ size. drop size (source_from leaf at))) none ∙ sym (ap (option_map (λ end. drop end bytes)) empty) ∙ c.inline_markup-found.ensures.value
-    ∙ ap behind_markup (ap (λ k. drop k bytes) (let q : c.place.result - c.place-2.result ≡ place_of leaf at - place_of leaf 0 = omega (arith, a, b) in q)
+    ∙ ap after_markup (ap (λ k. drop k bytes) (let q : c.place.result - c.place-2.result ≡ place_of leaf at - place_of leaf 0 = omega (arith, a, b) in q)
     ∙ ap (drop (place_of leaf at - place_of leaf 0)) source ∙ sym (source-ahead leaf c.requires.read at (omega (arith, w, n))))
 
 pub returns-in_err-end-clause-kept : goal.returns-in_err-end-clause-kept
@@ -86,7 +86,7 @@ returns-clause-value c =
     let there : source_from leaf at ≡ drop ahead bytes =
     source-ahead leaf c.requires.read at (omega (arith, w, n)) ∙ ap (λ k. drop k (source_from leaf 0)) (let q : place_of leaf at - place_of leaf 0 ≡ ahead = omega (arith, a, b) in q) ∙ ap (drop ahead) (sym source) in
     ap (λ bs. Some (drop (end - ahead) bs)) there ∙ ap Some (drop-to bytes ahead end (omega (arith, further)))
-    ∙ sym (ap (option_map (λ end. drop end bytes)) found) ∙ c.inline_markup-found.ensures.value ∙ ap behind_markup (sym there)
+    ∙ sym (ap (option_map (λ end. drop end bytes)) found) ∙ c.inline_markup-found.ensures.value ∙ ap after_markup (sym there)
 
 pub returns-clause-ends : goal.returns-clause-ends
 returns-clause-ends c =

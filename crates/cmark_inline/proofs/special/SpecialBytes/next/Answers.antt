@@ -6,11 +6,11 @@ use Rattle.cmark_inline.proofs.PlainSteps.{stands-up-to}
 use Rattle.cmark_inline.proofs.special.SpecialBytes.next.Goals as goal
 
 module _ (bytes ahead : List ℕ) (begins : take (length bytes) ahead ≡ bytes) where
-  -- no fewer bytes stand ahead
+  -- `ahead` has at least the length of `bytes`
   enough : length bytes ≤ length ahead
   enough = omega (arith, ap length begins, length-take (length bytes) ahead)
 
-  -- the bytes stand there at their places
+  -- `ahead` has the bytes of `bytes` at their offsets
   same-byte : (at : ℕ) → at < length bytes → get_or ahead at 0 ≡ get_or bytes at 0
   same-byte at within = sym (get_or-take (length bytes) ahead at 0 within) ∙ ap (λ l. get_or l at 0) begins
 

@@ -32,19 +32,19 @@ pub returns-then-is_lone_backtick-clause-token : goal.returns-then-is_lone_backt
 returns-then-is_lone_backtick-clause-token c = λ o l is.
     let text : List ℕ = c.args.text.now in
     let at : ℕ = c.args.here.at in
-    let e = c.behind-escaped.ensures.value in
-    let f = c.behind-end.ensures.value in
-    let lone : backticks (drop c.behind-escaped.result text) ≡ 1 = eqb-true (backticks (drop c.behind-escaped.result text)) 1 (sym c.if-is_lone_backtick.ensures) in
+    let e = c.following-escaped.ensures.value in
+    let f = c.following-end.ensures.value in
+    let lone : backticks (drop c.following-escaped.result text) ≡ 1 = eqb-true (backticks (drop c.following-escaped.result text)) 1 (sym c.if-is_lone_backtick.ensures) in
     ok-by-three c.put.result _ _ _ _ c.put.ensures.at c.put.ensures.end c.put.ensures.slots (λ next there over slots.
-    inr (inl (own-appends o l c.args.is_cell text c.args.here c.args.self.now c.put.new.self next c.behind-escaped.result c.behind-end.result c.requires.byte.cursor.ordered (at-byte text c.args.here 92 is refl refl refl)
+    inr (inl (own-appends o l c.args.is_cell text c.args.here c.args.self.now c.put.new.self next c.following-escaped.result c.following-end.result c.requires.byte.cursor.ordered (at-byte text c.args.here 92 is refl refl refl)
     (slash-lone o l c.args.is_cell text at c.requires.byte.within is (sym (c.in_default.ensures.value ∙ line-at-slash text at c.requires.byte.within is)) (ap (λ (k : ℕ). backticks (drop k text)) (sym e) ∙ lone)
-    ∙ ap (λ (s : ℕ). item_at Own s (at + 2)) (sym e) ∙ ap (item_at Own c.behind-escaped.result) (let q : at + 2 ≡ c.behind-end.result = omega (arith, e, f) in q))
+    ∙ ap (λ (s : ℕ). item_at Own s (at + 2)) (sym e) ∙ ap (item_at Own c.following-escaped.result) (let q : at + 2 ≡ c.following-end.result = omega (arith, e, f) in q))
     there (over ∙ sym there) slots c.put.ensures.others)))
 
 pub returns-then-is_pipe_escape-clause-token : goal.returns-then-is_pipe_escape-clause-token
 returns-then-is_pipe_escape-clause-token c = λ o l is.
-    inr (inr (inr (pipe-makes o l c.args.is_cell c.args.text.now c.args.here c.args.self.now c.flush.new.self c.behind-escaped.result c.behind-end.result c.behind.result c.requires.byte.within is c.in_default.ensures.value
-    c.behind-escaped.ensures.value c.behind-end.ensures.value c.behind.ensures.value c.if-is_cell.true (sym c.if-is_pipe_escape.ensures.value) c.in_ok-flush.ensures.slots c.in_ok-flush.ensures.others)))
+    inr (inr (inr (pipe-makes o l c.args.is_cell c.args.text.now c.args.here c.args.self.now c.flush.new.self c.following-escaped.result c.following-end.result c.following.result c.requires.byte.within is c.in_default.ensures.value
+    c.following-escaped.ensures.value c.following-end.ensures.value c.following.ensures.value c.if-is_cell.true (sym c.if-is_pipe_escape.ensures.value) c.in_ok-flush.ensures.slots c.in_ok-flush.ensures.others)))
 
 either-way : (x : Bool) → (x && false) ≡ false
 either-way true = refl
@@ -52,13 +52,13 @@ either-way false = refl
 
 pub returns-clause-token : goal.returns-clause-token
 returns-clause-token c = λ o l is.
-    let rest : List ℕ = drop c.behind-escaped.result c.args.text.now in
+    let rest : List ℕ = drop c.following-escaped.result c.args.text.now in
     let no-pipe : (c.args.is_cell && starts piped rest) ≡ false = elim c.else-is_cell.branch [
       | else-is_cell-via-then-is_cell+else-is_pipe_escape w ↦ ap (λ z. c.args.is_cell && z) (sym w.if-is_pipe_escape.ensures.value) ∙ either-way c.args.is_cell
       | else-is_cell-via-else-is_cell w ↦ ap (λ z. z && starts piped rest) w.if-is_cell.false
     ] in
-    inr (inr (inl (slash-makes o l c.args.is_cell c.args.text.now c.args.here c.args.self.now c.flush.new.self c.behind-escaped.result c.behind-end.result c.requires.byte.within is c.in_default.ensures.value
-    c.if-not-is_escape.ensures.value c.behind-escaped.ensures.value c.behind-end.ensures.value c.if-is_lone_backtick.ensures no-pipe c.in_ok-flush.ensures.slots c.in_ok-flush.ensures.others)))
+    inr (inr (inl (slash-makes o l c.args.is_cell c.args.text.now c.args.here c.args.self.now c.flush.new.self c.following-escaped.result c.following-end.result c.requires.byte.within is c.in_default.ensures.value
+    c.if-not-is_escape.ensures.value c.following-escaped.ensures.value c.following-end.ensures.value c.if-is_lone_backtick.ensures no-pipe c.in_ok-flush.ensures.slots c.in_ok-flush.ensures.others)))
 
 pub returns-in-Some-clause-reads_on : goal.returns-in-Some-clause-reads_on
 returns-in-Some-clause-reads_on c = record {

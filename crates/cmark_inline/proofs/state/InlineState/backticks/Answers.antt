@@ -1,7 +1,7 @@
 use Rattle.std.specs.Option.{IfSome}
 use Rattle.std.specs.Prelude.{is_some, option_map}
 use Rattle.std.proofs.Common.{rules, inl, ◌<◌, refl, sym, ap, subst, ◌∙◌, true≢false}
-use Rattle.cmark_finds.specs.Shown.{shown_code, IsCodeAt}
+use Rattle.cmark_span_scan.specs.Shown.{shown_code, IsCodeAt}
 use Rattle.cmark_inline.proofs.Appended.{code-appends, ticks-make}
 use Rattle.cmark_inline.proofs.Keeping.{keeps-puts}
 use Rattle.std.proofs.lemmas.Result.{IfOk-weaker}

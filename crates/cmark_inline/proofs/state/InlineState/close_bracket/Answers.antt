@@ -2,7 +2,7 @@ use Rattle.std.specs.Prelude.{false, Option, IfSome, is_some}
 use Rattle.std.proofs.Common.{arith, ◌≡◌, ◌+◌, ◌++◌, ◌∷◌, [], refl, sym, ap, subst, ◌∙◌, inl}
 use Rattle.cmark_grammar.specs.BracketDecisions.{decide, is_there}
 use Rattle.cmark_leaf_text.specs.Reads.{IsPart, is_cell_of}
-use Rattle.cmark_text_parts.specs.Shown.{shown_options}
+use Rattle.cmark_values.specs.Shown.{shown_options}
 use Rattle.cmark_grammar.specs.Labels.{normal_form}
 use Rattle.cmark_inline.specs.Footnoted.{KeepsLabel, footnote_of, forms_footnote}
 use Rattle.cmark_inline.specs.Hiding.{WritesReference, WritesWikilink}
@@ -111,12 +111,12 @@ returns-clause-closes g c = ok-by-three c.put.result _ _ _ _ c.put.ensures.at c.
     (subst (λ (x : InlineState). false ≡ forms_footnote o notes (footnote_of o (is_cell_of c.args.leaf.now) (is_there c.args.here.at x.label_close) c.args.text.now c.args.here.at c.take_bracket-taken.result)) (sym same) (ap is_some (sym c.in_default-2.is) ∙ c.in_ok-next-2.ensures.forms))
     links
     (ap (λ (x : InlineState). x.brackets) put) (ap (λ (x : InlineState). x.doubled) put) (ap (λ (x : InlineState). x.expansion_left) put) (ap (λ (x : InlineState). x.label_close) put)
-    (reached ∙ c.behind-behind_it.ensures.value) (ended ∙ sym reached) (ap (λ (x : InlineState). x.links) put) k.table
+    (reached ∙ c.following-following_it.ensures.value) (ended ∙ sym reached) (ap (λ (x : InlineState). x.links) put) k.table
     (none-counted o (footnote_of o (is_cell_of c.args.leaf.now) (is_there c.args.here.at st.label_close) c.args.text.now c.args.here.at c.take_bracket-taken.result) notes c.footnote.new.footnotes (ap is_some (sym c.in_default-2.is) ∙ c.in_ok-next-2.ensures.forms) c.in_ok-next-2.ensures.counts)
     (let e = ap (λ (x : InlineState). x.delimiters.examined) put ∙ rows.examined ∙ ap (λ (x : InlineState). x.delimiters.examined) c.in_ok-flush.ensures.others in omega (arith, e))
     (λ after comes.
     text-reads c.args.leaf.now reader read place closer s bs c.args.here.pending c.args.here.at c.args.self.now c.flush.new.self c.link.new.self c.put.new.self (record { pushes = c.in_ok-flush.ensures.slots; others = c.in_ok-flush.ensures.others }) rows
-    c.args.text.now c.requires.same at (puts-one c.args.here.at _ c.link.new.self.slots.items c.put.new.self.slots.items slots ∙ ap (λ n. c.link.new.self.slots.items ++ (record { kind = kind.Text; start = c.args.here.at; end = n } ∷ [])) c.behind-behind_it.ensures.value)
+    c.args.text.now c.requires.same at (puts-one c.args.here.at _ c.link.new.self.slots.items c.put.new.self.slots.items slots ∙ ap (λ n. c.link.new.self.slots.items ++ (record { kind = kind.Text; start = c.args.here.at; end = n } ∷ [])) c.following-following_it.ensures.value)
     (ap (λ (x : InlineState). x.texts.items) put) (ap (λ (x : InlineState). x.links.items) put) (ap (λ (x : InlineState). x.delimiters.placed.items) put) (ap (λ (x : InlineState). x.quotes.placed.items) put) after comes))
 
 pub take_bracket-taken-requires-clause-sound : goal.take_bracket-taken-requires-clause-sound
@@ -132,7 +132,7 @@ link-requires g c =
     (some-taken c.take_bracket-taken.result c.take_bracket-taken.new.self c.wikilink.new.self (c.in_ok-next.ensures.taken c.in_default.is) c.take_bracket-taken.ensures.taken) in
     let stands : Stands c.args.text.now c.args.here.at c.footnote.new.self = subst (λ (s : InlineState). Stands c.args.text.now c.args.here.at s) (sym same) (c.in_ok-next.ensures.stands c.in_default.is) in
     let free = subst (λ (s : InlineState). IfSome c.take_bracket-taken.result (λ (bracket : Bracket). bracket.is_image ≡ false → HoldNoLink s.slots.items bracket.slot)) (sym (same ∙ c.in_ok-next.ensures.others c.in_default.is)) c.take_bracket-taken.ensures.link in
-    let close = subst (IsPart c.args.text.now c.args.here.at) c.behind-behind_it.ensures.value c.behind-behind_it.ensures.part in
+    let close = subst (IsPart c.args.text.now c.args.here.at) c.following-following_it.ensures.value c.following-following_it.ensures.part in
     λ k. ((refl, tt), (stands, (c.take_bracket-taken.ensures.bracket, (free, (close, (c.requires.read, (c.requires.same, (c.in_ok-next-2.ensures.sound, (taken, c.requires.ready)))))))))
 
 pub returns-clause-sound : goal.returns-clause-sound
@@ -183,19 +183,19 @@ pub returns-clause-flushes : goal.returns-clause-flushes
 returns-clause-flushes g c = IfOk-weaker c.put.result _ _ (λ _ _. record { flushed = c.flush.new.self; pushes = c.in_ok-flush.ensures.slots; others = c.in_ok-flush.ensures.others }) c.put.ensures.slots
 
 pub wikilink-requires-clause-close : goal.wikilink-requires-clause-close
-wikilink-requires-clause-close g c = subst (IsPart c.args.text.now c.args.here.at) c.behind-behind_it.ensures.value c.behind-behind_it.ensures.part
+wikilink-requires-clause-close g c = subst (IsPart c.args.text.now c.args.here.at) c.following-following_it.ensures.value c.following-following_it.ensures.part
 
 pub footnote-requires-clause-close : goal.footnote-requires-clause-close
-footnote-requires-clause-close g c = subst (IsPart c.args.text.now c.args.here.at) c.behind-behind_it.ensures.value c.behind-behind_it.ensures.part
+footnote-requires-clause-close g c = subst (IsPart c.args.text.now c.args.here.at) c.following-following_it.ensures.value c.following-following_it.ensures.part
 
 pub footnote-requires-clause-stands : goal.footnote-requires-clause-stands
 footnote-requires-clause-stands g c = c.in_ok-next.ensures.stands c.in_default.is
 
 pub put-requires : goal.put-requires
 put-requires g c =
-    let part = c.behind-behind_it.ensures.part in
+    let part = c.following-following_it.ensures.part in
     let edge = c.requires.byte.cursor.at in
-    record { stands = c.in_ok-next-3.ensures.stands c.in_default-3.is; starts = edge; stops = edge; behind = omega arith; ordered = part.some; slot = record { part = part; before = omega arith; content = tt }; further = part.some; kind = refl }
+    record { stands = c.in_ok-next-3.ensures.stands c.in_default-3.is; starts = edge; stops = edge; following = omega arith; ordered = part.some; slot = record { part = part; before = omega arith; content = tt }; further = part.some; kind = refl }
 
 pub returns-in_err-next-clause-spent : goal.returns-in_err-next-clause-spent
 returns-in_err-next-clause-spent g c = λ none. (refl, c.wikilink.ensures.expansion_left ∙ c.take_bracket-taken.ensures.expansion_left ∙ c.flush.ensures.expansion_left ∙ none)

@@ -3,8 +3,8 @@ use Rattle.std.specs.Prelude.{is_some, option_map}
 use Rattle.std.proofs.Common.{rules, ℕ, ◌≡◌, ◌+◌, ◌<◌, true≢false, refl, sym, ap, subst, ◌∙◌, drop, arith}
 use Rattle.cmark_grammar.specs.Formulas.{is_dollar}
 use Rattle.cmark_grammar.specs.Letters.{first_is}
-use Rattle.cmark_finds.specs.Dollars.{IsFormulaAt, shown_formula}
-use Rattle.cmark_finds.specs.declared.dollars.Formula.{Formula}
+use Rattle.cmark_span_scan.specs.Dollars.{IsFormulaAt, shown_formula}
+use Rattle.cmark_span_scan.specs.declared.dollars.Formula.{Formula}
 use Rattle.cmark_inline.proofs.FormulaSteps.{formula-appends, sign-appends}
 use Rattle.cmark_inline.proofs.Keeping.{formula-alone, keeps-puts}
 use Rattle.cmark_inline.proofs.PaidSteps.{signs-found}
@@ -24,8 +24,8 @@ returns-in-Some-clause-token c = λ o l cell math. ok-by-three c.put.result _ _ 
 
 pub returns-clause-token : goal.returns-clause-token
 returns-clause-token c = λ o l cell math. ok-by-three c.put-2.result _ _ _ _ c.put-2.ensures.at c.put-2.ensures.end c.put-2.ensures.slots (λ next at end slots.
-    sign-appends o l cell c.args.text.now c.args.here c.args.self.now c.put-2.new.self next c.behind.result c.requires.cursor.ordered c.requires.here c.requires.dollar math
-    (ap (option_map (shown_formula c.args.text.now)) (sym c.in_default.is) ∙ c.in_ok-formula.ensures.value) c.behind.ensures.value
+    sign-appends o l cell c.args.text.now c.args.here c.args.self.now c.put-2.new.self next c.following.result c.requires.cursor.ordered c.requires.here c.requires.dollar math
+    (ap (option_map (shown_formula c.args.text.now)) (sym c.in_default.is) ∙ c.in_ok-formula.ensures.value) c.following.ensures.value
     at (end ∙ sym at) slots c.put-2.ensures.others)
 
 pub returns-in-Some-clause-reads_on : goal.returns-in-Some-clause-reads_on
@@ -45,7 +45,7 @@ returns-clause-reads_on c = record {
 }
 
 pub put-requires-2-clause-slot : goal.put-requires-2-clause-slot
-put-requires-2-clause-slot c = record { part = c.behind.ensures.part; before = omega arith; content = tt }
+put-requires-2-clause-slot c = record { part = c.following.ensures.part; before = omega arith; content = tt }
 
 pub returns-in-Some-clause-paid : goal.returns-in-Some-clause-paid
 returns-in-Some-clause-paid c =

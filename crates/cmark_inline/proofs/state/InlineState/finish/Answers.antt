@@ -1,12 +1,12 @@
 use Rattle.std.proofs.Common.{◌≡◌, ◌≤◌, ◌+◌, ◌++◌, ◌∷◌, [], ℕ, List, drop, length, refl, sym, ap, ◌∙◌, subst, arith}
 use Rattle.std.proofs.lemmas.List.{length_push}
 use Rattle.cmark_inline_model.specs.SlotRows.{marked, marks_by}
-use Rattle.cmark_text_parts.specs.Shown.{shown_options}
+use Rattle.cmark_values.specs.Shown.{shown_options}
 use Rattle.cmark_slots.specs.MarkedSlots.{AreWhole, EndWithin, HaveBytes, HaveTexts, SameBefore, places_of}
 use Rattle.cmark_slots.specs.QuoteSlots.{characters_of, with_characters}
 use Rattle.cmark_slots.specs.SlotViews.{shown_slots}
 use Rattle.cmark_slots.specs.Standing.{CanSettle, NamesNoMore}
-use Rattle.cmark_inline.specs.FormedSlots.{dressed_behind}
+use Rattle.cmark_inline.specs.FormedSlots.{dressed_after}
 use Rattle.cmark_slots.specs.declared.delimiter.PlacedRun.{PlacedRun}
 use Rattle.cmark_slots.specs.declared.quote.PlacedQuote.{PlacedQuote}
 use Rattle.cmark_slots.specs.declared.slot.Slot.{Slot}
@@ -84,7 +84,7 @@ returns-clause-dressed c = λ leaf texts links pairs spans emphasis.
     let quoted = c.in_ok-resolve.ensures.quotes leaf texts links in
     marks
     ∙ ap (λ l. marked (shown_options c.args.options) (places_of runs) (marks_by (length (places_of runs)) pairs) l []) quoted
-    ∙ ap (λ l. dressed_behind (shown_options c.args.options) c.args.bracket pairs c.args.self.now.delimiters.placed.items c.args.self.now.quotes.placed.items (shown_slots leaf texts links l)) e
+    ∙ ap (λ l. dressed_after (shown_options c.args.options) c.args.bracket pairs c.args.self.now.delimiters.placed.items c.args.self.now.quotes.placed.items (shown_slots leaf texts links l)) e
 
 pub resolve-requires-clause-texts : goal.resolve-requires-clause-texts
 resolve-requires-clause-texts c =

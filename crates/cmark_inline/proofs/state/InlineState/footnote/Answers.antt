@@ -3,8 +3,8 @@ use Rattle.std.proofs.Common.{◌≡◌, ◌+◌, Bool, refl, sym, ap, subst, �
 use Rattle.cmark_grammar.specs.BracketDecisions.{is_there}
 use Rattle.cmark_grammar.specs.Labels.{normal_form}
 use Rattle.cmark_leaf_text.specs.Reads.{is_cell_of}
-use Rattle.cmark_text_parts.specs.Shown.{shown_options, text_bytes}
-use Rattle.cmark_text_parts.specs.declared.text.CowStr.{CowStr}
+use Rattle.cmark_values.specs.Shown.{shown_options, text_bytes}
+use Rattle.cmark_values.specs.declared.text.CowStr.{CowStr}
 use Rattle.cmark_slots.specs.declared.bracket.Bracket.{Bracket}
 use Rattle.cmark_inline.specs.Closers.{LeavesFootnote}
 use Rattle.cmark_inline.specs.Footnoted.{CountsOf, KeepsLabel, footnote_of, forms_footnote}

@@ -14,9 +14,9 @@ use Rattle.cmark_slots.specs.declared.slot.Slot.{Slot}
 use Rattle.cmark_slots.specs.declared.slot.SlotKind.TheVariants as kind
 use Rattle.cmark_slots.proofs.Steps.{slots-on, brackets-on, free-on, part-from}
 use Rattle.cmark_slots.specs.MarkedSlots.{begun_as}
-use Rattle.cmark_text_parts.specs.Shown.{shown_options}
+use Rattle.cmark_values.specs.Shown.{shown_options}
 use Rattle.cmark_slots.specs.SlotViews.{shown_element, shown_slots}
-use Rattle.cmark_inline.specs.FormedSlots.{WritesElement, dressed_behind, end_slot}
+use Rattle.cmark_inline.specs.FormedSlots.{WritesElement, dressed_after, end_slot}
 use Rattle.cmark_slots.specs.Standing.{AreEnded, CanSettle, IsSettled}
 use Rattle.cmark_slots.specs.declared.slot.Element.TheVariants as element
 use Rattle.cmark_inline.proofs.Deactivating.{leaves-element, linked-shown, still-brackets, still-free, still-standing}
@@ -27,7 +27,7 @@ use Rattle.cmark_slots.proofs.Soundness.{sound-settles}
 use Rattle.cmark_inline.proofs.state.InlineState.form.Goals as goal
 
 last-slot : (text : List ℕ) (close : ℕ) (target : Target) → IsPart text close (close + 1) → IsTarget text close target → IsSlot text target.resume (record { kind = kind.End; start = close; end = target.end })
-last-slot text close target p t = record { part = part-from text close target.end p.starts t.ends t.behind; before = t.ordered; content = tt }
+last-slot text close target p t = record { part = part-from text close target.end p.starts t.ends t.following; before = t.ordered; content = tt }
 
 pub returns-clause-stands : goal.returns-clause-stands
 returns-clause-stands c =
@@ -36,7 +36,7 @@ returns-clause-stands c =
     let text : List ℕ = c.args.text.now in
     let resume : ℕ = c.args.target.resume in
     let image = c.args.bracket.is_image in
-    let b = t.behind in
+    let b = t.following in
     let o = t.ordered in
     let few = s.few in
     let fewer = s.runs in
@@ -44,10 +44,10 @@ returns-clause-stands c =
     let le : c.args.close ≤ resume = omega (arith, lt) in
     let ss : List Slot = c.args.self.now.slots.items in
     let formed : InlineState = c.finish.new.self in
-    let new : InlineState = c.deactivate_behind.new.self in
+    let new : InlineState = c.deactivate_after.new.self in
     let brackets : Brackets = c.args.self.now.brackets in
-    let dropped : Brackets = c.drop_behind.new.self in
-    let d = c.deactivate_behind.ensures in
+    let dropped : Brackets = c.drop_after.new.self in
+    let d = c.deactivate_after.ensures in
     let i = c.begin.ensures.length in
     let j = c.in_ok-finish.ensures.length in
     let r = c.in_ok-finish.ensures.runs in
@@ -61,31 +61,31 @@ returns-clause-stands c =
       free = still-free image formed.slots.items formed.brackets new.brackets d.brackets (λ is. subst (λ (v : Brackets). AreFree formed.slots.items v.standing.items v.inactive_below) (sym c.finish.ensures.brackets)
           (free-on ss formed.slots.items brackets.standing.items brackets.inactive_below s.free (λ from h. c.in_ok-finish.ensures.links from (c.begin.ensures.links (plain is) from h))));
       doubled = still-brackets image text resume formed.doubled new.doubled d.doubled (subst (λ (w : Brackets). AreBrackets text resume w.standing.items) (sym c.finish.ensures.doubled)
-          (c.drop_behind.ensures.brackets text resume (brackets-on text c.args.close resume c.args.self.now.doubled.standing.items s.doubled le)));
+          (c.drop_after.ensures.brackets text resume (brackets-on text c.args.close resume c.args.self.now.doubled.standing.items s.doubled le)));
       doubled_free = still-free image formed.slots.items formed.doubled new.doubled d.doubled (λ is. subst (λ (w : Brackets). AreFree formed.slots.items w.standing.items w.inactive_below) (sym c.finish.ensures.doubled)
-          (free-on ss formed.slots.items dropped.standing.items dropped.inactive_below (c.drop_behind.ensures.free ss s.doubled_free) (λ from h. c.in_ok-finish.ensures.links from (c.begin.ensures.links (plain is) from h))));
+          (free-on ss formed.slots.items dropped.standing.items dropped.inactive_below (c.drop_after.ensures.free ss s.doubled_free) (λ from h. c.in_ok-finish.ensures.links from (c.begin.ensures.links (plain is) from h))));
       runs = (let q : bytes_of formed.delimiters.placed.items ≤ length formed.slots.items = omega (arith, i, j, r, fewer) in q);
       examined = (let q : formed.delimiters.examined + 15 * length formed.delimiters.placed.items ≤ 15 * resume = omega (arith, seen, looked, le) in q);
     })
 
 pub returns-clause-link : goal.returns-clause-link
-returns-clause-link c = λ plain. subst (λ (s : InlineState). HoldNoLink s.slots.items (c.args.bracket.slot + 1)) (sym c.deactivate_behind.ensures.others)
-    (c.in_ok-finish.ensures.links (c.args.bracket.slot + 1) (c.begin.ensures.behind (c.requires.free plain)))
+returns-clause-link c = λ plain. subst (λ (s : InlineState). HoldNoLink s.slots.items (c.args.bracket.slot + 1)) (sym c.deactivate_after.ensures.others)
+    (c.in_ok-finish.ensures.links (c.args.bracket.slot + 1) (c.begin.ensures.following (c.requires.free plain)))
 
 pub returns-clause-expansion_left : goal.returns-clause-expansion_left
-returns-clause-expansion_left c = ap (λ (s : InlineState). s.expansion_left) c.deactivate_behind.ensures.others ∙ c.finish.ensures.expansion_left
+returns-clause-expansion_left c = ap (λ (s : InlineState). s.expansion_left) c.deactivate_after.ensures.others ∙ c.finish.ensures.expansion_left
 
 pub returns-clause-label : goal.returns-clause-label
-returns-clause-label c = ap (λ (s : InlineState). s.label_close) c.deactivate_behind.ensures.others ∙ c.finish.ensures.label
+returns-clause-label c = ap (λ (s : InlineState). s.label_close) c.deactivate_after.ensures.others ∙ c.finish.ensures.label
 
 pub returns-clause-kept : goal.returns-clause-kept
-returns-clause-kept c = ap (λ (s : InlineState). s.links.items) c.deactivate_behind.ensures.others ∙ ap (λ v. v.items) c.finish.ensures.table ∙ c.in_ok-push.ensures.items
+returns-clause-kept c = ap (λ (s : InlineState). s.links.items) c.deactivate_after.ensures.others ∙ ap (λ v. v.items) c.finish.ensures.table ∙ c.in_ok-push.ensures.items
 
 pub returns-clause-leaves : goal.returns-clause-leaves
 returns-clause-leaves c =
-    let d = c.deactivate_behind.ensures in
-    leaves-element c.args.bracket.is_image c.args.bracket.start c.args.self.now c.finish.new.self c.deactivate_behind.new.self c.finish.ensures.brackets
-    (subst (Drops c.args.bracket.start c.args.self.now.doubled) (sym c.finish.ensures.doubled) (record { drops = c.drop_behind.ensures.drops; inactive_below = c.drop_behind.ensures.inactive_below })) d.brackets d.doubled
+    let d = c.deactivate_after.ensures in
+    leaves-element c.args.bracket.is_image c.args.bracket.start c.args.self.now c.finish.new.self c.deactivate_after.new.self c.finish.ensures.brackets
+    (subst (Drops c.args.bracket.start c.args.self.now.doubled) (sym c.finish.ensures.doubled) (record { drops = c.drop_after.ensures.drops; inactive_below = c.drop_after.ensures.inactive_below })) d.brackets d.doubled
 
 pub finish-requires-clause-there : goal.finish-requires-clause-there
 finish-requires-clause-there c =
@@ -108,11 +108,11 @@ pub returns-clause-sound : goal.returns-clause-sound
 returns-clause-sound c =
     let old = c.args.self.now in
     let formed : InlineState = c.finish.new.self in
-    let new : InlineState = c.deactivate_behind.new.self in
+    let new : InlineState = c.deactivate_after.new.self in
     let p = c.requires.taken.placed in
     let b = c.args.bracket in
     let f = c.in_ok-finish.ensures in
-    let d = c.deactivate_behind.ensures in
+    let d = c.deactivate_after.ensures in
     let s : Slot = begun_as c.linked_element-element.result c.args.target.end (get_or old.slots.items b.slot no-slot) in
     let settled : IsSettled (b.slot + 1) (set old.slots.items b.slot s) formed.slots.items = subst (λ l. IsSettled (b.slot + 1) l formed.slots.items) (c.begin.ensures.value no-slot) f.settled in
     let m = f.length in
@@ -120,11 +120,11 @@ returns-clause-sound c =
     let index : c.len.result ≡ length old.links.items = search rules in
     let more = ap (λ v. length v.items) c.finish.ensures.table ∙ ap length c.in_ok-push.ensures.items ∙ length_push old.links.items c.args.target.link in
     subst IsSound (sym d.others)
-    (sound-same (length old.texts.items) (length formed.texts.items) (length old.links.items + 1) (length formed.links.items) formed.slots.items _ formed.delimiters.placed.items _ formed.quotes.placed.items old.brackets.standing.items _ c.drop_behind.new.self.standing.items _
+    (sound-same (length old.texts.items) (length formed.texts.items) (length old.links.items + 1) (length formed.links.items) formed.slots.items _ formed.delimiters.placed.items _ formed.quotes.placed.items old.brackets.standing.items _ c.drop_after.new.self.standing.items _
     (ap (λ v. length v.items) c.finish.ensures.texts) (let q : length formed.links.items ≡ length old.links.items + 1 = omega (arith, more) in q) f.placed f.quotes
     (still-standing b.is_image formed.brackets new.brackets d.brackets ∙ ap (λ (v : Brackets). v.standing.items) c.finish.ensures.brackets) (still-standing b.is_image formed.doubled new.doubled d.doubled ∙ ap (λ (v : Brackets). v.standing.items) c.finish.ensures.doubled)
     (link-formed (length old.texts.items) (length old.links.items) old.slots.items old.delimiters.placed.items old.quotes.placed.items old.brackets.standing.items old.doubled.standing.items c.requires.sound b c.requires.taken c.args.text.now c.args.close c.requires.stands.doubled
-    c.drop_behind.new.self.standing.items c.drop_behind.ensures.drops s refl (c.linked_element-element.ensures.names ∙ ap Some index) formed.slots.items (let q : length old.slots.items ≤ length formed.slots.items = omega (arith, m, n) in q) settled))
+    c.drop_after.new.self.standing.items c.drop_after.ensures.drops s refl (c.linked_element-element.ensures.names ∙ ap Some index) formed.slots.items (let q : length old.slots.items ≤ length formed.slots.items = omega (arith, m, n) in q) settled))
 
 pub returns-clause-ends : goal.returns-clause-ends
 returns-clause-ends c =
@@ -132,14 +132,14 @@ returns-clause-ends c =
     let formed : InlineState = c.finish.new.self in
     let b = c.args.bracket in
     let s : Slot = begun_as c.linked_element-element.result c.args.target.end (get_or old.slots.items b.slot no-slot) in
-    subst (λ (x : InlineState). (leaf : LeafText) → AreEnded leaf old.slots.items → AreEnded leaf x.slots.items) (sym c.deactivate_behind.ensures.others)
+    subst (λ (x : InlineState). (leaf : LeafText) → AreEnded leaf old.slots.items → AreEnded leaf x.slots.items) (sym c.deactivate_after.ensures.others)
     (settled-ended old.slots.items b.slot (b.slot + 1) s formed.slots.items refl (subst (λ l. IsSettled (b.slot + 1) l formed.slots.items) (c.begin.ensures.value no-slot) c.in_ok-finish.ensures.settled))
 
 pub returns-clause-writes : goal.returns-clause-writes
 returns-clause-writes c =
     let old = c.args.self.now in
     let formed : InlineState = c.finish.new.self in
-    let new : InlineState = c.deactivate_behind.new.self in
+    let new : InlineState = c.deactivate_after.new.self in
     let b = c.args.bracket in
     let p = c.requires.taken.placed in
     let f = c.in_ok-finish.ensures in
@@ -149,7 +149,7 @@ returns-clause-writes c =
     let texts = ap (λ v. v.items) c.finish.ensures.texts in
     let links = ap (λ v. v.items) c.finish.ensures.table ∙ c.in_ok-push.ensures.items in
     let can = sound-settles (length old.texts.items) (length old.links.items) old.slots.items old.delimiters.placed.items old.quotes.placed.items old.brackets.standing.items old.doubled.standing.items c.requires.sound b p in
-    subst (WritesElement (shown_options c.args.options) b c.args.target old) (sym c.deactivate_behind.ensures.others)
-    (writes-element (shown_options c.args.options) b c.args.target old (record formed { brackets = new.brackets; doubled = new.doubled }) c.linked_element-element.result p.there c.args.close c.args.text.now c.requires.stands.slots t.behind c.requires.sound.named can texts links
+    subst (WritesElement (shown_options c.args.options) b c.args.target old) (sym c.deactivate_after.ensures.others)
+    (writes-element (shown_options c.args.options) b c.args.target old (record formed { brackets = new.brackets; doubled = new.doubled }) c.linked_element-element.result p.there c.args.close c.args.text.now c.requires.stands.slots t.following c.requires.sound.named can texts links
     (ap (shown_element (old.links.items ++ (c.args.target.link ∷ []))) c.linked_element-element.ensures.value ∙ linked-shown b.is_image old.links.items c.args.target.link c.len.result index) f.placed f.quotes
-    (λ leaf pairs spans emphasis. f.dressed leaf formed.texts.items formed.links.items pairs spans emphasis ∙ ap (λ l. dressed_behind (shown_options c.args.options) b pairs old.delimiters.placed.items old.quotes.placed.items (shown_slots leaf formed.texts.items formed.links.items (l ++ (end_slot c.args.close c.args.target.end ∷ [])))) begins) f.least)
+    (λ leaf pairs spans emphasis. f.dressed leaf formed.texts.items formed.links.items pairs spans emphasis ∙ ap (λ l. dressed_after (shown_options c.args.options) b pairs old.delimiters.placed.items old.quotes.placed.items (shown_slots leaf formed.texts.items formed.links.items (l ++ (end_slot c.args.close c.args.target.end ∷ [])))) begins) f.least)

@@ -1,6 +1,6 @@
 use Rattle.std.proofs.Common.{rules, ◌≡◌, ◌≤◌, ◌+◌, ◌*◌, List, ℕ, length, take, refl, sym, ap, subst, ◌∙◌, arith}
 use Rattle.std.proofs.lemmas.List.{length_push, length-take}
-use Rattle.cmark_slots.specs.Doubled.{DropsBehind}
+use Rattle.cmark_slots.specs.Doubled.{DropsAfter}
 use Rattle.cmark_inline.specs.Footnoted.{PutsReference, reference_as}
 use Rattle.cmark_leaf_text.specs.Reads.{IsPart}
 use Rattle.cmark_slots.specs.Slots.{AreBrackets, AreFree, IsBracket, IsSlot, bytes_of}
@@ -51,8 +51,8 @@ returns-clause-stands c =
       brackets = subst (AreBrackets text resume) (sym c.clear.ensures.standing) (λ k d lt. absurd (omega (arith, lt)));
       few = (let q : length ss ≤ resume = omega (arith, most, few) in q);
       free = subst (λ (l : List Bracket). AreFree ss l c.clear.new.self.inactive_below) (sym c.clear.ensures.standing) (λ k d low lt. absurd (omega (arith, lt)));
-      doubled = c.drop_behind.ensures.brackets text resume (subst (λ (v : Brackets). AreBrackets text resume v.standing.items) (sym same) (brackets-on text close resume c.args.self.now.doubled.standing.items s.doubled le));
-      doubled_free = c.drop_behind.ensures.free ss (subst (λ (v : Brackets). AreFree ss v.standing.items v.inactive_below) (sym same) (free-on old ss c.args.self.now.doubled.standing.items c.args.self.now.doubled.inactive_below s.doubled_free put.links));
+      doubled = c.drop_after.ensures.brackets text resume (subst (λ (v : Brackets). AreBrackets text resume v.standing.items) (sym same) (brackets-on text close resume c.args.self.now.doubled.standing.items s.doubled le));
+      doubled_free = c.drop_after.ensures.free ss (subst (λ (v : Brackets). AreFree ss v.standing.items v.inactive_below) (sym same) (free-on old ss c.args.self.now.doubled.standing.items c.args.self.now.doubled.inactive_below s.doubled_free put.links));
       runs = (let q : bytes_of c.truncate-2.new.self.placed.items ≤ length ss = omega (arith, cut, kept, fewer, least) in q);
       examined = (let q : c.truncate-2.new.self.examined + 15 * length c.truncate-2.new.self.placed.items ≤ 15 * resume = omega (arith, seen, looked, less, same-seen, same-count) in q);
     }
@@ -64,12 +64,12 @@ returns-clause-sound c =
     let b : Bracket = c.args.bracket in
     let o = c.put_reference.ensures.others in
     let puts : PutsReference b (reference_as b (length old.texts.items) (c.args.close + 1)) old.slots.items put.slots.items = search rules in
-    let drops : DropsBehind b.start old.doubled.standing.items c.drop_behind.new.self.standing.items = subst (λ (v : Brackets). DropsBehind b.start v.standing.items c.drop_behind.new.self.standing.items) (ap (λ (s : InlineState). s.doubled) o) c.drop_behind.ensures.drops in
+    let drops : DropsAfter b.start old.doubled.standing.items c.drop_after.new.self.standing.items = subst (λ (v : Brackets). DropsAfter b.start v.standing.items c.drop_after.new.self.standing.items) (ap (λ (s : InlineState). s.doubled) o) c.drop_after.ensures.drops in
     sound-same (length old.texts.items + 1) _ (length old.links.items) _ put.slots.items _ _ _ _ _ _ _ _
     (ap (λ (s : InlineState). length s.texts.items) o ∙ ap length c.in_ok-push.ensures.items ∙ length_push old.texts.items c.args.name) (ap (λ (s : InlineState). length s.links.items) o)
-    (c.truncate-2.ensures.placed ∙ ap (λ (s : InlineState). take b.runs s.delimiters.placed.items) o) (c.truncate.ensures ∙ ap (λ (s : InlineState). take b.quotes s.quotes.placed.items) o) c.clear.ensures.standing (let q : c.drop_behind.new.self.standing.items ≡ c.drop_behind.new.self.standing.items = refl in q)
+    (c.truncate-2.ensures.placed ∙ ap (λ (s : InlineState). take b.runs s.delimiters.placed.items) o) (c.truncate.ensures ∙ ap (λ (s : InlineState). take b.quotes s.quotes.placed.items) o) c.clear.ensures.standing (let q : c.drop_after.new.self.standing.items ≡ c.drop_after.new.self.standing.items = refl in q)
     (reference-formed (length old.texts.items) (length old.links.items) old.slots.items put.slots.items b (reference_as b (length old.texts.items) (c.args.close + 1)) puts old.delimiters.placed.items old.quotes.placed.items old.brackets.standing.items old.doubled.standing.items c.requires.sound c.requires.taken
-    c.args.text.now c.args.close c.requires.stands.doubled c.drop_behind.new.self.standing.items drops refl)
+    c.args.text.now c.args.close c.requires.stands.doubled c.drop_after.new.self.standing.items drops refl)
 
 pub returns-clause-ends : goal.returns-clause-ends
 returns-clause-ends c =
@@ -96,7 +96,7 @@ returns-clause-leaves c =
     let same = ap (λ (s : InlineState). s.doubled) c.put_reference.ensures.others in
     record {
       none = record { standing = c.clear.ensures.standing; inactive_below = c.clear.ensures.inactive_below };
-      drops = subst (λ (v : Brackets). Drops c.args.bracket.start v c.drop_behind.new.self) same (record { drops = c.drop_behind.ensures.drops; inactive_below = c.drop_behind.ensures.inactive_below });
+      drops = subst (λ (v : Brackets). Drops c.args.bracket.start v c.drop_after.new.self) same (record { drops = c.drop_after.ensures.drops; inactive_below = c.drop_after.ensures.inactive_below });
     }
 
 pub returns-clause-expansion_left : goal.returns-clause-expansion_left

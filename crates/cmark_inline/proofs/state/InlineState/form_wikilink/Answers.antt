@@ -1,13 +1,13 @@
 use Rattle.std.proofs.Common.{rules, ◌≡◌, ◌++◌, ◌∷◌, ◌≤◌, ◌<◌, ◌+◌, ◌*◌, List, [], ℕ, Some, drop, take, length, get_or, set, refl, sym, ap, subst, ◌∙◌, arith}
 use Rattle.std.proofs.lemmas.List.{length_push, length-take}
 use Rattle.cmark_grammar.specs.Emphasis.{IsEmphasis}
-use Rattle.cmark_text_parts.specs.Shown.{shown_options}
-use Rattle.cmark_slots.specs.Doubled.{DropsBehind}
+use Rattle.cmark_values.specs.Shown.{shown_options}
+use Rattle.cmark_slots.specs.Doubled.{DropsAfter}
 use Rattle.cmark_slots.specs.MarkedSlots.{begun_as, siblings_from}
 use Rattle.cmark_slots.specs.SlotViews.{shown_slots}
 use Rattle.cmark_slots.specs.Standing.{CanSettle, IsSettled}
 use Rattle.cmark_slots.specs.Slots.{IsEnd, AreBrackets, AreFree, bytes_of}
-use Rattle.cmark_inline.specs.FormedSlots.{dressed_behind, end_slot}
+use Rattle.cmark_inline.specs.FormedSlots.{dressed_after, end_slot}
 use Rattle.cmark_slots.specs.declared.bracket.Bracket.{Bracket}
 use Rattle.cmark_slots.specs.declared.bracket.Brackets.{Brackets}
 use Rattle.cmark_slots.specs.declared.slot.Slot.{Slot}
@@ -48,7 +48,7 @@ returns-clause-stands c =
     record {
       slots = c.in_ok-finish.ensures.slots text resume (c.begin.ensures.slots text resume (c.in_ok-inside.ensures.slots resume s.slots (let q : close < resume = omega arith in q)) e.ends (let q : resume ≤ resume = omega arith in q)) last;
       brackets = subst (AreBrackets text resume) (sym (ap (λ v. v.items) c.deactivate_all.ensures.standing))
-          (c.drop_behind.ensures.brackets text resume (subst (λ (v : Brackets). AreBrackets text resume v.standing.items) (sym same) (brackets-on text close resume c.args.self.now.brackets.standing.items s.brackets (let q : close ≤ resume = omega arith in q))));
+          (c.drop_after.ensures.brackets text resume (subst (λ (v : Brackets). AreBrackets text resume v.standing.items) (sym same) (brackets-on text close resume c.args.self.now.brackets.standing.items s.brackets (let q : close ≤ resume = omega arith in q))));
       few = (let q : length ss ≤ resume = omega (arith, a, i, j, few) in q);
       free = c.deactivate_all.ensures.free ss;
       doubled = subst (AreBrackets text resume) (sym c.clear.ensures.standing) (λ k d lt. absurd (omega (arith, lt)));
@@ -58,7 +58,7 @@ returns-clause-stands c =
     }
 
 pub returns-clause-link : goal.returns-clause-link
-returns-clause-link c = λ plain. c.in_ok-finish.ensures.links (c.args.doubled.slot + 1) (c.begin.ensures.behind (c.in_ok-inside.ensures.links c.args.doubled.slot (c.requires.free plain)))
+returns-clause-link c = λ plain. c.in_ok-finish.ensures.links (c.args.doubled.slot + 1) (c.begin.ensures.following (c.in_ok-inside.ensures.links c.args.doubled.slot (c.requires.free plain)))
 
 pub show-requires-clause-sound : goal.show-requires-clause-sound
 show-requires-clause-sound c =
@@ -119,20 +119,20 @@ returns-clause-sound c =
     let new : InlineState = c.finish.new.self in
     let f = c.in_ok-finish.ensures in
     let settled : IsSettled (d.slot + 1) (set shown.slots.items d.slot s) new.slots.items = subst (λ l. IsSettled (d.slot + 1) l new.slots.items) begun (subst (λ k. IsSettled (k + 1) c.begin.new.slots.items new.slots.items) i.bracket f.settled) in
-    let drops : DropsBehind d.start old.brackets.standing.items c.drop_behind.new.self.standing.items = subst (λ (v : Brackets). DropsBehind d.start v.standing.items c.drop_behind.new.self.standing.items) (c.finish.ensures.brackets ∙ ap (λ (x : InlineState). x.brackets) o) c.drop_behind.ensures.drops in
+    let drops : DropsAfter d.start old.brackets.standing.items c.drop_after.new.self.standing.items = subst (λ (v : Brackets). DropsAfter d.start v.standing.items c.drop_after.new.self.standing.items) (c.finish.ensures.brackets ∙ ap (λ (x : InlineState). x.brackets) o) c.drop_after.ensures.drops in
     let more = ap length c.in_ok-push.ensures.items ∙ length_push old.links.items _ in
     let kept = ap (λ v. length v.items) c.finish.ensures.table ∙ ap (λ (x : InlineState). length x.links.items) o in
     let index : c.len-index.result ≡ length old.links.items = search rules in
     let n = c.begin.ensures.length in
     let l = f.length in
-    sound-same (length old.texts.items) (length new.texts.items) (length old.links.items + 1) (length new.links.items) new.slots.items (take d.runs old.delimiters.placed.items) _ (take d.quotes old.quotes.placed.items) _ c.drop_behind.new.self.standing.items _ [] _
+    sound-same (length old.texts.items) (length new.texts.items) (length old.links.items + 1) (length new.links.items) new.slots.items (take d.runs old.delimiters.placed.items) _ (take d.quotes old.quotes.placed.items) _ c.drop_after.new.self.standing.items _ [] _
     (ap (λ v. length v.items) c.finish.ensures.texts ∙ ap (λ (x : InlineState). length x.texts.items) o)
     (let q : length new.links.items ≡ length old.links.items + 1 = omega (arith, kept, more) in q)
     (c.truncate-2.ensures.placed ∙ ap (take d.runs) f.placed ∙ take-fewer d.runs c.in_ok-inside.inside.runs shown.delimiters.placed.items i.runs ∙ ap (λ (x : InlineState). take d.runs x.delimiters.placed.items) o)
     (c.truncate.ensures ∙ ap (take d.quotes) f.quotes ∙ take-fewer d.quotes c.in_ok-inside.inside.quotes shown.quotes.placed.items i.quotes ∙ ap (λ (x : InlineState). take d.quotes x.quotes.placed.items) o)
     (ap (λ v. v.items) c.deactivate_all.ensures.standing) c.clear.ensures.standing
     (wikilink-formed (length old.texts.items) (length old.links.items) old.slots.items old.delimiters.placed.items old.quotes.placed.items old.brackets.standing.items old.doubled.standing.items h d c.requires.taken c.args.text.now c.args.close c.requires.stands.brackets
-    c.drop_behind.new.self.standing.items drops s refl (c.linked_element-element.ensures.names ∙ ap Some index) shown.slots.items new.slots.items size (let q : length shown.slots.items ≤ length new.slots.items = omega (arith, n, l) in q) i.before (i.names (length old.texts.items) (length old.links.items) h.named) settled)
+    c.drop_after.new.self.standing.items drops s refl (c.linked_element-element.ensures.names ∙ ap Some index) shown.slots.items new.slots.items size (let q : length shown.slots.items ≤ length new.slots.items = omega (arith, n, l) in q) i.before (i.names (length old.texts.items) (length old.links.items) h.named) settled)
 
 pub returns-clause-ends : goal.returns-clause-ends
 returns-clause-ends c = λ leaf ends source.
@@ -182,8 +182,8 @@ returns-clause-writes c =
     })
     (λ leaf pairs spans emphasis.
     f.dressed leaf new.texts.items new.links.items pairs spans (subst (λ (x : InlineState). IsEmphasis (siblings_from 0 (drop inside.runs x.delimiters.placed.items)) pairs spans) (sym o) emphasis)
-    ∙ ap (λ (x : InlineState). dressed_behind options inside pairs x.delimiters.placed.items x.quotes.placed.items (shown_slots leaf new.texts.items new.links.items (c.begin.new.slots.items ++ (end_slot close (close + 2) ∷ [])))) o
-    ∙ ap (λ l. dressed_behind options inside pairs old.delimiters.placed.items old.quotes.placed.items (shown_slots leaf new.texts.items new.links.items (l ++ (end_slot close (close + 2) ∷ [])))) begun)
+    ∙ ap (λ (x : InlineState). dressed_after options inside pairs x.delimiters.placed.items x.quotes.placed.items (shown_slots leaf new.texts.items new.links.items (c.begin.new.slots.items ++ (end_slot close (close + 2) ∷ [])))) o
+    ∙ ap (λ l. dressed_after options inside pairs old.delimiters.placed.items old.quotes.placed.items (shown_slots leaf new.texts.items new.links.items (l ++ (end_slot close (close + 2) ∷ [])))) begun)
 
 pub returns-clause-expansion_left : goal.returns-clause-expansion_left
 returns-clause-expansion_left c = c.finish.ensures.expansion_left ∙ ap (λ (s : InlineState). s.expansion_left) c.show.ensures.others
@@ -195,10 +195,10 @@ pub returns-clause-leaves : goal.returns-clause-leaves
 returns-clause-leaves c =
     let start : ℕ = c.args.doubled.start in
     let same = c.finish.ensures.brackets ∙ ap (λ (s : InlineState). s.brackets) c.show.ensures.others in
-    let drops = subst (λ (v : Brackets). DropsBehind start v.standing.items c.drop_behind.new.self.standing.items) same c.drop_behind.ensures.drops in
+    let drops = subst (λ (v : Brackets). DropsAfter start v.standing.items c.drop_after.new.self.standing.items) same c.drop_after.ensures.drops in
     let standing = ap (λ v. v.items) c.deactivate_all.ensures.standing in
     record {
-      drops = subst (DropsBehind start c.args.self.now.brackets.standing.items) (sym standing) drops;
+      drops = subst (DropsAfter start c.args.self.now.brackets.standing.items) (sym standing) drops;
       inactive_below = c.deactivate_all.ensures.inactive_below ∙ ap length (sym standing);
       none = record { standing = c.clear.ensures.standing; inactive_below = c.clear.ensures.inactive_below };
     }

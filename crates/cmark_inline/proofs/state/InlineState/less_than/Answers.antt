@@ -4,7 +4,7 @@ use Rattle.cmark_grammar.specs.Autolinks.{autolink_in}
 use Rattle.cmark_grammar.specs.InlineTokens.{item_at}
 use Rattle.cmark_grammar.specs.Items.{Plain}
 use Rattle.cmark_leaf_text.specs.Reads.{is_cell_of}
-use Rattle.cmark_text_parts.specs.Shown.{shown_options}
+use Rattle.cmark_values.specs.Shown.{shown_options}
 use Rattle.cmark_inline.specs.Tokens.{begins_at, opens_markup}
 use Rattle.cmark_inline.proofs.AngleSteps.{less-plain}
 use Rattle.std.proofs.lemmas.Str.{IsCharBoundary-after_ascii}
@@ -34,7 +34,7 @@ pub returns-clause-token : goal.returns-clause-token
 returns-clause-token c = λ l is. let o = shown_options c.args.options in ok-by-three c.put.result _ _ _ _ c.put.ensures.end c.put.ensures.at c.put.ensures.slots (λ next end at slots.
     by-none o l c.args.leaf.now c.args.here c.args.self.now c.put.new.self next c.args.text.now c.requires.same
     (c.requires.byte.cursor.ordered, c.requires.byte.within, is, sym c.if-is_followed_by.ensures.value) c.in_default.ensures.value (end ∙ sym at) c.put.ensures.others
-    (c.in_default-inline_html.ensures.none refl) c.behind.result c.behind.ensures.value at slots)
+    (c.in_default-inline_html.ensures.none refl) c.following.result c.following.ensures.value at slots)
 
 pub returns-in-Some-clause-sound : goal.returns-in-Some-clause-sound
 returns-in-Some-clause-sound c = λ h. ok-by-three c.autolink.result _ _ _ _ c.autolink.ensures.slots c.autolink.ensures.link c.autolink.ensures.others (λ next slots link others.

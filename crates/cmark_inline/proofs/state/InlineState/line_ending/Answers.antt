@@ -14,7 +14,7 @@ returns-clause-token c = λ o l cell ends.
     let before = c.before_blanks-text_end.ensures in
     ok-by-two c.put_onto_words.result _ _ _ c.put_onto_words.ensures.at c.put_onto_words.ensures.slots (λ next at slots.
     break-appends o l cell c.args.text.now c.args.here c.args.self.now c.put_onto_words.new.self next c.before_blanks-text_end.result c.in-Some.found c.break_slot-slot.result c.ends_with_two_spaces-is_hard.result
-    before.behind before.before c.requires.byte.within before.first before.blanks ends c.in-Some.ensures.value c.in-Some.ensures.places
+    before.following before.before c.requires.byte.within before.first before.blanks ends c.in-Some.ensures.value c.in-Some.ensures.places
     (c.ends_with_two_spaces-is_hard.ensures ∙ ap (λ (bs : List ℕ). ends_with_two_spaces (take (c.args.here.at - c.before_blanks-text_end.result) (drop c.before_blanks-text_end.result bs))) c.as_bytes.ensures.value) c.break_slot-slot.ensures at.1 at.0 slots c.put_onto_words.ensures.others)
 
 pub returns-in_default-clause-reads_on : goal.returns-in_default-clause-reads_on

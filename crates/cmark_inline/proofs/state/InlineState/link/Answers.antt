@@ -1,5 +1,5 @@
 use Rattle.std.proofs.Common.{◌∙◌, ap, arith, refl, subst}
-use Rattle.cmark_text_parts.specs.Shown.{shown_options}
+use Rattle.cmark_values.specs.Shown.{shown_options}
 use Rattle.cmark_inline.proofs.LastCalls.{on-err}
 use Rattle.cmark_inline.proofs.AsksSteps.{bracket-asks, decides-asks}
 use Rattle.cmark_inline.proofs.CloserSteps.{links-none, links-some}
@@ -57,9 +57,9 @@ form-requires-clause-target g c = subst (λ (o : Option Target). IfSome o (IsTar
 pub returns-clause-moves : goal.returns-clause-moves
 returns-clause-moves g c =
     let target = subst (λ (o : Option Target). IfSome o (IsTarget c.args.text.now c.args.close)) c.in-Some-2.is c.in_ok-target.ensures.target in
-    let behind = target.behind in
+    let following = target.following in
     let ordered = target.ordered in
-    record { stands = c.in_ok-form.ensures.stands; cursor = record { pending = target.resume; at = target.resume; ordered = omega arith }; further = omega (arith, behind, ordered) }
+    record { stands = c.in_ok-form.ensures.stands; cursor = record { pending = target.resume; at = target.resume; ordered = omega arith }; further = omega (arith, following, ordered) }
 
 pub returns-clause-spent : goal.returns-clause-spent
 returns-clause-spent g c = λ none. let same = c.target.ensures.spent none in (same.0, c.form.ensures.expansion_left ∙ same.1)

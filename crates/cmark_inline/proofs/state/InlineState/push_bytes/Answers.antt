@@ -14,7 +14,7 @@ loop-at-preserved c =
     let text : List ℕ = c.args.text.now in
     let at : ℕ = c.loop-at.at in
     let lt = c.loop-at-test.true in
-    let b = i.behind in
+    let b = i.following in
     let w = c.requires.part.within in
     let z = i.size in
     let within : at < length text = omega (arith, lt, w) in
@@ -26,7 +26,7 @@ loop-at-preserved c =
     let l = length_push ss slot in
     let m = ap length e in
     record {
-      behind = (let q : c.args.start ≤ at + 1 = omega (arith, b) in q);
+      following = (let q : c.args.start ≤ at + 1 = omega (arith, b) in q);
       before = (let q : at + 1 ≤ c.args.end = omega (arith, lt) in q);
       place = after text at c.utf8.text within small;
       slots = slots-push text at (at + 1) ss ts slot i.slots (let q : at ≤ at + 1 = omega arith in q) (byte-slot text at i.place c.utf8.text within small) e;

@@ -5,7 +5,7 @@ use Rattle.cmark_inline.proofs.state.InlineState.push_bytes.Given as goal
 
 abbrev pub invariant-loop-at : goal.invariant-loop-at
 invariant-loop-at l = record {
-  behind : l.start ≤ l.at;
+  following : l.start ≤ l.at;
   before : l.at ≤ l.end;
   place : IsCharBoundary l.text l.at;
   slots : AreSlots l.text l.at l.self.slots.items;

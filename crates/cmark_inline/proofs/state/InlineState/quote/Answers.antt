@@ -7,7 +7,7 @@ use Rattle.cmark_inline.specs.declared.state.InlineState.{InlineState}
 use Rattle.cmark_inline.proofs.MarkSteps.{quote-begins}
 use Rattle.cmark_inline.proofs.state.InlineState.quote.Goals as goal
 
--- what else a state holds stays
+-- the other parts of a state stay
 made : (old new between : InlineState) → new ≡ between → between ≡ record old { slots = new.slots; quotes = between.quotes } → new ≡ record old { slots = new.slots; quotes = new.quotes }
 made old new between e f = e ∙ f ∙ ap (λ (s : InlineState). record old { slots = new.slots; quotes = s.quotes }) (sym e)
 
@@ -15,7 +15,7 @@ pub returns-clause-token : goal.returns-clause-token
 returns-clause-token c = λ o l cell smart is.
     let text : List ℕ = c.args.text.now in
     let at : ℕ = c.args.here.at in
-    let end = c.behind-end.ensures.value in
+    let end = c.following-end.ensures.value in
     let same : length c.flush.new.self.slots.items ≡ c.len.result = search rules in
     record {
       quote = c.quote_of-quote.result;
@@ -36,4 +36,4 @@ returns-clause-token c = λ o l cell smart is.
     }
 
 pub add-requires-clause-slot : goal.add-requires-clause-slot
-add-requires-clause-slot c = record { part = c.behind-end.ensures.part; before = omega arith; content = tt }
+add-requires-clause-slot c = record { part = c.following-end.ensures.part; before = omega arith; content = tt }

@@ -1,10 +1,10 @@
 use Rattle.std.specs.Prelude.{map}
 use Rattle.std.proofs.Common.{rules, ◌≡◌, ◌≤◌, ℕ, List, [], drop, take, get_or, length, refl, sym, ap, ◌∙◌, subst, arith, true≢false}
 use Rattle.std.proofs.lemmas.Str.{IsCharBoundary-start}
-use Rattle.cmark_grammar.specs.EmphasisModel.{pairs_of, spans_of}
-use Rattle.cmark_grammar.proofs.EmphasisSound.{sound as emphasis}
+use Rattle.cmark_inline_model.specs.EmphasisModel.{pairs_of, spans_of}
+use Rattle.cmark_inline_model.proofs.EmphasisSound.{sound as emphasis}
 use Rattle.cmark_leaf_text.specs.Reads.{text_of}
-use Rattle.cmark_text_parts.specs.Shown.{shown_options}
+use Rattle.cmark_values.specs.Shown.{shown_options}
 use Rattle.cmark_inline_model.specs.SlotRows.{marked, marks_by, quoted}
 use Rattle.cmark_inline.specs.CursorProgress.{HasCome}
 use Rattle.cmark_inline.specs.Resolved.{Stops}
@@ -25,7 +25,7 @@ use Rattle.cmark_inline.specs.declared.state.InlineState.{InlineState}
 use Rattle.cmark_inline.specs.declared.steps.Steps.{Steps}
 use Rattle.cmark_inline.proofs.Keeping.{keeps-pending}
 use Rattle.cmark_slots.proofs.Naming.{ended-on, named-on, no-more-on}
-use Rattle.cmark_inline.proofs.SourceOrder.{ends-behind, left-of}
+use Rattle.cmark_inline.proofs.SourceOrder.{ends-following, left-of}
 use Rattle.cmark_slots.proofs.Settling.{letters-name, letters-settle}
 use Rattle.cmark_slots.proofs.Soundness.{sound-settles-all}
 use Rattle.cmark_inline.proofs.PaidSteps.{extent-within, paid-start, text-fits}
@@ -120,7 +120,7 @@ returns-clause-left g c =
     let ended = ended-on one new names leaf ((keeps-pending c.loop-cursor.self mid c.in_ok-flush.ensures.others c.loop-cursor.cursor.pending _ c.in_ok-flush.ensures.slots).ends leaf c.loop-cursor.invariant.9) in
     let text : List ℕ = c.as_str-text.result.now in
     let slots = c.in_ok-resolve-2.ensures.slots text (length text) (c.in_ok-resolve.ensures.slots text (length text) c.in_ok-flush.ensures.stands.slots) in
-    left-of leaf mid.texts.items mid.links.items new named (λ k d lt. ends-behind leaf (get_or new k d) (get_or new k d).kind (slots k d lt).part.some (ended k d lt))
+    left-of leaf mid.texts.items mid.links.items new named (λ k d lt. ends-following leaf (get_or new k d) (get_or new k d).kind (slots k d lt).part.some (ended k d lt))
 
 pub returns-clause-reads : goal.returns-clause-reads
 returns-clause-reads g c = λ set reader read place same places.

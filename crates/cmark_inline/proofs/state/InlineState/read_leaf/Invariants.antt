@@ -1,6 +1,6 @@
 use Rattle.std.proofs.Common.{◌≡◌, ◌-◌, [], length, take}
-use Rattle.cmark_finds.specs.Backticks.{AreRunsOf}
-use Rattle.cmark_finds.specs.Dollars.{AreDollarsOf}
+use Rattle.cmark_span_scan.specs.Backticks.{AreRunsOf}
+use Rattle.cmark_span_scan.specs.Dollars.{AreDollarsOf}
 use Rattle.cmark_inline.specs.Asking.{AsksUpTo, closing_brackets}
 use Rattle.cmark_inline.specs.CursorProgress.{ComesTo}
 use Rattle.cmark_inline.specs.Footnoted.{SameFootnotes}
@@ -11,7 +11,7 @@ use Rattle.cmark_slots.specs.Standing.{AreEnded}
 use Rattle.cmark_inline.specs.Sound.{IsSound}
 use Rattle.cmark_inline.specs.Stands.{Stands, IsCursor}
 use Rattle.cmark_inline.specs.Uses.{RiseUpTo}
-use Rattle.cmark_text_parts.specs.Shown.{shown_options}
+use Rattle.cmark_values.specs.Shown.{shown_options}
 use Rattle.cmark_inline.proofs.state.InlineState.read_leaf.Given as goal
 
 abbrev pub invariant-loop-cursor : goal.invariant-loop-cursor

@@ -2,7 +2,7 @@ use Rattle.std.specs.Prelude.{Result, Ok, Err, OnOk, OnErr}
 use Rattle.std.proofs.Common.{◌≡◌, ◌≤◌, arith, refl, subst, sym}
 use Rattle.cmark_leaf_text.specs.Reads.{text_of}
 use Rattle.cmark_leaf_text.specs.declared.leaf_text.LeafText.{LeafText}
-use Rattle.cmark_text_parts.specs.Shown.{shown_options}
+use Rattle.cmark_values.specs.Shown.{shown_options}
 use Rattle.cmark_inline.specs.Asking.{closing_brackets}
 use Rattle.cmark_inline.specs.Counted.{Counts}
 use Rattle.cmark_inline.specs.declared.steps.Steps.{Steps}
@@ -14,7 +14,7 @@ use Rattle.cmark_inline.proofs.state.InlineState.resolve.Goals as goal
 none-counted : (leaf : LeafText) (steps : Steps) → Counts leaf steps steps
 none-counted leaf steps = record { html_grows = omega arith; openers_grow = omega arith; closers_grow = omega arith; found = omega arith; opened = omega arith }
 
--- where memory was refused, nothing was counted
+-- if memory was refused, nothing was counted
 either-counted : {A E : Type 0} (leaf : LeafText) (old new : Steps) (result : Result A E) → OnOk result (Counts leaf old new) → OnErr result (new ≡ old) → Counts leaf old new
 either-counted leaf old new (Ok done) counts same = counts
 either-counted leaf old new (Err error) counts same = subst (Counts leaf old) (sym same) (none-counted leaf old)

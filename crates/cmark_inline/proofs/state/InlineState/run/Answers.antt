@@ -5,7 +5,7 @@ use Rattle.cmark_emphasis.specs.Shown.{shown_flanking}
 use Rattle.cmark_emphasis.specs.declared.run.Run.{Run}
 use Rattle.cmark_slots.specs.declared.delimiter.Delimiters.{Delimiters}
 use Rattle.cmark_inline.specs.declared.state.InlineState.{InlineState}
-use Rattle.cmark_text_parts.specs.Shown.{shown_options}
+use Rattle.cmark_values.specs.Shown.{shown_options}
 use Rattle.cmark_grammar.specs.Flanking.{Flanking}
 use Rattle.cmark_inline.proofs.SpecialSteps.{flanks-known, others-flank, others-last, others-stand}
 use Rattle.cmark_inline.proofs.MarkSteps.{run-content, run-stays, run-begins-there}

@@ -5,9 +5,9 @@ use Rattle.cmark_grammar.specs.InlineTokens.{bracket}
 use Rattle.cmark_grammar.specs.Items.{Opens}
 use Rattle.cmark_grammar.specs.Lines.{is_content}
 use Rattle.cmark_grammar.specs.Options.{Options}
-use Rattle.cmark_grammar.specs.SpecialBytes.{is_special}
+use Rattle.cmark_inline_model.specs.SpecialBytes.{is_special}
 use Rattle.cmark_leaf_text.specs.Reads.{is_cell_of}
-use Rattle.cmark_text_parts.specs.Shown.{shown_options}
+use Rattle.cmark_values.specs.Shown.{shown_options}
 use Rattle.cmark_inline.specs.Closers.{OpensAs}
 use Rattle.cmark_inline.specs.Tokens.{PutsBracket}
 use Rattle.cmark_inline.proofs.PaidSteps.{all-moved, markup-moved, runs-moved, signs-moved}
@@ -99,7 +99,7 @@ returns-in-91-clause-token g c = λ special other.
     let at : ℕ = c.args.here.at in
     let is : get_or text at 0 ≡ 91 = subst (λ (bs : List ℕ). get_or bs at 0 ≡ 91) c.as_bytes.ensures.value c.in-91.is in
     ok-by-three c.open_bracket.result _ _ _ _ c.open_bracket.ensures.at c.open_bracket.ensures.puts c.open_bracket.ensures.opens (λ next places puts opened.
-    let e : at + 1 ≡ next.at = sym c.behind-inside.ensures.value ∙ sym places.1 in
+    let e : at + 1 ≡ next.at = sym c.following-inside.ensures.value ∙ sym places.1 in
     opens o l c.args.leaf.now text c.requires.same c.args.here c.args.self.now c.open_bracket.new.self next
     (record {
       is_image = false;
@@ -207,7 +207,7 @@ pub dollar-requires-clause-dollar : goal.dollar-requires-clause-dollar
 dollar-requires-clause-dollar g c = subst (λ (bs : List ℕ). get_or bs c.args.here.at 0 ≡ 36) c.as_bytes.ensures.value c.in-36.is
 
 pub open_bracket-requires-clause-part : goal.open_bracket-requires-clause-part
-open_bracket-requires-clause-part g c = c.behind-inside.ensures.part
+open_bracket-requires-clause-part g c = c.following-inside.ensures.part
 
 pub returns-in-10-clause-paid : goal.returns-in-10-clause-paid
 returns-in-10-clause-paid g c = all-moved c.args.leaf.now c.requires.read c.args.text.now c.args.here.at c.line_ending.new.self c.args.sought.now c.line_ending.result c.line_ending.ensures.reads_on.moves c.requires.paid

@@ -2,7 +2,7 @@ use Rattle.std.proofs.Common.{◌≡◌, ◌==◌, ◌<◌, ◌≤◌, ℕ, IfOk
 use Rattle.std.proofs.lemmas.Bool.{false_from_ne_true}
 use Rattle.cmark_grammar.specs.Answers.{Lookup}
 use Rattle.cmark_grammar.specs.Options.{Options}
-use Rattle.cmark_text_parts.specs.Shown.{shown_options}
+use Rattle.cmark_values.specs.Shown.{shown_options}
 use Rattle.cmark_inline.specs.Closers.{Closes}
 use Rattle.cmark_inline.specs.CursorProgress.{ComesOn}
 use Rattle.cmark_inline.specs.LeastSteps.{PassesAt, VisitsAt}
@@ -12,7 +12,7 @@ use Rattle.cmark_inline.specs.declared.state.InlineState.{InlineState}
 use Rattle.cmark_inline.specs.declared.step.Cursor.{Cursor}
 use Rattle.cmark_inline.proofs.ComeCalls.{IsNextAt, both-ok, close-comes, close-stops, rest-comes, span-comes, span-stops, special-there}
 use Rattle.std.proofs.lemmas.Result.{IfOk-weaker, on_err_weaker}
-use Rattle.cmark_grammar.specs.SpecialBytes.{is_special}
+use Rattle.cmark_inline_model.specs.SpecialBytes.{is_special}
 use Rattle.cmark_inline.proofs.LastCalls.{on-err}
 use Rattle.cmark_inline.proofs.PaidSteps.{all-on}
 use Rattle.cmark_inline.proofs.StillUnclosed.{still-unclosed}
@@ -25,7 +25,7 @@ returns-then-at-bytes-clause-come g c = λ set.
     let is = c.as_bytes-bytes.ensures.value in
     let rows : List ℕ = c.args.reader.now.special.now in
     let at : ℕ = c.next-at.result in
-    let there : IsNextAt rows c.args.text.now c.args.cursor.at at = subst (λ (t : List ℕ). IsNextAt rows t c.args.cursor.at at) is (record { value = n.value; plain = n.plain; order = n.behind; within = n.within; ascii = n.ascii }) in
+    let there : IsNextAt rows c.args.text.now c.args.cursor.at at = subst (λ (t : List ℕ). IsNextAt rows t c.args.cursor.at at) is (record { value = n.value; plain = n.plain; order = n.following; within = n.within; ascii = n.ascii }) in
     rest-comes g.F.BrokenLinkCallback.answers (shown_options c.args.reader.now.options) (g.E.EntityLookup.replacement c.args.reader.now.entities.now) c.args.reader.now.references.now c.args.footnotes.now c.args.leaf.now rows c.args.text.now c.requires.same
     c.args.cursor c.args.self.now at set there c.args.sought.now c.args.callback.now (length c.as_bytes-bytes.result.now) (ap length is) c.if-at-bytes.true c.requires.more
 
@@ -35,7 +35,7 @@ returns-then-bytes-at-eq93-clause-come g c = λ set.
     let is = c.as_bytes-bytes.ensures.value in
     let rows : List ℕ = c.args.reader.now.special.now in
     let at : ℕ = c.next-at.result in
-    let there : IsNextAt rows c.args.text.now c.args.cursor.at at = subst (λ (t : List ℕ). IsNextAt rows t c.args.cursor.at at) is (record { value = n.value; plain = n.plain; order = n.behind; within = n.within; ascii = n.ascii }) in
+    let there : IsNextAt rows c.args.text.now c.args.cursor.at at = subst (λ (t : List ℕ). IsNextAt rows t c.args.cursor.at at) is (record { value = n.value; plain = n.plain; order = n.following; within = n.within; ascii = n.ascii }) in
     let lt : at < length c.args.text.now = subst (λ (t : List ℕ). at < length t) is c.if-at-bytes.false in
     let byte : get_or c.args.text.now at 0 ≡ 93 = ap (λ (t : List ℕ). get_or t at 0) (sym is) ∙ c.if-bytes-at-eq93.true in
     let o : Options = shown_options c.args.reader.now.options in
@@ -62,7 +62,7 @@ returns-clause-come g c = λ set.
     let is = c.as_bytes-bytes.ensures.value in
     let rows : List ℕ = c.args.reader.now.special.now in
     let at : ℕ = c.next-at.result in
-    let there : IsNextAt rows c.args.text.now c.args.cursor.at at = subst (λ (t : List ℕ). IsNextAt rows t c.args.cursor.at at) is (record { value = n.value; plain = n.plain; order = n.behind; within = n.within; ascii = n.ascii }) in
+    let there : IsNextAt rows c.args.text.now c.args.cursor.at at = subst (λ (t : List ℕ). IsNextAt rows t c.args.cursor.at at) is (record { value = n.value; plain = n.plain; order = n.following; within = n.within; ascii = n.ascii }) in
     let lt : at < length c.args.text.now = subst (λ (t : List ℕ). at < length t) is c.if-at-bytes.false in
     let other : (get_or c.args.text.now at 0 == 93) ≡ false =
     false_from_ne_true (get_or c.args.text.now at 0 == 93) (λ t. c.if-bytes-at-eq93.false (ap (λ (t : List ℕ). get_or t at 0) is ∙ eqb-true (get_or c.args.text.now at 0) 93 t)) in
@@ -93,8 +93,8 @@ returns-then-at-bytes-clause-kept g c =
 
 pub returns-then-bytes-at-eq93-clause-kept : goal.returns-then-bytes-at-eq93-clause-kept
 returns-then-bytes-at-eq93-clause-kept g c =
-    let behind = c.next-at.ensures.behind in
-    IfOk-weaker c.close_bracket.result _ _ (λ next m. let further = m.further in still-unclosed c.args.leaf.now c.args.cursor.at next.at c.args.sought.now.unclosed (omega (arith, behind, further)) c.requires.kept) c.close_bracket.ensures.moves
+    let following = c.next-at.ensures.following in
+    IfOk-weaker c.close_bracket.result _ _ (λ next m. let further = m.further in still-unclosed c.args.leaf.now c.args.cursor.at next.at c.args.sought.now.unclosed (omega (arith, following, further)) c.requires.kept) c.close_bracket.ensures.moves
 
 pub returns-clause-kept : goal.returns-clause-kept
 returns-clause-kept g c =
@@ -102,13 +102,13 @@ returns-clause-kept g c =
 
 pub returns-then-bytes-at-eq93-clause-moves : goal.returns-then-bytes-at-eq93-clause-moves
 returns-then-bytes-at-eq93-clause-moves g c =
-    let behind = c.next-at.ensures.behind in
-    IfOk-weaker c.close_bracket.result _ _ (λ next m. let further = m.further in record { stands = m.stands; cursor = m.cursor; further = omega (arith, behind, further) }) c.close_bracket.ensures.moves
+    let following = c.next-at.ensures.following in
+    IfOk-weaker c.close_bracket.result _ _ (λ next m. let further = m.further in record { stands = m.stands; cursor = m.cursor; further = omega (arith, following, further) }) c.close_bracket.ensures.moves
 
 pub returns-clause-moves : goal.returns-clause-moves
 returns-clause-moves g c =
-    let behind = c.next-at.ensures.behind in
-    IfOk-weaker c.span.result _ _ (λ next m. let further = m.further in record { stands = m.stands; cursor = m.cursor; further = omega (arith, behind, further) }) c.span.ensures.moves
+    let following = c.next-at.ensures.following in
+    IfOk-weaker c.span.result _ _ (λ next m. let further = m.further in record { stands = m.stands; cursor = m.cursor; further = omega (arith, following, further) }) c.span.ensures.moves
 
 pub returns-then-at-bytes-clause-asks : goal.returns-then-at-bytes-clause-asks
 returns-then-at-bytes-clause-asks g c = inl refl
@@ -127,20 +127,20 @@ returns-then-bytes-at-eq93-clause-asks g c =
     let text : List ℕ = c.args.text.now in
     let at : ℕ = c.next-at.result in
     let is = c.as_bytes-bytes.ensures.value in
-    let behind = c.next-at.ensures.behind in
+    let following = c.next-at.ensures.following in
     let lt : at < length text = subst (λ (t : List ℕ). at < length t) is c.if-at-bytes.false in
     let byte : get_or text at 0 ≡ 93 = ap (λ (t : List ℕ). get_or t at 0) (sym is) ∙ c.if-bytes-at-eq93.true in
-    inr (c.close_bracket.ensures.asks, (at, behind, lt, lt, byte))
+    inr (c.close_bracket.ensures.asks, (at, following, lt, lt, byte))
 
 pub returns-then-bytes-at-eq93-clause-asks_here : goal.returns-then-bytes-at-eq93-clause-asks_here
 returns-then-bytes-at-eq93-clause-asks_here g c =
     let text : List ℕ = c.args.text.now in
     let at : ℕ = c.next-at.result in
     let is = c.as_bytes-bytes.ensures.value in
-    let behind = c.next-at.ensures.behind in
+    let following = c.next-at.ensures.following in
     let lt : at < length text = subst (λ (t : List ℕ). at < length t) is c.if-at-bytes.false in
     let byte : get_or text at 0 ≡ 93 = ap (λ (t : List ℕ). get_or t at 0) (sym is) ∙ c.if-bytes-at-eq93.true in
-    IfOk-weaker c.close_bracket.result _ _ (λ next m. inr (c.close_bracket.ensures.asks, (at, behind, m.further, lt, byte))) c.close_bracket.ensures.moves
+    IfOk-weaker c.close_bracket.result _ _ (λ next m. inr (c.close_bracket.ensures.asks, (at, following, m.further, lt, byte))) c.close_bracket.ensures.moves
 
 pub returns-then-bytes-at-eq93-clause-rest : goal.returns-then-bytes-at-eq93-clause-rest
 returns-then-bytes-at-eq93-clause-rest g c = λ whole.
@@ -148,7 +148,7 @@ returns-then-bytes-at-eq93-clause-rest g c = λ whole.
     let at : ℕ = c.next-at.result in
     let is = c.as_bytes-bytes.ensures.value in
     let n = c.next-at.ensures in
-    let there : IsNextAt c.args.reader.now.special.now text c.args.cursor.at at = subst (λ (t : List ℕ). IsNextAt c.args.reader.now.special.now t c.args.cursor.at at) is (record { value = n.value; plain = n.plain; order = n.behind; within = n.within; ascii = n.ascii }) in
+    let there : IsNextAt c.args.reader.now.special.now text c.args.cursor.at at = subst (λ (t : List ℕ). IsNextAt c.args.reader.now.special.now t c.args.cursor.at at) is (record { value = n.value; plain = n.plain; order = n.following; within = n.within; ascii = n.ascii }) in
     let value = there.value in
     let lt : at < length text = subst (λ (t : List ℕ). at < length t) is c.if-at-bytes.false in
     absurd (omega (arith, value, whole, lt))
@@ -159,7 +159,7 @@ returns-clause-rest g c = λ whole.
     let at : ℕ = c.next-at.result in
     let is = c.as_bytes-bytes.ensures.value in
     let n = c.next-at.ensures in
-    let there : IsNextAt c.args.reader.now.special.now text c.args.cursor.at at = subst (λ (t : List ℕ). IsNextAt c.args.reader.now.special.now t c.args.cursor.at at) is (record { value = n.value; plain = n.plain; order = n.behind; within = n.within; ascii = n.ascii }) in
+    let there : IsNextAt c.args.reader.now.special.now text c.args.cursor.at at = subst (λ (t : List ℕ). IsNextAt c.args.reader.now.special.now t c.args.cursor.at at) is (record { value = n.value; plain = n.plain; order = n.following; within = n.within; ascii = n.ascii }) in
     let value = there.value in
     let lt : at < length text = subst (λ (t : List ℕ). at < length t) is c.if-at-bytes.false in
     absurd (omega (arith, value, whole, lt))
@@ -170,7 +170,7 @@ returns-then-bytes-at-eq93-clause-token g c = λ k e low special other.
     let at : ℕ = c.next-at.result in
     let is = c.as_bytes-bytes.ensures.value in
     let n = c.next-at.ensures in
-    let there : IsNextAt c.args.reader.now.special.now text c.args.cursor.at at = subst (λ (t : List ℕ). IsNextAt c.args.reader.now.special.now t c.args.cursor.at at) is (record { value = n.value; plain = n.plain; order = n.behind; within = n.within; ascii = n.ascii }) in
+    let there : IsNextAt c.args.reader.now.special.now text c.args.cursor.at at = subst (λ (t : List ℕ). IsNextAt c.args.reader.now.special.now t c.args.cursor.at at) is (record { value = n.value; plain = n.plain; order = n.following; within = n.within; ascii = n.ascii }) in
     let value = there.value in
     let lt : at < length text = subst (λ (t : List ℕ). at < length t) is c.if-at-bytes.false in
     let byte : get_or text at 0 ≡ 93 = ap (λ (t : List ℕ). get_or t at 0) (sym is) ∙ c.if-bytes-at-eq93.true in
@@ -182,7 +182,7 @@ returns-then-at-bytes-clause-token g c = λ k e low special other.
     let at : ℕ = c.next-at.result in
     let is = c.as_bytes-bytes.ensures.value in
     let n = c.next-at.ensures in
-    let there : IsNextAt c.args.reader.now.special.now text c.args.cursor.at at = subst (λ (t : List ℕ). IsNextAt c.args.reader.now.special.now t c.args.cursor.at at) is (record { value = n.value; plain = n.plain; order = n.behind; within = n.within; ascii = n.ascii }) in
+    let there : IsNextAt c.args.reader.now.special.now text c.args.cursor.at at = subst (λ (t : List ℕ). IsNextAt c.args.reader.now.special.now t c.args.cursor.at at) is (record { value = n.value; plain = n.plain; order = n.following; within = n.within; ascii = n.ascii }) in
     let value = there.value in
     let over : length text ≤ at = subst (λ (t : List ℕ). length t ≤ at) is c.if-at-bytes.true in
     absurd (omega (arith, value, e, low, over))
@@ -193,7 +193,7 @@ returns-clause-token g c = λ k e low special other.
     let at : ℕ = c.next-at.result in
     let is = c.as_bytes-bytes.ensures.value in
     let n = c.next-at.ensures in
-    let there : IsNextAt c.args.reader.now.special.now text c.args.cursor.at at = subst (λ (t : List ℕ). IsNextAt c.args.reader.now.special.now t c.args.cursor.at at) is (record { value = n.value; plain = n.plain; order = n.behind; within = n.within; ascii = n.ascii }) in
+    let there : IsNextAt c.args.reader.now.special.now text c.args.cursor.at at = subst (λ (t : List ℕ). IsNextAt c.args.reader.now.special.now t c.args.cursor.at at) is (record { value = n.value; plain = n.plain; order = n.following; within = n.within; ascii = n.ascii }) in
     let value = there.value in
     let o : Options = shown_options c.args.reader.now.options in
     let l : Lookup = g.E.EntityLookup.replacement c.args.reader.now.entities.now in
@@ -207,11 +207,11 @@ returns-then-at-bytes-clause-paid g c =
 
 pub returns-then-bytes-at-eq93-clause-paid : goal.returns-then-bytes-at-eq93-clause-paid
 returns-then-bytes-at-eq93-clause-paid g c =
-    let behind = c.next-at.ensures.behind in
-    IfOk-weaker c.close_bracket.result _ _ (λ next m. let further = m.further in all-on c.args.leaf.now c.requires.read c.args.cursor.at next.at c.args.sought.now (omega (arith, behind, further)) c.requires.paid) c.close_bracket.ensures.moves
+    let following = c.next-at.ensures.following in
+    IfOk-weaker c.close_bracket.result _ _ (λ next m. let further = m.further in all-on c.args.leaf.now c.requires.read c.args.cursor.at next.at c.args.sought.now (omega (arith, following, further)) c.requires.paid) c.close_bracket.ensures.moves
 
 pub span-requires-clause-paid : goal.span-requires-clause-paid
-span-requires-clause-paid g c = all-on c.args.leaf.now c.requires.read c.args.cursor.at c.next-at.result c.args.sought.now c.next-at.ensures.behind c.requires.paid
+span-requires-clause-paid g c = all-on c.args.leaf.now c.requires.read c.args.cursor.at c.next-at.result c.args.sought.now c.next-at.ensures.following c.requires.paid
 
 pub returns-then-at-bytes-clause-rise : goal.returns-then-at-bytes-clause-rise
 returns-then-at-bytes-clause-rise g c = none-between c.args.text.now c.args.cursor.at (length c.args.text.now) c.args.footnotes.now
@@ -230,20 +230,20 @@ returns-then-bytes-at-eq93-clause-rise g c =
     let text : List ℕ = c.args.text.now in
     let at : ℕ = c.next-at.result in
     let is = c.as_bytes-bytes.ensures.value in
-    let behind = c.next-at.ensures.behind in
+    let following = c.next-at.ensures.following in
     let lt : at < length text = subst (λ (t : List ℕ). at < length t) is c.if-at-bytes.false in
     let byte : get_or text at 0 ≡ 93 = ap (λ (t : List ℕ). get_or t at 0) (sym is) ∙ c.if-bytes-at-eq93.true in
-    one-between text c.args.cursor.at at (length text) c.args.footnotes.now c.close_bracket.new.footnotes behind lt lt byte c.close_bracket.ensures.rise
+    one-between text c.args.cursor.at at (length text) c.args.footnotes.now c.close_bracket.new.footnotes following lt lt byte c.close_bracket.ensures.rise
 
 pub returns-then-bytes-at-eq93-clause-rise_here : goal.returns-then-bytes-at-eq93-clause-rise_here
 returns-then-bytes-at-eq93-clause-rise_here g c =
     let text : List ℕ = c.args.text.now in
     let at : ℕ = c.next-at.result in
     let is = c.as_bytes-bytes.ensures.value in
-    let behind = c.next-at.ensures.behind in
+    let following = c.next-at.ensures.following in
     let lt : at < length text = subst (λ (t : List ℕ). at < length t) is c.if-at-bytes.false in
     let byte : get_or text at 0 ≡ 93 = ap (λ (t : List ℕ). get_or t at 0) (sym is) ∙ c.if-bytes-at-eq93.true in
-    IfOk-weaker c.close_bracket.result _ _ (λ next m. one-between text c.args.cursor.at at next.at c.args.footnotes.now c.close_bracket.new.footnotes behind m.further lt byte c.close_bracket.ensures.rise) c.close_bracket.ensures.moves
+    IfOk-weaker c.close_bracket.result _ _ (λ next m. one-between text c.args.cursor.at at next.at c.args.footnotes.now c.close_bracket.new.footnotes following m.further lt byte c.close_bracket.ensures.rise) c.close_bracket.ensures.moves
 
 pub returns-then-bytes-at-eq93-clause-stops : goal.returns-then-bytes-at-eq93-clause-stops
 returns-then-bytes-at-eq93-clause-stops g c = λ set.
@@ -251,7 +251,7 @@ returns-then-bytes-at-eq93-clause-stops g c = λ set.
     let is = c.as_bytes-bytes.ensures.value in
     let rows : List ℕ = c.args.reader.now.special.now in
     let at : ℕ = c.next-at.result in
-    let there : IsNextAt rows c.args.text.now c.args.cursor.at at = subst (λ (t : List ℕ). IsNextAt rows t c.args.cursor.at at) is (record { value = n.value; plain = n.plain; order = n.behind; within = n.within; ascii = n.ascii }) in
+    let there : IsNextAt rows c.args.text.now c.args.cursor.at at = subst (λ (t : List ℕ). IsNextAt rows t c.args.cursor.at at) is (record { value = n.value; plain = n.plain; order = n.following; within = n.within; ascii = n.ascii }) in
     let lt : at < length c.args.text.now = subst (λ (t : List ℕ). at < length t) is c.if-at-bytes.false in
     let byte : get_or c.args.text.now at 0 ≡ 93 = ap (λ (t : List ℕ). get_or t at 0) (sym is) ∙ c.if-bytes-at-eq93.true in
     on_err_weaker c.close_bracket.result
@@ -264,7 +264,7 @@ returns-clause-stops g c = λ set.
     let is = c.as_bytes-bytes.ensures.value in
     let rows : List ℕ = c.args.reader.now.special.now in
     let at : ℕ = c.next-at.result in
-    let there : IsNextAt rows c.args.text.now c.args.cursor.at at = subst (λ (t : List ℕ). IsNextAt rows t c.args.cursor.at at) is (record { value = n.value; plain = n.plain; order = n.behind; within = n.within; ascii = n.ascii }) in
+    let there : IsNextAt rows c.args.text.now c.args.cursor.at at = subst (λ (t : List ℕ). IsNextAt rows t c.args.cursor.at at) is (record { value = n.value; plain = n.plain; order = n.following; within = n.within; ascii = n.ascii }) in
     on-err c.span.result _
     (span-stops g.F.BrokenLinkCallback.answers (shown_options c.args.reader.now.options) (g.E.EntityLookup.replacement c.args.reader.now.entities.now) c.args.reader.now.references.now c.args.footnotes.now c.args.leaf.now rows c.args.text.now c.requires.same
     c.args.cursor c.args.self.now at set there c.args.sought.now c.args.callback.now)

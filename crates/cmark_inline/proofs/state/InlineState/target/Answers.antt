@@ -3,8 +3,8 @@ use Rattle.std.proofs.Common.{◌≡◌, ◌+◌, drop, refl, sym, ap, subst, �
 use Rattle.std.proofs.lemmas.Bool.{ne_eqb}
 use Rattle.cmark_grammar.specs.Tokens.{slice}
 use Rattle.cmark_leaf_text.specs.Reads.{IsPart}
-use Rattle.cmark_text_parts.specs.Shown.{shown_options}
-use Rattle.cmark_inline.specs.Linked.{left_behind, reference_behind, shown_link_reference, shown_target}
+use Rattle.cmark_values.specs.Shown.{shown_options}
+use Rattle.cmark_inline.specs.Linked.{left_after, reference_after, shown_link_reference, shown_target}
 use Rattle.cmark_inline.specs.Stands.{IsLinkReference, IsTarget}
 use Rattle.cmark_inline.specs.declared.reference.LinkReference.{LinkReference}
 use Rattle.cmark_inline.specs.declared.link.Target.{Target}
@@ -28,7 +28,7 @@ returns-in_default-link_reference_at-clause-decides g c =
     none-decides g.F.BrokenLinkCallback.answers (shown_options c.args.reader.now.options) (g.E.EntityLookup.replacement c.args.reader.now.entities.now) c.args.reader.now.references.now c.args.leaf.now c.args.text.now c.requires.same c.args.bracket c.args.close c.args.self.now
     (ap (option_map (shown_target c.args.text.now)) (sym c.in_default.is) ∙ c.in_ok-target.ensures.value) c.requires.bracket.before c.args.callback.now
     (ap (option_map (shown_link_reference c.args.text.now)) (sym c.in_default-link_reference_at.is) ∙ c.link_reference_at.ensures.value
-    ∙ ap (λ z. reference_behind (shown_options c.args.reader.now.options) z (slice c.args.text.now c.args.bracket.inside c.args.close) (drop (c.args.close + 1) c.args.text.now)) c.closes_label-closes_label.ensures)
+    ∙ ap (λ z. reference_after (shown_options c.args.reader.now.options) z (slice c.args.text.now c.args.bracket.inside c.args.close) (drop (c.args.close + 1) c.args.text.now)) c.closes_label-closes_label.ensures)
 
 pub returns-then-self-eq0-clause-decides : goal.returns-then-self-eq0-clause-decides
 returns-then-self-eq0-clause-decides g c =
@@ -38,7 +38,7 @@ returns-then-self-eq0-clause-decides g c =
     (ap (option_map (shown_target c.args.text.now)) (sym c.in_default.is) ∙ c.in_ok-target.ensures.value) c.requires.bracket.before
     c.in-Some-link_reference_at.link_reference link_reference.ends.0 link_reference.resume.0
     (ap (option_map (shown_link_reference c.args.text.now)) (sym c.in-Some-link_reference_at.is) ∙ c.link_reference_at.ensures.value
-    ∙ ap (λ z. reference_behind (shown_options c.args.reader.now.options) z (slice c.args.text.now c.args.bracket.inside c.args.close) (drop (c.args.close + 1) c.args.text.now)) c.closes_label-closes_label.ensures)
+    ∙ ap (λ z. reference_after (shown_options c.args.reader.now.options) z (slice c.args.text.now c.args.bracket.inside c.args.close) (drop (c.args.close + 1) c.args.text.now)) c.closes_label-closes_label.ensures)
     c.remember_label.new.self c.remember_label.ensures.label c.args.callback.now (sym same ∙ c.if-self-eq0.true) same
 
 pub returns-clause-decides : goal.returns-clause-decides
@@ -50,11 +50,11 @@ returns-clause-decides g c =
     (ap (option_map (shown_target c.args.text.now)) (sym c.in_default.is) ∙ c.in_ok-target.ensures.value) c.requires.bracket.before
     c.in-Some-link_reference_at.link_reference link_reference.ends.0 link_reference.resume.0
     (ap (option_map (shown_link_reference c.args.text.now)) (sym c.in-Some-link_reference_at.is) ∙ c.link_reference_at.ensures.value
-    ∙ ap (λ z. reference_behind (shown_options c.args.reader.now.options) z (slice c.args.text.now c.args.bracket.inside c.args.close) (drop (c.args.close + 1) c.args.text.now)) c.closes_label-closes_label.ensures)
+    ∙ ap (λ z. reference_after (shown_options c.args.reader.now.options) z (slice c.args.text.now c.args.bracket.inside c.args.close) (drop (c.args.close + 1) c.args.text.now)) c.closes_label-closes_label.ensures)
     c.reference.new.self (ap (λ (s : InlineState). s.label_close) c.reference.ensures.others ∙ c.remember_label.ensures.label) c.args.callback.now c.reference.new.callback c.in_ok-found.found
     (ne_eqb c.args.self.now.expansion_left 0 (λ e. some (same ∙ e)))
     c.in_ok-found.ensures.refers
-    (c.in_ok-found.ensures.expansion_left ∙ ap (λ n. left_behind n c.in_ok-found.found) same)
+    (c.in_ok-found.ensures.expansion_left ∙ ap (λ n. left_after n c.in_ok-found.found) same)
     (λ t e. subst (λ (o : Option Target). IfSome o (λ (t : Target). (t.end ≡ c.in-Some-link_reference_at.link_reference.end) × (t.resume ≡ c.in-Some-link_reference_at.link_reference.resume))) e c.in_ok-found.ensures.target)
 
 pub returns-clause-label : goal.returns-clause-label
@@ -70,15 +70,15 @@ reference-requires g c =
     let link_reference = subst (λ (o : Option LinkReference). IfSome o (IsLinkReference c.args.text.now c.args.close)) c.in-Some-link_reference_at.is c.link_reference_at.ensures.ends in
     let opens = c.requires.bracket.part.some in
     let before = c.requires.bracket.before in
-    let behind = link_reference.behind in
-    let part : IsPart c.args.text.now c.args.bracket.start c.in-Some-link_reference_at.link_reference.end = record { some = omega (arith, opens, before, behind); within = link_reference.ends.0; starts = c.requires.bracket.part.starts; ends = link_reference.ends } in
+    let following = link_reference.following in
+    let part : IsPart c.args.text.now c.args.bracket.start c.in-Some-link_reference_at.link_reference.end = record { some = omega (arith, opens, before, following); within = link_reference.ends.0; starts = c.requires.bracket.part.starts; ends = link_reference.ends } in
     λ k. ((refl, tt), (part, (c.requires.read, (c.requires.same, c.requires.ready))))
 
 pub returns-in-Some-clause-target : goal.returns-in-Some-clause-target
 returns-in-Some-clause-target g c =
     let target = subst (λ (o : Option Target). IfSome o (IsTarget c.args.text.now (c.args.close + 1))) c.in-Some.is c.in_ok-target.ensures.target in
-    let behind = target.behind in
-    record { behind = omega (arith, behind); ordered = target.ordered; ends = target.ends; resume = target.resume }
+    let following = target.following in
+    record { following = omega (arith, following); ordered = target.ordered; ends = target.ends; resume = target.resume }
 
 pub returns-clause-target : goal.returns-clause-target
 returns-clause-target g c =
@@ -118,7 +118,7 @@ returns-in_err-found-clause-stops g c = on-err c.from_residual-in_err-found.resu
     (ap (option_map (shown_target c.args.text.now)) (sym c.in_default.is) ∙ c.in_ok-target.ensures.value) c.requires.bracket.before
     c.in-Some-link_reference_at.link_reference link_reference.ends.0 link_reference.resume.0
     (ap (option_map (shown_link_reference c.args.text.now)) (sym c.in-Some-link_reference_at.is) ∙ c.link_reference_at.ensures.value
-    ∙ ap (λ z. reference_behind (shown_options c.args.reader.now.options) z (slice c.args.text.now c.args.bracket.inside c.args.close) (drop (c.args.close + 1) c.args.text.now)) c.closes_label-closes_label.ensures)
+    ∙ ap (λ z. reference_after (shown_options c.args.reader.now.options) z (slice c.args.text.now c.args.bracket.inside c.args.close) (drop (c.args.close + 1) c.args.text.now)) c.closes_label-closes_label.ensures)
     c.args.callback.now c.reference.new.callback
     (ne_eqb c.args.self.now.expansion_left 0 (λ e. some (same ∙ e)))
     c.in_err-found.ensures.stops)

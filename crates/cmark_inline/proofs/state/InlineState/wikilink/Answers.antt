@@ -1,5 +1,5 @@
 use Rattle.std.proofs.Common.{◌-◌, length, ap, sym, ◌∙◌, arith, ◌+◌, ℕ, List, subst}
-use Rattle.cmark_text_parts.specs.Shown.{shown_options}
+use Rattle.cmark_values.specs.Shown.{shown_options}
 use Rattle.cmark_inline.specs.Hiding.{WritesWikilink}
 use Rattle.cmark_slots.specs.declared.bracket.Bracket.{Bracket}
 use Rattle.cmark_inline.specs.declared.state.InlineState.{InlineState}

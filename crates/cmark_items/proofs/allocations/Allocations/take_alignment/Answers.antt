@@ -1,6 +1,6 @@
 use Rattle.std.proofs.lemmas.List.{map-set}
 use Rattle.std.proofs.Common.{ap, ◌∙◌, List, map, slice_set}
-use Rattle.cmark_text_parts.specs.declared.kind.Alignment.{Alignment}
+use Rattle.cmark_values.specs.declared.kind.Alignment.{Alignment}
 use Rattle.cmark_items.specs.Tables.{Tables, without_alignments}
 use Rattle.cmark_items.proofs.allocations.Allocations.take_alignment.Goals as goal
 

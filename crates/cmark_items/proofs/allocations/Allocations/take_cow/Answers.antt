@@ -1,5 +1,5 @@
 use Rattle.std.proofs.Common.{rules, ◌≡◌, [], ap, slice_set}
-use Rattle.cmark_text_parts.specs.Shown.{text_bytes}
+use Rattle.cmark_values.specs.Shown.{text_bytes}
 use Rattle.cmark_items.specs.Tables.{Tables}
 use Rattle.cmark_items.proofs.allocations.Allocations.take_cow.Goals as goal
 

@@ -23,7 +23,7 @@ loop-low-preserved-then-place c =
       before = λ k l.
           let p = order source ss k middle c.requires.stretches (let q : k ≤ middle = omega (arith, l) in q) (let q : middle < length (joined source ss) = omega (arith, lt, w) in q) in
           omega (arith, p, here);
-      behind = c.loop-low.invariant.behind;
+      following = c.loop-low.invariant.following;
     }
 
 pub loop-low-preserved : goal.loop-low-preserved
@@ -41,7 +41,7 @@ loop-low-preserved c =
       ordered = (let q : c.loop-low.low ≤ middle = omega arith in q);
       within = (let q : middle ≤ length (joined source ss) = omega (arith, lt, w) in q);
       before = c.loop-low.invariant.before;
-      behind = λ k l m.
+      following = λ k l m.
           let p = order source ss middle k c.requires.stretches l m in
           omega (arith, p, here);
     }

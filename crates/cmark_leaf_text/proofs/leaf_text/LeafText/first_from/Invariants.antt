@@ -7,7 +7,7 @@ invariant-loop-low l = record {
   ordered : l.low ≤ l.high;
   within : l.high ≤ length (text_of l.self);
   before : (k : ℕ) → k < l.low → place_of l.self k < l.place;
-  behind : (k : ℕ) → l.high ≤ k → k < length (text_of l.self) → l.place ≤ place_of l.self k;
+  following : (k : ℕ) → l.high ≤ k → k < length (text_of l.self) → l.place ≤ place_of l.self k;
 }
 
 abbrev pub decreases-loop-low : goal.decreases-loop-low

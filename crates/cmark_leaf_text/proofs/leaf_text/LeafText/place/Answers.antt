@@ -13,8 +13,8 @@ there source items at i s all f e lt =
     let same : f.stretch ≡ s = let h : Some f.stretch ≡ Some s = sym f.is ∙ here in cc in
     found source items at i s all here (subst (λ (t : Stretch). t.at ≤ at) same f.before) f.next lt
 
-pub place-requires-clause-behind : goal.place-requires-clause-behind
-place-requires-clause-behind c = (there c.args.self.now.source.now c.args.self.now.stretches.items c.args.at c.stretch_at.result c.index-stretch.result.now c.requires.read.stretches c.stretch_at.ensures c.index-stretch.ensures c.requires.within).inside
+pub place-requires-clause-following : goal.place-requires-clause-following
+place-requires-clause-following c = (there c.args.self.now.source.now c.args.self.now.stretches.items c.args.at c.stretch_at.result c.index-stretch.result.now c.requires.read.stretches c.stretch_at.ensures c.index-stretch.ensures c.requires.within).inside
 
 pub returns-clause-value : goal.returns-clause-value
 returns-clause-value c =

@@ -4,7 +4,7 @@ use Rattle.cmark_leaf_text.specs.Stretches.{AreLines, IsOpen, PlacesMore, joined
 use Rattle.cmark_leaf_text.specs.declared.stretch.LeafLine.{LeafLine}
 use Rattle.cmark_leaf_text.specs.declared.stretch.Stretch.{Stretch}
 use Rattle.cmark_leaf_text.proofs.PlaceSteps.{begin-lines, stand-more}
-use Rattle.cmark_leaf_text.proofs.StretchSteps.{line-bytes, line-part, lines-behind, slice-length}
+use Rattle.cmark_leaf_text.proofs.StretchSteps.{line-bytes, line-part, lines-following, slice-length}
 use Rattle.cmark_leaf_text.proofs.leaf_text.LeafText.push_lines.Goals as goal
 
 pub loop-line-init : goal.loop-line-init
@@ -32,7 +32,7 @@ loop-line-preserved c =
     subst (λ (n : ℕ). PlacesMore source old line.start (n - line.start) new) c.end_in_leaf.ensures (subst (λ (t : List ℕ). PlacesMore t old line.start (c.end_in_leaf.result - line.start) new) i.source h.places) in
     record {
       source = h.source ∙ i.source;
-      lines = subst (λ (n : ℕ). AreLines source n others) (sym (h.end ∙ c.end_in_leaf.ensures)) (lines-behind source c.loop-line.opened.end line others are);
+      lines = subst (λ (n : ℕ). AreLines source n others) (sym (h.end ∙ c.end_in_leaf.ensures)) (lines-following source c.loop-line.opened.end line others are);
       now = subst (λ (t : List ℕ). IsOpen t c.push_part.new.self.stretches.items next) i.source h.«open»;
       text = line-bytes source (joined source old) c.args.lines.now rest line others (joined source new) is i.text told;
       places = stand-more source c.args.lines.now rest others line old new is i.places more

@@ -8,13 +8,13 @@ use Rattle.cmark_leaf_text.proofs.leaf_text.LeafText.push_part.Goals as goal
 
 pub returns-then-opened-start-clause-open : goal.returns-then-opened-start-clause-open
 returns-then-opened-start-clause-open c =
-    let b = c.requires.part.behind in
+    let b = c.requires.part.following in
     let o = c.requires.part.content in
     grown c.args.self.now.source.now c.args.self.now.stretches.items c.args.opened c.args.end c.requires.open (let l : c.args.opened.end ≤ c.args.end = omega (arith, b, o) in l) c.requires.part.within c.requires.part.ends
 
 pub returns-then-opened-start-clause-text : goal.returns-then-opened-start-clause-text
 returns-then-opened-start-clause-text c =
-    let b = c.requires.part.behind in
+    let b = c.requires.part.following in
     let o = c.requires.part.content in
     let source : List ℕ = c.args.self.now.source.now in
     let items : List Stretch = c.args.self.now.stretches.items in
@@ -32,7 +32,7 @@ returns-clause-open c =
     let e = c.requires.part.ending in
     subst (λ (ss : List Stretch). IsOpen source ss next) (sym c.in_ok-push.ensures.items)
     (added source items c.args.opened next c.requires.open
-    (record { place = refl; behind = c.requires.part.behind; ordered = c.requires.part.content; within = c.requires.part.within; starts = c.requires.part.starts; ends = c.requires.part.ends }))
+    (record { place = refl; following = c.requires.part.following; ordered = c.requires.part.content; within = c.requires.part.within; starts = c.requires.part.starts; ends = c.requires.part.ends }))
 
 pub returns-clause-text : goal.returns-clause-text
 returns-clause-text c =

@@ -1,7 +1,7 @@
 use Rattle.std.proofs.Common.{◌≡◌, ◌≤◌, false, List, ◌∷◌, map, None, string_bytes}
 use Rattle.std.specs.Iterator.{size, Yields}
 use Rattle.std.specs.declared.ops.Range.{Range}
-use Rattle.cmark_grammar.specs.Merge.{joined}
+use Rattle.cmark_merge.specs.Merge.{joined}
 use Rattle.cmark_merge.specs.Reading.{CanGo, items_left}
 use Rattle.cmark_merge.specs.Steps.{ReadsTexts}
 use Rattle.cmark_merge.specs.Streams.{ranged_ahead, text_at}

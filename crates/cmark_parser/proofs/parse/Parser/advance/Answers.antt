@@ -1,6 +1,6 @@
 use Rattle.std.proofs.Common.{◌<◌, OnSome, refl, subst}
 use Rattle.std.specs.Prelude.{IfSome}
-use Rattle.cmark_span_walk.specs.Walking.{Gives, events_left, source_of}
+use Rattle.cmark_event_walk.specs.Walking.{Gives, events_left, source_of}
 use Rattle.cmark_text.specs.Ranged.{IsRangedZeroCopy}
 use Rattle.cmark_parser.specs.Parsing.{reader_for}
 use Rattle.cmark_parser.proofs.ParseSteps.{SaysIfAny, gives-error, gives-none, gives-nothing, gives-some, going, read-by}

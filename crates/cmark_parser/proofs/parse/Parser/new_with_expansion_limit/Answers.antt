@@ -1,14 +1,14 @@
 use Rattle.std.proofs.Common.{false, refl, sym, ap, subst, ◌∙◌}
-use Rattle.cmark_text_parts.specs.Shown.{shown_options}
+use Rattle.cmark_values.specs.Shown.{shown_options}
 use Rattle.cmark_block_model.specs.BlockPass.{pass_over}
 use Rattle.cmark_block_model.proofs.Drawings.{derived, drawn-order, drawn-edges}
 use Rattle.cmark_block_model.proofs.LeafDrawings.{drawn-segments}
-use Rattle.cmark_grammar.specs.Derivation.{document}
+use Rattle.cmark_block_model.specs.DocumentModel.{document}
 use Rattle.cmark_grammar.specs.BlockDocument.{BlockDocument}
 use Rattle.cmark_grammar.specs.Labels.{fold}
 use Rattle.cmark_grammar.specs.References.{first_with, references}
 use Rattle.cmark_grammar.specs.SpanDocuments.{segments, footnote_labels, has_label}
-use Rattle.cmark_grammar.proofs.BlockDocumentOne.{document-only}
+use Rattle.cmark_block_model.proofs.BlockDocumentOne.{document-only}
 use Rattle.cmark_blocks.specs.Footnotes.{unused_if}
 use Rattle.cmark_references.specs.Definitions.{reference_at}
 use Rattle.cmark_references.specs.declared.definitions.RefDefs.{RefDefs}
@@ -16,7 +16,7 @@ use Rattle.cmark_references.specs.declared.footnotes.FootnoteDefs.{FootnoteDefs}
 use Rattle.cmark_references.specs.Footnotes.{footnote}
 use Rattle.cmark_items.specs.ItemNodes.{shown_forest}
 use Rattle.cmark_items.specs.Tables.{Tables}
-use Rattle.cmark_walk.specs.Walking.{Remains}
+use Rattle.cmark_block_walk.specs.Walking.{Remains}
 use Rattle.cmark_parser.specs.Walking.{reader_by}
 use Rattle.cmark_parser.specs.declared.parse.Parser.{Parser}
 use Rattle.cmark_parser.proofs.ParseSteps.{begin-counted, begin-extents, begin-few, begin-placed, begin-reader, begin-same, can-begin, reads-from}
@@ -59,7 +59,7 @@ returns-clause-reads g c =
     let placed = begin-placed replacement parser text options lookup c.utf8.text in
     let same = begin-same replacement parser text options lookup n.source n.options entities (returns-clause-definitions g c d (derived text options lookup)) (returns-clause-footnotes g c d (derived text options lookup)) in
     let begins = n.begins (reader_by text options lookup) left remains c.new-walk.ensures.text (begin-few text options lookup) (begin-extents text options lookup) placed same in
-    reads-from replacement parser text options lookup c.args.limit refl (begin-reader replacement parser text options lookup n.source n.options entities) n.expansion_left placed begins.1
+    reads-from replacement parser text options lookup c.args.limit refl (begin-reader replacement parser text options lookup n.source n.options entities (returns-clause-definitions g c d (derived text options lookup)) (returns-clause-footnotes g c d (derived text options lookup))) n.expansion_left placed begins.1
     (λ exchanges events m. n.reads (reader_by text options lookup) left exchanges events remains m)
 
 pub returns-clause-goes : goal.returns-clause-goes

@@ -1,8 +1,8 @@
 use Rattle.std.proofs.Common.{refl}
 use Rattle.cmark_parser.specs.Parsing.{reader_for}
 use Rattle.cmark_parser.proofs.ParseSteps.{SaysIfAny, gives-error, gives-next-start, going, link-going, link-walked, read-by}
-use Rattle.cmark_span_walk.proofs.Readings.{passes-none}
-use Rattle.cmark_span_walk.proofs.StopSteps.{stops-here}
+use Rattle.cmark_event_walk.proofs.Readings.{passes-none}
+use Rattle.cmark_event_walk.proofs.StopSteps.{stops-here}
 use Rattle.cmark_parser.proofs.parse.Parser.pass_link.Goals as goal
 
 pub pass_link-requires : goal.pass_link-requires

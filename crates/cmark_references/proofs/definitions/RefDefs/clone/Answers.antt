@@ -1,5 +1,5 @@
 use Rattle.std.proofs.Common.{ap, subst, option_map, ◌∙◌}
-use Rattle.cmark_text_parts.specs.Labelled.{link_key}
+use Rattle.cmark_values.specs.Labelled.{link_key}
 use Rattle.cmark_references.specs.Definitions.{first_of, reference_at, shown_entry}
 use Rattle.cmark_references.proofs.CopySteps.{AreAllOf, copied, all-copied}
 use Rattle.cmark_references.proofs.SpellingSteps.{at, no_entry}

@@ -1,5 +1,5 @@
 use Rattle.std.proofs.Common.{◌≡◌, subst, Some, All}
-use Rattle.cmark_text_parts.specs.Labelled.{link_key}
+use Rattle.cmark_values.specs.Labelled.{link_key}
 use Rattle.cmark_references.specs.Definitions.{entry_of}
 use Rattle.cmark_references.proofs.EntrySteps.{each_found}
 use Rattle.cmark_references.proofs.definitions.RefDefs.iter.Goals as goal

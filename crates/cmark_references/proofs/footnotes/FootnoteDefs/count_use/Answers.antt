@@ -1,7 +1,7 @@
 use Rattle.std.proofs.Common.{rules, ◌≡◌, ap, ◌∙◌, subst, Some, IsSome, bytes_eq, if◌then◌else◌, option_map}
 use Rattle.std.specs.BTreeMap.{get_by, UpdatesBy}
 use Rattle.cmark_grammar.specs.Labels.{fold}
-use Rattle.cmark_text_parts.specs.Labelled.{footnote_key}
+use Rattle.cmark_values.specs.Labelled.{footnote_key}
 use Rattle.cmark_references.specs.Footnotes.{footnote, with_use}
 use Rattle.cmark_references.proofs.DefinitionSteps.{rewritten, label_cmp}
 use Rattle.cmark_references.proofs.footnotes.FootnoteDefs.count_use.Goals as goal

@@ -1,7 +1,7 @@
 use Rattle.std.proofs.Common.{rules, ◌≡◌, ap, ◌∙◌, sym, subst, IsSome, Some}
 use Rattle.std.specs.Option.{unwrap_or}
 use Rattle.std.specs.BTreeMap.Entry.{map_with_value}
-use Rattle.cmark_text_parts.specs.Labelled.{footnote_key}
+use Rattle.cmark_values.specs.Labelled.{footnote_key}
 use Rattle.cmark_references.specs.Definitions.{first_of, at_label}
 use Rattle.cmark_references.specs.Footnotes.{footnote}
 use Rattle.cmark_references.proofs.FirstSteps.{first_put, first_found, found_in}

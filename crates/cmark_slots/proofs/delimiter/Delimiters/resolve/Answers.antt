@@ -5,7 +5,7 @@ use Rattle.cmark_emphasis.specs.Slots.{AreBalanced}
 use Rattle.cmark_emphasis.proofs.LeastSteps.{one-least}
 use Rattle.cmark_grammar.specs.Emphasis.{runs_of}
 use Rattle.cmark_inline_model.specs.SlotRows.{marked, marks_by}
-use Rattle.cmark_text_parts.specs.Shown.{shown_options}
+use Rattle.cmark_values.specs.Shown.{shown_options}
 use Rattle.cmark_slots.specs.MarkedSlots.{AreReady, BeganFrom, places_of, shown_mark, siblings_from}
 use Rattle.cmark_slots.specs.SlotViews.{shown_slots}
 use Rattle.cmark_slots.specs.declared.delimiter.PlacedRun.{PlacedRun}

@@ -13,8 +13,8 @@ pub returns : goal.returns
 returns g c = (
   (
     refl,
-    λ w. ap (λ h. record { items = with_item c.args.self.now.items (c.args.ix - 1) w; nexts = c.args.self.now.nexts; children = c.args.self.now.children; room = c.args.self.now.room; even = h })
-        (×_prop (ℕ_set _ _) (×_prop (ℕ_set _ _) (×_prop le_prop (×_prop le_prop le_prop))) _ _),
+    λ w. ap (λ h. record { items = with_item c.args.self.now.items (c.args.ix - 1) w; links = c.args.self.now.links; room = c.args.self.now.room; even = h })
+        (×_prop (ℕ_set _ _) (×_prop le_prop (×_prop le_prop le_prop)) _ _),
   ),
   record {
     lends = tt;

@@ -1,9 +1,8 @@
-use Rattle.std.proofs.Common.{arith}
-use Rattle.cmark_tree.proofs.Entries.{next_place, read_next}
+use Rattle.cmark_tree.proofs.Entries.{link_place, at_place}
 use Rattle.cmark_tree.proofs.nodes.Nodes.next.Goals as goal
 
-pub index-requires : goal.index-requires
-index-requires g c = omega (arith, next_place c.args.self.now c.args.ix c.requires, c.args.self.now.nexts.ok.0)
+pub next-requires : goal.next-requires
+next-requires g c = link_place c.args.self.now c.args.ix c.requires
 
 pub returns : goal.returns
-returns g c e at = read_next c.args.self.now c.args.ix c.index.result.now e c.requires c.index.ensures at
+returns g c e at = c.next.ensures _ (at_place c.args.self.now c.args.ix e c.requires at).1

@@ -1,9 +1,12 @@
-use Rattle.std.proofs.Common.{refl, arith}
-use Rattle.cmark_tree.proofs.Entries.{child_place, child_changes}
+use Rattle.std.proofs.Common.{refl}
+use Rattle.cmark_tree.proofs.Entries.{link_place, number_has_room, child_changes}
 use Rattle.cmark_tree.proofs.nodes.Nodes.set_child.Goals as goal
 
-pub index_mut-requires : goal.index_mut-requires
-index_mut-requires g c = omega (arith, child_place c.args.self.now c.args.ix c.requires, c.args.self.now.children.ok.0)
+pub set_child-requires-clause-at : goal.set_child-requires-clause-at
+set_child-requires-clause-at g c = link_place c.args.self.now c.args.ix c.requires.number
+
+pub set_child-requires-clause-to : goal.set_child-requires-clause-to
+set_child-requires-clause-to g c = number_has_room c.args.self.now c.args.to c.requires.to
 
 pub returns : goal.returns
-returns g c = child_changes c.args.self.now _ c.args.ix c.args.to c.requires refl refl refl
+returns g c = child_changes c.args.self.now _ c.args.ix c.args.to c.requires.number refl c.set_child.ensures.links

@@ -6,8 +6,8 @@ use Rattle.cmark_tree.proofs.Steps.{in_right, grown_forest, append_after, append
 use Rattle.cmark_tree.proofs.tree.Tree.append.Goals as goal
 use Rattle.cmark_tree.proofs.tree.Tree.append.Goals.{then-self-ne0, else-self-ne0+in-Some, else-self-ne0+in_default}
 
-pub set_next-requires : goal.set_next-requires
-set_next-requires g c =
+pub set_next-requires-clause-number : goal.set_next-requires-clause-number
+set_next-requires-clause-number g c =
     let z = c.requires.0 in
     let h = c.requires.1 in
     let st = in_right c.args.self.now.nodes c.args.self.now.first z h.forest in
@@ -16,14 +16,20 @@ set_next-requires g c =
     let grown = c.in_ok-ix.ensures.ok in
     (n.0, omega (arith, n.1, grown.count))
 
-pub set_child-requires : goal.set_child-requires
-set_child-requires g c =
+pub set_child-requires-clause-number : goal.set_child-requires-clause-number
+set_child-requires-clause-number g c =
     let z = c.requires.0 in
     let h = c.requires.1 in
     let grown = c.in_ok-ix.ensures.ok in
     let forest = grown_forest c.args.self.now.nodes c.push.new.self c.in_ok-ix.ix c.args.item c.args.self.now.first (whole z) grown h.forest in
     let mid = c.peek_up.ensures z (record { forest = forest; spine_is = h.spine_is; cur_is = h.cur_is }) in
     parent_number c.push.new.self z.up (siblings z) c.in-Some.parent forest.stands (sym mid ∙ c.in-Some.is)
+
+pub set_next-requires-clause-to : goal.set_next-requires-clause-to
+set_next-requires-clause-to g c = omega (arith, c.in_ok-ix.ensures.ok.place, c.in_ok-ix.ensures.ok.count)
+
+pub set_child-requires-clause-to : goal.set_child-requires-clause-to
+set_child-requires-clause-to g c = omega (arith, c.in_ok-ix.ensures.ok.place, c.in_ok-ix.ensures.ok.count)
 
 pub returns-clause-ok : goal.returns-clause-ok
 returns-clause-ok g c z h last =

@@ -13,11 +13,14 @@ move_to_new-requires g c =
     let l = last_some c.args.self.now c.requires.0 c.requires.1 c.requires.2 (above_zero c.args.self.now.cur c.if-self-eq0.false) in
     last_number c.args.self.now l.0 l.1 l.2 c.requires.1 l.3
 
-pub set_child-requires : goal.set_child-requires
-set_child-requires g c =
+pub set_child-requires-clause-number : goal.set_child-requires-clause-number
+set_child-requires-clause-number g c =
     let l = last_some c.args.self.now c.requires.0 c.requires.1 c.requires.2 (above_zero c.args.self.now.cur c.if-self-eq0.false) in
     let n = last_number c.args.self.now l.0 l.1 l.2 c.requires.1 l.3 in
     (n.0, omega (arith, n.1, c.in_ok-inner.ensures.ok.count))
+
+pub set_child-requires-clause-to : goal.set_child-requires-clause-to
+set_child-requires-clause-to g c = omega (arith, c.in_ok-inner.ensures.ok.place, c.in_ok-inner.ensures.ok.count)
 
 pub push-requires : goal.push-requires
 push-requires g c =

@@ -10,13 +10,13 @@ use Rattle.cmark_tree.proofs.Cutting.{end_none, end_after, last_number, join_las
 use Rattle.cmark_tree.proofs.tree.Tree.end_siblings.Goals as goal
 use Rattle.cmark_tree.proofs.tree.Tree.end_siblings.Goals.{then-last-eq0, else-last-eq0}
 
-pub set_child-requires : goal.set_child-requires
-set_child-requires g c =
+pub set_child-requires-clause-number : goal.set_child-requires-clause-number
+set_child-requires-clause-number g c =
     let r = c.requires in
     parent_number c.args.self.now.nodes r.2 (join r.0 r.1) c.args.parent r.3.stands r.4
 
-pub set_next-requires : goal.set_next-requires
-set_next-requires g c =
+pub set_next-requires-clause-number : goal.set_next-requires-clause-number
+set_next-requires-clause-number g c =
     let r = c.requires in
     last_number c.args.self.now.nodes c.args.self.now.first c.args.last r.0 r.1 r.2 r.3 c.if-last-eq0.false r.5
 

@@ -2,7 +2,7 @@ use Rattle.std.proofs.Common.{◌≡◌, ◌-◌, ◌∙◌, Some, take, refl, s
 use Rattle.cmark_tree.specs.Forest.{Nil}
 use Rattle.cmark_tree.specs.Tree.{Holds, parent_of}
 use Rattle.cmark_tree.specs.Zip.{Zip, siblings}
-use Rattle.cmark_tree.proofs.Moving.{above_zero, last_at, last_some, last_above, none_at}
+use Rattle.cmark_tree.proofs.Moving.{above_zero, last_at, last_some, last_above, last_number, none_at}
 use Rattle.cmark_tree.proofs.Releasing.{children_of, Is-released, before_number, ended_count}
 use Rattle.cmark_tree.proofs.Steps.{parent_number}
 use Rattle.cmark_tree.proofs.tree.Tree.release.Goals as goal
@@ -40,11 +40,17 @@ end_children-requires-clause-last g c ne =
     let among = children_of c.args.self.now c.in-Some.parent c.child.result parent c.child.ensures l.0 l.1 l.2 c.requires.1 l.3 in
     before_number c.args.self.now.nodes c.child.result c.sibling_before-before.result l.3.left l.3.place l.3.below among (c.sibling_before-before.ensures l.3.left l.3.place l.3.below Nil among (sym l.3.holds.cur_is)) ne
 
-pub set_next-requires : goal.set_next-requires
-set_next-requires g c =
+pub set_next-requires-clause-number : goal.set_next-requires-clause-number
+set_next-requires-clause-number g c =
     let is = c.requires.2 in
     let n = parent_number c.args.self.now.nodes is.z.up (siblings is.z) c.in-Some.parent is.holds.forest.stands (sym (c.peek_up.ensures is.z is.holds) ∙ c.in-Some.is) in
     (n.0, omega (arith, n.1, ended_count c.args.self.now.nodes c.end_children.new.self c.in-Some.parent.ix c.sibling_before-before.result c.end_children.ensures.none c.end_children.ensures.some))
+
+pub set_next-requires-clause-to : goal.set_next-requires-clause-to
+set_next-requires-clause-to g c =
+    let l = last_some c.args.self.now c.requires.0 c.requires.1 c.requires.2 (above_zero c.args.self.now.cur c.if-self-eq0.false) in
+    let n = last_number c.args.self.now l.0 l.1 l.2 c.requires.1 l.3 in
+    omega (arith, n.1, ended_count c.args.self.now.nodes c.end_children.new.self c.in-Some.parent.ix c.sibling_before-before.result c.end_children.ensures.none c.end_children.ensures.some)
 
 pub returns-clause-released : goal.returns-clause-released
 returns-clause-released g c here x inside v up is =

@@ -1,0 +1,213 @@
+-- How many cells of a table are filled in.
+use Rattle.std.proofs.Common.{◌≡◌, ℕ, zero, suc, ◌-◌, ◌≤◌, Bool, true, false, ◌==◌, ◌&&◌, not, nat_le, List, [], ◌∷◌, ◌++◌, length, drop, take, refl, sym, ap, ◌∙◌, subst, arith, Option, Some, None, true≢false}
+use Rattle.std.specs.Prelude.{if◌then◌else◌}
+use Rattle.cmark_grammar.specs.Alignment.{Alignment}
+use Rattle.cmark_grammar.specs.Containers.{Container, container_of}
+use Rattle.cmark_grammar.specs.Footnotes.{footnotes_in}
+use Rattle.cmark_grammar.specs.HtmlBlocks.{html_kind}
+use Rattle.cmark_grammar.specs.Leaves.{Fence, is_thematic_break, is_atx_heading, run, fence_of, counted, code_continuation}
+use Rattle.cmark_grammar.specs.LinkDefinitions.{Defined, definition_in, bytes_over}
+use Rattle.cmark_grammar.specs.Metadata.{metadata_kind, metadata_continuation, holds_metadata}
+use Rattle.cmark_grammar.specs.MetadataBlockKind.{MetadataBlockKind}
+use Rattle.cmark_grammar.specs.Openings.{Leaf, ThematicBreak, AtxHeading, IndentedCode, FencedCode, HtmlBlock, LinkDefinition, MetadataBlock, Table, Opening, Blank, Nests, Takes, Plain, or_else, nests_if, fenced_if, html_if, break_if, heading_if, defined_if, metadata_begun, text_lines, definition_of, interrupts, count_rows, table_if, text_of, begins_no_link, leaf_of, whole_opens, opens}
+use Rattle.cmark_grammar.specs.Options.{Options}
+use Rattle.cmark_grammar.specs.Rows.{Row, show_as, shown, is_blank_line, indent_of, words_of}
+use Rattle.cmark_grammar.specs.TableRows.{one_more_if, count_cells, count_missing, most_filled, holds_pipe, with_columns, delimited_ahead, table_head}
+use Rattle.cmark_grammar.specs.Tables.{delimiter_row}
+use Rattle.cmark_block_model.proofs.BlockLaws.{opens-len}
+use Rattle.cmark_block_model.proofs.TableRanges.{filled}
+
+le : (a b : ℕ) → nat_le a b ≡ true → a ≤ b
+le a b e = grind (arith)
+
+same : (a b : ℕ) → (a == b) ≡ true → a ≡ b
+same a b e = grind (arith)
+
+and-second : (a b : Bool) → (a && b) ≡ true → b ≡ true
+and-second true b e = e
+and-second false b e = absurd (true≢false (sym e))
+
+-- of a leaf with these lines: a table's head has a cell for each column, and in its rows are few filled in
+abbrev pub LeafFilled : Leaf → Row → List Row → Type 0
+LeafFilled (Table alignments) first more = (count_missing (length alignments) first ≡ 0) × (filled (length alignments) (drop 1 more) ≤ 262144)
+LeafFilled ThematicBreak first more = Unit {0}
+LeafFilled (AtxHeading level) first more = Unit {0}
+LeafFilled IndentedCode first more = Unit {0}
+LeafFilled (FencedCode fence) first more = Unit {0}
+LeafFilled (HtmlBlock kind) first more = Unit {0}
+LeafFilled (LinkDefinition definition) first more = Unit {0}
+LeafFilled (MetadataBlock kind) first more = Unit {0}
+
+module _ (options : Options) where
+  rows-filled : (columns left : ℕ) (ahead : List Row) → filled columns (take (count_rows options columns left ahead) ahead) ≤ left
+  rows-filled columns left [] = omega arith
+  rows-filled columns left (r ∷ ahead) =
+      go (not (interrupts options false r ahead) && nat_le (count_missing columns r) left) refl (rows-filled columns (left - count_missing columns r) ahead)
+    where
+      go : (z : Bool) → (not (interrupts options false r ahead) && nat_le (count_missing columns r) left) ≡ z → filled columns (take (count_rows options columns (left - count_missing columns r) ahead) ahead) ≤ left - count_missing columns r
+          → filled columns (take (one_more_if z (count_rows options columns (left - count_missing columns r) ahead)) (r ∷ ahead)) ≤ left
+      go true e ih = let l = le (count_missing columns r) left (and-second (not (interrupts options false r ahead)) (nat_le (count_missing columns r) left) e) in omega (arith, ih, l)
+      go false e ih = omega arith
+
+  module _ (r : Row) (ahead : List Row) where
+    abbrev LeafFills : ℕ → Leaf → Type 0
+    LeafFills n (Table alignments) = (count_missing (length alignments) r ≡ 0) × (filled (length alignments) (take (n - 1) (drop 1 ahead)) ≤ most_filled)
+    LeafFills n ThematicBreak = Unit {0}
+    LeafFills n (AtxHeading level) = Unit {0}
+    LeafFills n IndentedCode = Unit {0}
+    LeafFills n (FencedCode fence) = Unit {0}
+    LeafFills n (HtmlBlock kind) = Unit {0}
+    LeafFills n (LinkDefinition definition) = Unit {0}
+    LeafFills n (MetadataBlock kind) = Unit {0}
+
+    abbrev Fills : Opening → Type 0
+    Fills Blank = Unit {0}
+    Fills (Nests k) = Unit {0}
+    Fills (Takes leaf n) = LeafFills n leaf
+    Fills Plain = Unit {0}
+
+    fills_if : (b : Bool) (x y : Opening) → Fills x → Fills y → Fills (if b then x else y)
+    fills_if true x y p q = p
+    fills_if false x y p q = q
+
+    fills_or : (x y : Opening) → Fills x → Fills y → Fills (or_else x y)
+    fills_or Blank y p q = p
+    fills_or (Nests k) y p q = p
+    fills_or (Takes leaf n) y p q = p
+    fills_or Plain y p q = q
+
+    fills_nests : (o : Option Container) → Fills (nests_if o)
+    fills_nests (Some k) = tt
+    fills_nests None = tt
+
+    fills_html : (o : Option ℕ) → Fills (html_if r ahead o)
+    fills_html (Some kind) = tt
+    fills_html None = tt
+
+    fills_break : (z : Bool) → Fills (break_if z)
+    fills_break true = tt
+    fills_break false = tt
+
+    fills_heading : (z : Bool) (level : ℕ) → Fills (heading_if z level)
+    fills_heading true level = tt
+    fills_heading false level = tt
+
+    fills_fenced : (o : Option Fence) → Fills (fenced_if o ahead)
+    fills_fenced (Some fence) = tt
+    fills_fenced None = tt
+
+    fills_defined : (lines : ℕ) (o : Option Defined) → Fills (defined_if lines o)
+    fills_defined lines (Some found) = tt
+    fills_defined lines None = tt
+
+    fills_metadata : (o : Option MetadataBlockKind) → Fills (metadata_begun o ahead)
+    fills_metadata None = tt
+    fills_metadata (Some kind) = go (holds_metadata kind ahead)
+      where
+        go : (z : Bool) → Fills (if z then Takes (MetadataBlock kind) (counted (metadata_continuation kind) ahead) else Plain)
+        go true = tt
+        go false = tt
+
+    -- the head has the same number of cells as the row after it
+    abbrev HasColumns : Option (List Alignment) → Type 0
+    HasColumns None = Unit {0}
+    HasColumns (Some alignments) = length alignments ≡ count_cells r
+
+    columns-of : (o : Option (List Alignment)) → HasColumns (with_columns (count_cells r) o)
+    columns-of None = tt
+    columns-of (Some alignments) = go (length alignments == count_cells r) refl
+      where
+        go : (z : Bool) → (length alignments == count_cells r) ≡ z → HasColumns (if z then Some alignments else None)
+        go true e = same (length alignments) (count_cells r) e
+        go false e = tt
+
+    head-columns : HasColumns (table_head options r ahead)
+    head-columns = go (options.tables && (not r.lazy && holds_pipe (words_of r)))
+      where
+        by : (s : Row) (z : Bool) → HasColumns (if z then with_columns (count_cells r) (delimiter_row (words_of s)) else None)
+        by s true = columns-of (delimiter_row (words_of s))
+        by s false = tt
+
+        following : (rest : List Row) → HasColumns (delimited_ahead (count_cells r) rest)
+        following [] = tt
+        following (s ∷ rest) = by s (nat_le (indent_of s) 3)
+
+        go : (z : Bool) → HasColumns (if z then delimited_ahead (count_cells r) ahead else None)
+        go true = following ahead
+        go false = tt
+
+    fills_table : (o : Option (List Alignment)) → HasColumns o → Fills (table_if options o ahead)
+    fills_table None h = tt
+    fills_table (Some alignments) h = (
+      missing (length alignments) h,
+      subst (λ k. filled (length alignments) (take k (drop 1 ahead)) ≤ most_filled) (less_one (count_rows options (length alignments) most_filled (drop 1 ahead))) (rows-filled (length alignments) most_filled (drop 1 ahead)),
+    )
+      where
+        less_one : (n : ℕ) → n ≡ suc n - 1
+        less_one n = omega arith
+
+        missing : (n : ℕ) → n ≡ count_cells r → count_missing n r ≡ 0
+        missing n e = omega (arith, e)
+
+    fills_text : Fills (text_of options r ahead)
+    fills_text =
+        fills_or (definition_of options r ahead) (table_if options (table_head options r ahead) ahead)
+        (fills_if (begins_no_link (footnotes_in options) (words_of r)) Plain _ tt
+        (fills_defined (length (text_lines options ahead)) (definition_in (bytes_over r (text_lines options ahead))))) (fills_table (table_head options r ahead) head-columns)
+
+    fills_leaf : Fills (leaf_of options r ahead)
+    fills_leaf =
+        fills_or (html_if r ahead (html_kind (words_of r))) _ (fills_html (html_kind (words_of r)))
+        (fills_or (break_if (is_thematic_break (words_of r))) _ (fills_break (is_thematic_break (words_of r)))
+        (fills_or (heading_if (is_atx_heading (words_of r)) (run 35 (words_of r))) _ (fills_heading (is_atx_heading (words_of r)) (run 35 (words_of r)))
+        (fills_or (fenced_if (fence_of (indent_of r) (words_of r)) ahead) (text_of options r ahead) (fills_fenced (fence_of (indent_of r) (words_of r)))
+        fills_text)))
+
+    fills_opens : Fills (opens options r ahead)
+    unfolding opens
+    fills_opens =
+        fills_if r.lazy Plain _ tt
+        (fills_or (metadata_begun (metadata_kind options r) ahead) (whole_opens options r ahead) (fills_metadata (metadata_kind options r))
+        (fills_if (is_blank_line r) Blank _ tt
+        (fills_if (nat_le 4 (indent_of r)) (Takes IndentedCode (counted code_continuation ahead)) _ tt
+        (fills_or (nests_if (container_of options r)) (leaf_of options r ahead) (fills_nests (container_of options r)) fills_leaf))))
+
+  shown-take : (n : ℕ) (rs : List Row) → n ≤ length (shown rs) → take n (shown rs) ≡ take n rs
+  shown-take zero rs l = refl
+  shown-take (suc n) [] l = refl
+  shown-take (suc n) (r ∷ rs) l = go r.lazy refl l (λ m. shown-take n rs m)
+    where
+      go : (z : Bool) → r.lazy ≡ z → suc n ≤ length (show_as z r (shown rs)) → (n ≤ length (shown rs) → take n (shown rs) ≡ take n rs) → take (suc n) (show_as r.lazy r (shown rs)) ≡ r ∷ take n rs
+      go true e m ih = absurd (omega (arith, m))
+      go false e m ih = ap (λ z. take (suc n) (show_as z r (shown rs))) e ∙ ap (λ xs. r ∷ xs) (ih (omega (arith, m)))
+
+  take-front : (more rest : List Row) → take (length more) (more ++ rest) ≡ more
+  take-front [] rest = refl
+  take-front (r ∷ more) rest = ap (λ xs. r ∷ xs) (take-front more rest)
+
+  leaf-filled : (first : Row) (rest : List Row) (leaf : Leaf) (more : List Row) → LeafFills first (shown (more ++ rest)) (length more) leaf → length more ≤ length (shown (more ++ rest)) → LeafFilled leaf first more
+  leaf-filled first rest ThematicBreak more f l = tt
+  leaf-filled first rest (AtxHeading level) more f l = tt
+  leaf-filled first rest IndentedCode more f l = tt
+  leaf-filled first rest (FencedCode fence) more f l = tt
+  leaf-filled first rest (HtmlBlock kind) more f l = tt
+  leaf-filled first rest (LinkDefinition definition) more f l = tt
+  leaf-filled first rest (MetadataBlock kind) more f l = tt
+  leaf-filled first rest (Table alignments) [] f l = (f.0, omega arith)
+  leaf-filled first rest (Table alignments) (m ∷ more) f l = (f.0, go m.lazy refl f.1 l)
+    where
+      go : (z : Bool) → m.lazy ≡ z → filled (length alignments) (take (suc (length more) - 1) (drop 1 (show_as m.lazy m (shown (more ++ rest))))) ≤ most_filled → suc (length more) ≤ length (show_as m.lazy m (shown (more ++ rest)))
+          → filled (length alignments) more ≤ 262144
+      go true e g k = absurd (let n : suc (length more) ≤ 0 = subst (λ z. suc (length more) ≤ length (show_as z m (shown (more ++ rest)))) e k in omega (arith, n))
+      go false e g k =
+          let n : suc (length more) ≤ suc (length (shown (more ++ rest))) = subst (λ z. suc (length more) ≤ length (show_as z m (shown (more ++ rest)))) e k in
+          subst (λ xs. filled (length alignments) xs ≤ most_filled) (shown-take (length more) (more ++ rest) (omega (arith, n)) ∙ take-front more rest)
+          (subst (λ k. filled (length alignments) (take k (shown (more ++ rest))) ≤ most_filled) (one_less (length more))
+          (subst (λ z. filled (length alignments) (take (suc (length more) - 1) (drop 1 (show_as z m (shown (more ++ rest))))) ≤ most_filled) e g))
+        where
+          one_less : (n : ℕ) → suc n - 1 ≡ n
+          one_less n = omega arith
+
+  pub opened-filled : (first : Row) (rest : List Row) (leaf : Leaf) (more : List Row) → opens options first (shown (more ++ rest)) ≡ Takes leaf (length more) → LeafFilled leaf first more
+  opened-filled first rest leaf more o =
+      leaf-filled first rest leaf more (subst (Fills first (shown (more ++ rest))) o (fills_opens first (shown (more ++ rest)))) (opens-len options first (shown (more ++ rest)) leaf (length more) o)

@@ -1,0 +1,4 @@
+pub mod Ascending
+pub mod Found
+pub mod Searched
+pub mod Unpacked

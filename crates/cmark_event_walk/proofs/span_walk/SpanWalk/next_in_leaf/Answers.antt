@@ -1,0 +1,98 @@
+use Rattle.std.proofs.Common.{[], ◌∷◌, arith, refl, subst, sym}
+use Rattle.cmark_slot_events.specs.Events.{events_to_come}
+use Rattle.cmark_slot_events.specs.Shorts.{IsNextFirst, LeavesFewer as LeavesFewerSpans}
+use Rattle.cmark_text.specs.declared.short.Next.{Next}
+use Rattle.cmark_event_walk.specs.Walking.{GivesInLeaf, KeepsAfterLeaf, LeavesFewer, LeavesLeaf, opened_of, source_of}
+use Rattle.cmark_event_walk.proofs.EndSteps.{closed-keeps, spans-begin}
+use Rattle.cmark_event_walk.proofs.Readings.{closed-passes, passes-none, spanned}
+use Rattle.cmark_event_walk.proofs.Walks.{before-over, closed-at, given-left, spanned-at}
+use Rattle.cmark_event_walk.proofs.span_walk.SpanWalk.next_in_leaf.Goals as goal
+
+pub returns-then-not-self-clause-given : goal.returns-then-not-self-clause-given
+returns-then-not-self-clause-given g c = λ reader r. passes-none g.F.BrokenLinkCallback.answers g.E.EntityLookup.replacement reader c.args.self.now r
+
+pub returns-in_default-clause-ends : goal.returns-in_default-clause-ends
+returns-in_default-clause-ends g c = λ reader. spans-begin g.E.EntityLookup.replacement reader c.args.self.now c.if-not-self.false c.in_default.ensures.ends
+
+-- nothing is left in the leaf
+pub returns-in-Over-clause-stands : goal.returns-in-Over-clause-stands
+returns-in-Over-clause-stands g c = (c.requires.0, closed-at c.args.self.now c.next_short.new.self c.requires.0 c.requires.1)
+
+pub returns-in-Over-clause-given : goal.returns-in-Over-clause-given
+returns-in-Over-clause-given g c = λ reader r.
+    let walk = c.args.self.now in
+    let e = c.in-Ok.ensures in
+    let h = subst (λ (n : Next). IsNextFirst (source_of walk) (opened_of walk) n c.next_short.new.self.walk.opened.items (events_to_come walk.leaf walk.events) (events_to_come walk.leaf c.next_short.new.self)) c.in-Over.is e.events in
+    closed-passes g.F.BrokenLinkCallback.answers g.E.EntityLookup.replacement reader walk c.next_short.new.self r c.if-not-self.false h.0
+
+pub returns-in-Over-clause-kept : goal.returns-in-Over-clause-kept
+returns-in-Over-clause-kept g c = λ reader.
+    let walk = c.args.self.now in
+    let e = c.in-Ok.ensures in
+    let h = subst (λ (n : Next). IsNextFirst (source_of walk) (opened_of walk) n c.next_short.new.self.walk.opened.items (events_to_come walk.leaf walk.events) (events_to_come walk.leaf c.next_short.new.self)) c.in-Over.is e.events in
+    closed-keeps g.E.EntityLookup.replacement reader walk c.next_short.new.self c.if-not-self.false h.0
+
+pub returns-in-Over-clause-most : goal.returns-in-Over-clause-most
+returns-in-Over-clause-most g c = omega (arith, c.in-Ok.ensures.most)
+
+pub returns-in-Over-clause-few : goal.returns-in-Over-clause-few
+returns-in-Over-clause-few g c = λ inside. c.in-Ok.ensures.few
+
+-- the leaf has a next event
+pub returns-clause-stands : goal.returns-clause-stands
+returns-clause-stands g c =
+    let walk = c.args.self.now in
+    let e = c.in-Ok.ensures in
+    (c.requires.0, spanned-at walk c.next_short.new.self c.requires.0 c.requires.1 c.if-not-self.false e.slots e.opened (e.left (given-left walk c.requires.0 c.requires.1 c.if-not-self.false)))
+
+pub returns-clause-outside : goal.returns-clause-outside
+returns-clause-outside g c = before-over (λ n. LeavesLeaf n (record c.args.self.now { events = c.next_short.new.self })) c.in-Ok.next c.in_default-next.not-Over (λ short start end is. tt) (λ is. tt)
+
+pub returns-clause-given : goal.returns-clause-given
+returns-clause-given g c = λ reader r.
+    let walk = c.args.self.now in
+    let inside = c.if-not-self.false in
+    let e = c.in-Ok.ensures in
+    let at = spanned-at walk c.next_short.new.self r.left r.stands inside e.slots e.opened (e.left (given-left walk r.left r.stands inside)) in
+    before-over (λ n. GivesInLeaf g.F.BrokenLinkCallback.answers g.E.EntityLookup.replacement reader walk n (record walk { events = c.next_short.new.self })) c.in-Ok.next c.in_default-next.not-Over
+    (λ short start end is.
+    let h = subst (λ (n : Next). IsNextFirst (source_of walk) (opened_of walk) n c.next_short.new.self.walk.opened.items (events_to_come walk.leaf walk.events) (events_to_come walk.leaf c.next_short.new.self)) is e.events in
+    record {
+      given = h.given;
+      is = h.is;
+      range = h.follows.range;
+      lent = h.lent;
+      passes = spanned g.F.BrokenLinkCallback.answers g.E.EntityLookup.replacement reader walk c.next_short.new.self (h.given ∷ []) r inside at h.first;
+    })
+    (λ is.
+    let h = subst (λ (n : Next). IsNextFirst (source_of walk) (opened_of walk) n c.next_short.new.self.walk.opened.items (events_to_come walk.leaf walk.events) (events_to_come walk.leaf c.next_short.new.self)) is e.events in
+    spanned g.F.BrokenLinkCallback.answers g.E.EntityLookup.replacement reader walk c.next_short.new.self [] r inside at (sym h.1))
+
+pub returns-clause-kept : goal.returns-clause-kept
+returns-clause-kept g c = λ reader. before-over (λ n. KeepsAfterLeaf g.E.EntityLookup.replacement reader c.args.self.now n (record c.args.self.now { events = c.next_short.new.self })) c.in-Ok.next c.in_default-next.not-Over (λ short start end is. tt) (λ is. tt)
+
+pub returns-clause-fewer : goal.returns-clause-fewer
+returns-clause-fewer g c =
+    let e = c.in-Ok.ensures in
+    before-over (λ n. LeavesFewer c.args.self.now n (record c.args.self.now { events = c.next_short.new.self })) c.in-Ok.next c.in_default-next.not-Over
+    (λ short start end is. let fewer = subst (λ n. LeavesFewerSpans c.args.self.now.events n c.next_short.new.self) is e.fewer in omega (arith, fewer))
+    (λ is. let most = e.most in omega (arith, most))
+
+pub returns-clause-most : goal.returns-clause-most
+returns-clause-most g c = omega (arith, c.in-Ok.ensures.most)
+
+pub returns-clause-few : goal.returns-clause-few
+returns-clause-few g c = λ inside. c.in-Ok.ensures.few
+
+-- the walk is in no leaf, and nothing changes
+pub returns-then-not-self-clause-around : goal.returns-then-not-self-clause-around
+returns-then-not-self-clause-around g c = record { callback = refl; inline = refl; budget = refl; source = refl; definitions = refl; footnotes = refl }
+
+pub returns-in_default-clause-around : goal.returns-in_default-clause-around
+returns-in_default-clause-around g c = record { callback = refl; inline = refl; budget = refl; source = refl; definitions = refl; footnotes = refl }
+
+pub returns-in-Over-clause-around : goal.returns-in-Over-clause-around
+returns-in-Over-clause-around g c = record { callback = refl; inline = refl; budget = refl; source = refl; definitions = refl; footnotes = refl }
+
+pub returns-clause-around : goal.returns-clause-around
+returns-clause-around g c = record { callback = refl; inline = refl; budget = refl; source = refl; definitions = refl; footnotes = refl }

@@ -1,0 +1,17 @@
+//! The next event of a walk, without an `Event`.
+
+use cmark_text::Short;
+
+/// The next event of a walk, without an `Event`. Spans and blocks have variants of their own, because different elements begin and end
+/// there. A writer is faster with separate code for each.
+#[derive(Clone, Copy)]
+pub enum Coming<'a> {
+    /// An event of a leaf's spans that owns nothing, and its range in byte offsets of the text.
+    Span(Short<'a>, usize, usize),
+    /// An event of a block that owns nothing, and its range in byte offsets of the text.
+    Block(Short<'a>, usize, usize),
+    /// The next event is of another kind. The walk has not returned it yet.
+    Long,
+    /// No event is left.
+    Over,
+}

@@ -1,5 +1,0 @@
-use Rattle.cmark_grammar.proofs.BalanceLaws.{reading-balanced}
-use Rattle.cmark_grammar.proofs.block_laws.block_reading_is_balanced.Goals as goal
-
-pub returns : goal.returns
-returns c document = reading-balanced document

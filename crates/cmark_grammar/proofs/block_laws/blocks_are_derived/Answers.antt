@@ -1,5 +1,0 @@
-use Rattle.cmark_grammar.proofs.BlocksSound.{blocks-body}
-use Rattle.cmark_grammar.proofs.block_laws.blocks_are_derived.Goals as goal
-
-pub returns : goal.returns
-returns c options text = blocks-body options text

@@ -1,8 +1,0 @@
-use Rattle.cmark_grammar.proofs.ReferenceLaws.{first-stays, table-once}
-use Rattle.cmark_grammar.proofs.block_laws.first_definition_stays.Goals as goal
-
-pub returns-clause-first : goal.returns-clause-first
-returns-clause-first c = first-stays
-
-pub returns-clause-once : goal.returns-clause-once
-returns-clause-once c = table-once

@@ -1,5 +1,0 @@
-use Rattle.cmark_grammar.proofs.TableLaws.{derived-rectangular}
-use Rattle.cmark_grammar.proofs.block_laws.tables_are_rectangular.Goals as goal
-
-pub returns : goal.returns
-returns c = derived-rectangular

@@ -1,0 +1,13 @@
+pub mod BoxRows
+pub mod ContainerRows
+pub mod DefinitionRows
+pub mod FirstBytes
+pub mod FootnoteStarts
+pub mod InfoEdges
+pub mod LazyRows
+pub mod LineRows
+pub mod LineSteps
+pub mod OpeningRows
+pub mod PlainRows
+pub mod PrefixRows
+pub mod RestSteps

@@ -1,8 +1,0 @@
-use Rattle.std.proofs.Common.{◌∙◌, sym}
-use Rattle.cmark_scan_parts.proofs.Lists.{rest_of}
-use Rattle.cmark_scan_blocks.proofs.RemainingSteps.{left-bytes}
-use Rattle.cmark_scan_blocks.proofs.line_start.LineStart.remaining_bytes.Goals as goal
-
-pub returns : goal.returns
-returns c = λ at.
-    let line = c.args.self.now in left-bytes at line.bytes.now line.taken line.pending line.inside line.cut ∙ sym (rest_of line.bytes.now line.taken)

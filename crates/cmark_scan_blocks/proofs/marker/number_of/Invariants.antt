@@ -1,6 +1,0 @@
-use Rattle.std.proofs.Common.{◌≡◌, ◌<◌, ◌^◌, take}
-use Rattle.cmark_grammar.specs.Containers.{number_of}
-use Rattle.cmark_scan_blocks.proofs.marker.number_of.Given as goal
-
-abbrev pub invariant-loop-digit : goal.invariant-loop-digit
-invariant-loop-digit l = record { value : l.number ≡ number_of (take l.digit-index l.digits); below : l.number < 10 ^ l.digit-index }

@@ -1,0 +1,16 @@
+pub mod ByteSteps
+pub mod ColumnSteps
+pub mod ContentSteps
+pub mod FirstSteps
+pub mod FootnoteColumns
+pub mod FootnoteRows
+pub mod HtmlSteps
+pub mod LeafSteps
+pub mod LineStartSteps
+pub mod MarkerSteps
+pub mod PlaceSteps
+pub mod PrefixSteps
+pub mod RemainingSteps
+pub mod RowSteps
+pub mod TableRowSteps
+pub mod TableSteps

@@ -1,0 +1,63 @@
+-- Slots whose first event there is, and is not the end of an element.
+use Rattle.std.proofs.Common.{◌≡◌, ℕ, suc, ◌<◌, drop, List, ◌∷◌, get_or, length, refl, sym, ap, subst, ◌∙◌, Result, Ok, Err, OnErr}
+use Rattle.std.proofs.Math.Seq.{drop-cons}
+use Rattle.cmark_grammar.specs.Event.{Ranged}
+use Rattle.cmark_inline_model.specs.FirstEvents.{BeginWithoutEnd}
+use Rattle.cmark_inline_model.specs.SlotRows as row
+use Rattle.cmark_inline_model.specs.SlotRows.{slot_events}
+use Rattle.cmark_leaf_text.specs.Reads.{source_of}
+use Rattle.cmark_leaf_text.specs.declared.leaf_text.LeafText.{LeafText}
+use Rattle.cmark_values.specs.declared.text.CowStr.{CowStr}
+use Rattle.cmark_slot_events.specs.Shorts.{IsAlone}
+use Rattle.cmark_slots.specs.SlotViews.{slot_as, shown_slots}
+use Rattle.cmark_slot_events.specs.Events.{shown_opened, events_of}
+use Rattle.cmark_slot_events.specs.declared.leaf_events.Opened.{Opened}
+use Rattle.cmark_references.specs.declared.link.Link.{Link}
+use Rattle.cmark_slots.specs.declared.slot.Element.{Element}
+use Rattle.cmark_slots.specs.declared.slot.Slot.{Slot}
+use Rattle.cmark_slots.specs.declared.slot.SlotKind.{SlotKind}
+use Rattle.cmark_slots.specs.declared.slot.SlotKind.TheVariants as kind
+
+module _ (leaf : LeafText) (texts : List CowStr) (links : List Link) (slot : Slot) where
+  alone_no_end : (k : SlotKind) → IsAlone k → (rows : List row.Slot) (ends : List Ranged) → BeginWithoutEnd (slot_events (source_of leaf) (slot_as leaf texts links slot k ∷ rows) ends)
+  alone_no_end kind.Text a rows ends = λ h. h
+  alone_no_end (kind.OwnedText index) a rows ends = λ h. h
+  alone_no_end (kind.Character character) a rows ends = λ h. h
+  alone_no_end (kind.Whole last) a rows ends = λ h. h
+  alone_no_end kind.SoftBreak a rows ends = λ h. h
+  alone_no_end kind.HardBreak a rows ends = λ h. h
+  alone_no_end (kind.Code from to) a rows ends = λ h. h
+  alone_no_end (kind.InlineMath from to) a rows ends = λ h. h
+  alone_no_end (kind.DisplayMath from to) a rows ends = λ h. h
+  alone_no_end kind.InlineHtml a rows ends = λ h. h
+  alone_no_end (kind.SourceHtml end) a rows ends = λ h. h
+  alone_no_end (kind.CutHtml from) a rows ends = λ h. h
+  alone_no_end (kind.SourceText end) a rows ends = λ h. h
+  alone_no_end kind.Empty a rows ends = λ h. h
+  alone_no_end (kind.FootnoteReference index) a rows ends = λ h. h
+  alone_no_end (kind.Begin element) a rows ends = absurd a
+  alone_no_end kind.End a rows ends = absurd a
+  alone_no_end kind.Nothing a rows ends = absurd a
+
+  module _ (following : List Slot) (opened : List Opened) where
+    -- a slot that has an event of its own
+    pub single-no-end : IsAlone slot.kind → BeginWithoutEnd (events_of leaf texts links (slot ∷ following) opened)
+    single-no-end a = alone_no_end slot.kind a (shown_slots leaf texts links following) (shown_opened opened)
+
+    -- the begin of an element
+    pub begin-no-end : (e : Element) → slot.kind ≡ kind.Begin e → BeginWithoutEnd (events_of leaf texts links (slot ∷ following) opened)
+    begin-no-end e is = subst (λ (k : SlotKind). BeginWithoutEnd (slot_events (source_of leaf) (slot_as leaf texts links slot k ∷ shown_slots leaf texts links following) (shown_opened opened))) (sym is) (λ h. h)
+
+-- the same for the slots from this one on
+pub here-no-end : (leaf : LeafText) (texts : List CowStr) (links : List Link) (slots : List Slot) (opened : List Opened) (at : ℕ) (slot : Slot) → at < length slots → slot ≡ get_or slots at slot
+    → ((following : List Slot) → BeginWithoutEnd (events_of leaf texts links (slot ∷ following) opened)) → BeginWithoutEnd (events_of leaf texts links (drop at slots) opened)
+here-no-end leaf texts links slots opened at slot lt is h =
+    subst (λ (l : List Slot). BeginWithoutEnd (events_of leaf texts links l opened)) (sym (drop-cons slots at slot lt ∙ ap (λ x. x ∷ drop (suc at) slots) (sym is))) (h (drop (suc at) slots))
+
+pub on-err : {A E : Type 0} (r : Result A E) (P : Type 0) → P → OnErr r P
+on-err (Ok a) P p = tt
+on-err (Err e) P p = p
+
+pub at-err : {A E : Type 0} (r : Result A E) (P : Type 0) → ((a : A) → r ≡ Ok a → ⊥) → OnErr r P → P
+at-err (Ok a) P n h = absurd (n a refl)
+at-err (Err e) P n h = h

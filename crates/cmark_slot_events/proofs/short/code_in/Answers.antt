@@ -1,0 +1,13 @@
+use Rattle.std.proofs.Common.{ℕ, Result, Ok, rules}
+use Rattle.std.proofs.lemmas.Option.{IfSome_then}
+use Rattle.cmark_leaf_text.specs.Reads.{IsPart, text_of}
+use Rattle.cmark_values.specs.declared.text.CowStr.{CowStr}
+use Rattle.cmark_values.specs.declared.text.CowStr.TheVariants.{Borrowed}
+use Rattle.cmark_slots.proofs.Lending.{code-part}
+use Rattle.cmark_slot_events.proofs.short.code_in.Goals as goal
+
+pub returns-in-Some-clause-part : goal.returns-in-Some-clause-part
+returns-in-Some-clause-part c =
+    let part : IsPart (text_of c.args.leaf.now) c.args.from c.args.to = search rules in
+    IfSome_then c.code_part.result c.code_part.ensures.part
+    (λ made is. let code : Result CowStr ℕ = Ok (Borrowed made) in code-part code c.in-Some.content.now c.args.leaf.now c.args.from c.args.to c.requires.read part c.in-Some.ensures.source is)

@@ -1,0 +1,414 @@
+//! The events of a leaf's slots, one after the other.
+
+ghost use Rattle.std.specs.Prelude.{◌≡◌, ◌<◌, ◌≤◌, ◌+◌, ◌-◌, ◌∷◌, ℕ, List, [], Some, IfOk, IfSome, IsSomeAnd, OnErr, OnOk, OnSome, length};
+ghost use Rattle.std.specs.Str.{IsCharBoundary};
+ghost use Rattle.cmark_grammar.specs.Event.{Start, End, Text};
+ghost use Rattle.cmark_grammar.specs.InlineReading.{over};
+ghost use Rattle.cmark_inline_model.specs.LeafSpans.{IsRange, IsSpan};
+ghost use Rattle.cmark_grammar.specs.Tokens.{slice};
+ghost use Rattle.cmark_inline_model.specs.FirstEvents.{BeginWithoutEnd};
+ghost use Rattle.cmark_leaf_text.specs.Reads.{IsRead, IsPart, place_of, text_of, source_of};
+ghost use Rattle.cmark_grammar.specs.Tag as grammar_tag;
+ghost use Rattle.cmark_grammar.specs.TagEnd as grammar_end;
+ghost use Rattle.cmark_grammar.specs.TagEnd.{end_of};
+ghost use Rattle.cmark_text.specs.Ranged.{IsRangedZeroCopy, shown_ranged};
+ghost use Rattle.cmark_text.specs.Shown.{shown, shown_end, shown_tag};
+ghost use Rattle.cmark_values.specs.Shown.{text_bytes};
+ghost use Rattle.cmark_text.specs.ZeroCopy.{IsZeroCopy};
+ghost use Rattle.cmark_values.specs.Lending.{IsLentBy};
+ghost use Rattle.cmark_slot_events.specs.Opens.{element_end, Gives, Passes, events_left, AreOpened};
+ghost use Rattle.cmark_references.specs.Links.{shown_link};
+ghost use Rattle.cmark_slot_events.specs.Events.{AreLeft, IsFirst, IsHeldAs, KeepsOthers, event_as, event_in, held_in, events_of, events_to_come, shown_opened, with_given};
+ghost use Rattle.cmark_slots.specs.SlotViews.{CanBeGiven, IsThere, link_named, link_of, linked_at, shown_element, text_at, text_named};
+ghost use Rattle.cmark_slots.specs.Slots.{AreSlots, IsSlot};
+ghost use Rattle.cmark_slots.specs.declared.slot.Slot.{Slot as Slots};
+
+use crate::content::Content;
+use crate::leaf_events::{LeafEvents, Opened};
+use cmark_leaf_text::LeafText;
+use cmark_references::Link;
+use cmark_slots::slot::{Element, Slot, SlotKind};
+use cmark_slots::text::{copied, text_between};
+use cmark_text::{CowStr, Event, Ranged, Tag, TagEnd};
+use std::alloc::{AllocError, Global};
+use std::ops::Range;
+
+impl<'a> LeafEvents<'a> {
+    /// The next event of the resolved leaf, with its range in the source; `None` after the last. An end of an element takes no memory.
+    #[inline(always)]
+    pub fn next(&mut self, leaf: &LeafText<'a>) -> Result<Option<Ranged<'a>>, AllocError>
+        requires read { IsRead leaf.now }
+        requires slots { AreSlots (text_of leaf.now) (length (text_of leaf.now)) self.old.slots.items }
+        requires opened { AreOpened (source_of leaf.now) self.old.walk.opened.items }
+        requires left { AreLeft leaf.now self.old }
+        ensures slots { self.new.slots ≡ self.old.slots }
+        ensures opened { AreOpened (source_of leaf.now) self.new.walk.opened.items }
+        ensures gives { IfOk result (λ given. Gives (source_of leaf.now) self.old.walk.opened.items given self.new.walk.opened.items) }
+        ensures lent { IfOk result (λ given. IfSome given (IsRangedZeroCopy (source_of leaf.now))) }
+        ensures fewer { IfOk result (λ given. OnSome given (events_left self.new < events_left self.old)) }
+        ensures most { OnOk result (events_left self.new ≤ events_left self.old) }
+        ensures few { OnOk result (length self.new.slots.items < 18446744073709551616) }
+        ensures events { IfOk result (λ given. IsFirst given (events_to_come leaf.now self.old) (events_to_come leaf.now self.new)) }
+        ensures left { OnOk result (AreLeft leaf.now self.new) }
+        ensures ends { OnErr result (BeginWithoutEnd (events_to_come leaf.now self.old)) }
+    {
+        while self.walk.next < self.slots.len() {
+            let slot = self.slots[self.walk.next];
+            let Ok(given) = self.give(leaf, slot) else {
+                return Err(AllocError);
+            };
+            self.walk.next += 1;
+            if let Some(given) = given {
+                return Ok(Some(given));
+            }
+        }
+        Ok(self.end_last())
+    }
+
+    // The event of a slot, if it has one.
+    #[inline(always)]
+    fn give(&mut self, leaf: &LeafText<'a>, slot: Slot) -> Result<Option<Ranged<'a>>, AllocError>
+        requires read { IsRead leaf.now }
+        requires slot { IsSlot (text_of leaf.now) (length (text_of leaf.now)) slot }
+        requires opened { AreOpened (source_of leaf.now) self.old.walk.opened.items }
+        requires text { IsThere (length self.old.texts.items) (text_named slot.kind) }
+        requires link { IsThere (length self.old.links.items) (link_named slot.kind) }
+        ensures slots { self.new.slots ≡ self.old.slots }
+        ensures place { self.new.walk.next ≡ self.old.walk.next }
+        ensures opened { AreOpened (source_of leaf.now) self.new.walk.opened.items }
+        ensures gives { IfOk result (λ given. Passes (source_of leaf.now) self.old.walk.opened.items given self.new.walk.opened.items) }
+        ensures lent { IfOk result (λ given. IfSome given (IsRangedZeroCopy (source_of leaf.now))) }
+        ensures events { (following : List Slots) → CanBeGiven leaf.now self.old.texts.items self.old.links.items (slot ∷ following)
+            → IfOk result (λ given. events_of leaf.now self.old.texts.items self.old.links.items (slot ∷ following) self.old.walk.opened.items
+            ≡ with_given given (events_of leaf.now self.new.texts.items self.new.links.items following self.new.walk.opened.items)) }
+        ensures left { (following : List Slots) → CanBeGiven leaf.now self.old.texts.items self.old.links.items (slot ∷ following)
+            → OnOk result (CanBeGiven leaf.now self.new.texts.items self.new.links.items following) }
+        ensures ends { OnErr result ((following : List Slots) → BeginWithoutEnd (events_of leaf.now self.old.texts.items self.old.links.items (slot ∷ following) self.old.walk.opened.items)) }
+    {
+        match slot.kind {
+            SlotKind::Begin(element) => self.begin(leaf, slot, element),
+            SlotKind::End => Ok(self.end_last()),
+            SlotKind::Nothing => Ok(None),
+            SlotKind::SourceHtml(end) | SlotKind::SourceText(end) => {
+                Ok(Some(source_part(leaf, slot, end)))
+            }
+            SlotKind::Empty => Ok(Some(empty_text(leaf, slot))),
+            _ => self.over_slot(leaf, slot),
+        }
+    }
+
+    // The start of an element, in the form that `give` returns.
+    #[inline(always)]
+    fn begin(
+        &mut self,
+        leaf: &LeafText<'a>,
+        slot: Slot,
+        element: Element,
+    ) -> Result<Option<Ranged<'a>>, AllocError>
+        requires read { IsRead leaf.now }
+        requires slot { IsSlot (text_of leaf.now) (length (text_of leaf.now)) slot }
+        requires opened { AreOpened (source_of leaf.now) self.old.walk.opened.items }
+        requires link { IsThere (length self.old.links.items) (link_of element) }
+        ensures slots { self.new.slots ≡ self.old.slots }
+        ensures place { self.new.walk.next ≡ self.old.walk.next }
+        ensures opened { AreOpened (source_of leaf.now) self.new.walk.opened.items }
+        ensures gives { IfOk result (λ given. Passes (source_of leaf.now) self.old.walk.opened.items given self.new.walk.opened.items) }
+        ensures lent { IfOk result (λ given. IfSome given (IsRangedZeroCopy (source_of leaf.now))) }
+        ensures event { IfOk result (λ given. IsSomeAnd given (λ start. shown_ranged start ≡ over (source_of leaf.now) (place_of leaf.now slot.start) (place_of leaf.now (slot.end - 1) + 1) (Start (shown_element self.old.links.items element)))) }
+        ensures opens { OnOk result (shown_opened self.new.walk.opened.items ≡ over (source_of leaf.now) (place_of leaf.now slot.start) (place_of leaf.now (slot.end - 1) + 1) (End (end_of (shown_element self.old.links.items element))) ∷ shown_opened self.old.walk.opened.items) }
+        ensures links { KeepsOthers (link_of element) self.old.links.items self.new.links.items }
+        ensures texts { self.new.texts ≡ self.old.texts }
+    {
+        let range = leaf.range(slot.start, slot.end);
+        // The push comes first: if memory is refused, no text was moved out that would have to be dropped.
+        self.walk.opened.push(Opened {
+            tag: element_end(element),
+            start: range.start,
+            end: range.end,
+        })?;
+        Ok(Some(Ranged {
+            event: Event::Start(self.tag(element)),
+            range,
+        }))
+    }
+
+    // The event of a slot whose range is the range of its bytes, in the form that `give` returns.
+    #[inline(always)]
+    fn over_slot(
+        &mut self,
+        leaf: &LeafText<'a>,
+        slot: Slot,
+    ) -> Result<Option<Ranged<'a>>, AllocError>
+        requires read { IsRead leaf.now }
+        requires slot { IsSlot (text_of leaf.now) (length (text_of leaf.now)) slot }
+        requires text { IsThere (length self.old.texts.items) (text_named slot.kind) }
+        ensures slots { self.new.slots ≡ self.old.slots }
+        ensures walk { self.new.walk ≡ self.old.walk }
+        ensures gives { IfOk result (λ given. Passes (source_of leaf.now) self.old.walk.opened.items given self.new.walk.opened.items) }
+        ensures lent { IfOk result (λ given. IfSome given (IsRangedZeroCopy (source_of leaf.now))) }
+        ensures event { IfOk result (λ given. IsSomeAnd given (λ single. shown_ranged single ≡ over (source_of leaf.now) (place_of leaf.now slot.start) (place_of leaf.now (slot.end - 1) + 1) (event_in leaf.now self.old.texts.items slot slot.kind))) }
+        ensures texts { KeepsOthers (text_named slot.kind) self.old.texts.items self.new.texts.items }
+        ensures links { self.new.links ≡ self.old.links }
+    {
+        let range = leaf.range(slot.start, slot.end);
+        let event = match slot.kind {
+            SlotKind::SoftBreak => Event::SoftBreak,
+            SlotKind::HardBreak => Event::HardBreak,
+            SlotKind::Text => match text_between(self.alloc, leaf, slot.start, slot.end) {
+                Ok(text) => Event::Text(text),
+                Err(error) => return Err(error),
+            },
+            _ => match self.held(leaf, slot) {
+                Ok(text) => event_of(slot.kind, text),
+                Err(error) => return Err(error),
+            },
+        };
+        Ok(Some(Ranged { event, range }))
+    }
+
+    #[inline(always)]
+    fn end_last(&mut self) -> Option<Ranged<'a>>
+        ensures slots { self.new.slots ≡ self.old.slots }
+        ensures place { self.new.walk.next ≡ self.old.walk.next }
+        ensures opened { (source : List ℕ) → AreOpened source self.old.walk.opened.items → AreOpened source self.new.walk.opened.items }
+        ensures gives { (source : List ℕ) → AreOpened source self.old.walk.opened.items → Gives source self.old.walk.opened.items result self.new.walk.opened.items }
+        ensures lent { (source : List ℕ) → IfSome result (IsRangedZeroCopy source) }
+        ensures fewer { OnSome result (length self.new.walk.opened.items < length self.old.walk.opened.items) }
+        ensures most { length self.new.walk.opened.items ≤ length self.old.walk.opened.items }
+        ensures first { IsFirst result (shown_opened self.old.walk.opened.items) (shown_opened self.new.walk.opened.items) }
+        ensures links { self.new.links ≡ self.old.links }
+        ensures texts { self.new.texts ≡ self.old.texts }
+    {
+        let Some(opened) = self.walk.opened.pop() else {
+            return None;
+        };
+        Some(Ranged {
+            event: Event::End(opened.tag),
+            range: opened.start..opened.end,
+        })
+    }
+
+    fn tag(&mut self, element: Element) -> Tag<'a>
+        requires { IsThere (length self.old.links.items) (link_of element) }
+        ensures span { IsSpan (shown_tag result) }
+        ensures end { end_of (shown_tag result) ≡ element_end element }
+        ensures slots { self.new.slots ≡ self.old.slots }
+        ensures walk { self.new.walk ≡ self.old.walk }
+        ensures value { shown_tag result ≡ shown_element self.old.links.items element }
+        ensures links { KeepsOthers (link_of element) self.old.links.items self.new.links.items }
+        ensures texts { self.new.texts ≡ self.old.texts }
+    {
+        match element {
+            Element::Emphasis => Tag::Emphasis,
+            Element::Strong => Tag::Strong,
+            Element::Strikethrough => Tag::Strikethrough,
+            Element::Superscript => Tag::Superscript,
+            Element::Subscript => Tag::Subscript,
+            Element::Highlight => Tag::Highlight,
+            Element::Link(index) | Element::Autolink(index) => link_tag(self.take_link(index)),
+            Element::Image(index) => image_tag(self.take_link(index)),
+        }
+    }
+
+    fn take_link(&mut self, index: usize) -> Link<'a>
+        requires { index < length self.old.links.items }
+        ensures slots { self.new.slots ≡ self.old.slots }
+        ensures walk { self.new.walk ≡ self.old.walk }
+        ensures value { shown_link result ≡ linked_at self.old.links.items index }
+        ensures links { KeepsOthers (Some index) self.old.links.items self.new.links.items }
+        ensures texts { self.new.texts ≡ self.old.texts }
+    {
+        std::mem::replace(&mut self.links[index], Link::none())
+    }
+
+    fn take_text(&mut self, index: usize) -> CowStr<'a>
+        requires { index < length self.old.texts.items }
+        ensures slots { self.new.slots ≡ self.old.slots }
+        ensures walk { self.new.walk ≡ self.old.walk }
+        ensures value { text_bytes result ≡ text_at self.old.texts.items index }
+        ensures texts { KeepsOthers (Some index) self.old.texts.items self.new.texts.items }
+        ensures links { self.new.links ≡ self.old.links }
+    {
+        std::mem::replace(&mut self.texts[index], CowStr::Borrowed(""))
+    }
+
+    // The text of a slot's event, which is not a line break.
+    #[inline(always)]
+    fn held(&mut self, leaf: &LeafText<'a>, slot: Slot) -> Result<CowStr<'a>, AllocError>
+        requires read { IsRead leaf.now }
+        requires slot { IsSlot (text_of leaf.now) (length (text_of leaf.now)) slot }
+        requires text { IsThere (length self.old.texts.items) (text_named slot.kind) }
+        ensures slots { self.new.slots ≡ self.old.slots }
+        ensures walk { self.new.walk ≡ self.old.walk }
+        ensures lent { IfOk result (IsHeldAs slot.kind (source_of leaf.now) (place_of leaf.now slot.start) (place_of leaf.now (slot.end - 1) + 1)) }
+        ensures value { IfOk result (λ text. text_bytes text ≡ held_in leaf.now self.old.texts.items slot slot.kind) }
+        ensures texts { KeepsOthers (text_named slot.kind) self.old.texts.items self.new.texts.items }
+        ensures links { self.new.links ≡ self.old.links }
+    {
+        match slot.kind {
+            SlotKind::OwnedText(index) => {
+                let text = self.take_text(index);
+                written(self.alloc, leaf, slot, text)
+            }
+            SlotKind::Character(character) => {
+                written(self.alloc, leaf, slot, CowStr::from(character))
+            }
+            SlotKind::Whole(_) => Ok(CowStr::Borrowed(leaf.source_between(slot.start, slot.end))),
+            SlotKind::FootnoteReference(index) => Ok(self.take_text(index)),
+            SlotKind::Code(from, to) => Content { leaf, from, to }.code(self.alloc),
+            SlotKind::InlineMath(from, to) | SlotKind::DisplayMath(from, to) => {
+                Content { leaf, from, to }.formula(self.alloc)
+            }
+            SlotKind::CutHtml(from) => cut_html(self.alloc, leaf, slot, from),
+            _ => text_between(self.alloc, leaf, slot.start, slot.end),
+        }
+    }
+}
+
+// The event of a slot of this kind with this text. The slot is not a line break.
+#[inline(always)]
+fn event_of<'a>(kind: SlotKind, text: CowStr<'a>) -> Event<'a>
+    ensures value { shown result ≡ event_as kind (text_bytes text.entry) }
+    ensures lent { (source : List ℕ) (start end : ℕ) → IsHeldAs kind source start end text.entry → IsZeroCopy source result start end }
+{
+    match kind {
+        SlotKind::FootnoteReference(_) => Event::FootnoteReference(text),
+        SlotKind::Code(_, _) => Event::Code(text),
+        SlotKind::InlineMath(_, _) => Event::InlineMath(text),
+        SlotKind::DisplayMath(_, _) => Event::DisplayMath(text),
+        SlotKind::InlineHtml | SlotKind::CutHtml(_) | SlotKind::SourceHtml(_) => {
+            Event::InlineHtml(text)
+        }
+        _ => Event::Text(text),
+    }
+}
+
+// The end of an element.
+fn element_end(element: Element) -> TagEnd
+    ensures { shown_end result ≡ element_end element }
+{
+    match element {
+        Element::Emphasis => TagEnd::Emphasis,
+        Element::Strong => TagEnd::Strong,
+        Element::Strikethrough => TagEnd::Strikethrough,
+        Element::Superscript => TagEnd::Superscript,
+        Element::Subscript => TagEnd::Subscript,
+        Element::Highlight => TagEnd::Highlight,
+        Element::Link(_) | Element::Autolink(_) => TagEnd::Link,
+        Element::Image(_) => TagEnd::Image,
+    }
+}
+
+fn link_tag<'a>(link: Link<'a>) -> Tag<'a>
+    ensures span { IsSpan (shown_tag result) }
+    ensures end { end_of (shown_tag result) ≡ grammar_end.Link }
+    ensures value { shown_tag result ≡ grammar_tag.Link (shown_link link.entry) }
+{
+    let Link {
+        link_type,
+        dest_url,
+        title,
+        id,
+    } = link;
+    Tag::Link {
+        link_type,
+        dest_url,
+        title,
+        id,
+    }
+}
+
+fn image_tag<'a>(link: Link<'a>) -> Tag<'a>
+    ensures span { IsSpan (shown_tag result) }
+    ensures end { end_of (shown_tag result) ≡ grammar_end.Image }
+    ensures value { shown_tag result ≡ grammar_tag.Image (shown_link link.entry) }
+{
+    let Link {
+        link_type,
+        dest_url,
+        title,
+        id,
+    } = link;
+    Tag::Image {
+        link_type,
+        dest_url,
+        title,
+        id,
+    }
+}
+
+// The text of a slot that replaces its bytes, such as the text of an entity: borrowed if it equals the bytes, and otherwise owned.
+#[inline(never)]
+fn written<'a>(
+    alloc: Global,
+    leaf: &LeafText<'a>,
+    slot: Slot,
+    text: CowStr<'a>,
+) -> Result<CowStr<'a>, AllocError>
+    requires read { IsRead leaf.now }
+    requires slot { IsSlot (text_of leaf.now) (length (text_of leaf.now)) slot }
+    ensures value { IfOk result (λ made. text_bytes made ≡ text_bytes text.entry) }
+    ensures lent { IfOk result (IsLentBy (slice (source_of leaf.now) (place_of leaf.now slot.start) (place_of leaf.now (slot.end - 1) + 1))) }
+{
+    let part = leaf.source_between(slot.start, slot.end);
+    text.lent_by(alloc, part)
+}
+
+// A part of the source from the start of a slot up to `end`, if that is after the start: HTML, or a text. It includes the prefixes of its
+// later lines.
+fn source_part<'a>(leaf: &LeafText<'a>, slot: Slot, end: usize) -> Ranged<'a>
+    requires read { IsRead leaf.now }
+    requires slot { IsSlot (text_of leaf.now) (length (text_of leaf.now)) slot }
+    ensures start { result.range.start ≡ place_of leaf.now slot.start }
+    ensures end { place_of leaf.now slot.start < end → IsCharBoundary (source_of leaf.now) end → result.range.end ≡ end }
+    ensures part { IsPart (source_of leaf.now) result.range.start result.range.end }
+    ensures value { shown result.event ≡ event_as slot.kind (slice (source_of leaf.now) result.range.start result.range.end) }
+    ensures lent { IsRangedZeroCopy (source_of leaf.now) result }
+{
+    let range = leaf.range_up_to(slot.start, slot.end, end);
+    let part = leaf.source_at(range.start, range.end);
+    Ranged {
+        event: event_of(slot.kind, CowStr::Borrowed(part)),
+        range,
+    }
+}
+
+// An empty text, before the first byte of a slot.
+fn empty_text<'a>(leaf: &LeafText<'a>, slot: Slot) -> Ranged<'a>
+    requires read { IsRead leaf.now }
+    requires slot { IsSlot (text_of leaf.now) (length (text_of leaf.now)) slot }
+    ensures start { result.range.start ≡ place_of leaf.now slot.start }
+    ensures end { result.range.end ≡ place_of leaf.now slot.start }
+    ensures range { IsRange (source_of leaf.now) result.range.start result.range.end }
+    ensures value { shown result.event ≡ Text [] }
+    ensures lent { IsRangedZeroCopy (source_of leaf.now) result }
+{
+    let start = leaf.range(slot.start, slot.end).start;
+    Ranged {
+        event: Event::Text(CowStr::Borrowed("")),
+        range: start..start,
+    }
+}
+
+// A tag over several lines that begins at `from`. The slot has its last bytes.
+#[inline(never)]
+fn cut_html<'a>(
+    alloc: Global,
+    leaf: &LeafText<'a>,
+    slot: Slot,
+    from: usize,
+) -> Result<CowStr<'a>, AllocError>
+    requires read { IsRead leaf.now }
+    requires slot { IsSlot (text_of leaf.now) (length (text_of leaf.now)) slot }
+    requires from { IsCharBoundary (text_of leaf.now) from }
+    ensures value { IfOk result (λ made. text_bytes made ≡ slice (text_of leaf.now) from slot.end) }
+    ensures lent { IfOk result (IsLentBy (slice (source_of leaf.now) (place_of leaf.now slot.start) (place_of leaf.now (slot.end - 1) + 1))) }
+{
+    if from >= slot.end {
+        return written(alloc, leaf, slot, CowStr::Borrowed(""));
+    }
+    match copied(alloc, &leaf.as_str()[from..slot.end]) {
+        Ok(tag) => written(alloc, leaf, slot, tag),
+        Err(error) => Err(error),
+    }
+}

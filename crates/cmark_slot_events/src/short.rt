@@ -1,0 +1,219 @@
+//! The events of a leaf's slots that own nothing, without an `Event`.
+
+ghost use Rattle.std.specs.Prelude.{◌≡◌, ◌<◌, ◌≤◌, ◌+◌, ◌-◌, ◌∷◌, ℕ, List, IfOk, IfSome, OnErr, OnOk, get_or, length, option_map};
+ghost use Rattle.std.specs.Str.{IsCharBoundary};
+ghost use Rattle.cmark_grammar.specs.CodeSpans.{code_text};
+ghost use Rattle.cmark_grammar.specs.InlineTokens.{as_in};
+ghost use Rattle.cmark_inline_model.specs.LeafSpans.{IsInline, IsSpan};
+ghost use Rattle.cmark_grammar.specs.TagEnd.{end_of};
+ghost use Rattle.cmark_grammar.specs.Tokens.{slice};
+ghost use Rattle.cmark_inline_model.specs.FirstEvents.{BeginWithoutEnd};
+ghost use Rattle.cmark_leaf_text.specs.Reads.{IsRead, is_cell_of, place_of, source_of, text_of};
+ghost use Rattle.cmark_text.specs.Short.{IsShortZeroCopy, shown_plain, shown_short};
+ghost use Rattle.cmark_text.specs.Shown.{shown_end};
+ghost use Rattle.cmark_values.specs.Lending.{IsPartOf};
+ghost use Rattle.cmark_slots.specs.Elements.{emphasis_tag};
+ghost use Rattle.cmark_slot_events.specs.Opens.{events_left, AreOpened};
+ghost use Rattle.cmark_slot_events.specs.Shorts.{GivesNext, IfShort, IsAlone, IsNextFirst, LeavesFewer, PassesFirst, PassesShort, StandsFor};
+ghost use Rattle.cmark_slot_events.specs.Events.{AreLeft, events_of, events_to_come, shown_opened};
+ghost use Rattle.cmark_slots.specs.Slots.{AreSlots, IsSlot};
+ghost use Rattle.cmark_slot_events.specs.declared.leaf_events.Opened.{Opened as OpenedOnes};
+ghost use Rattle.cmark_slots.specs.declared.slot.Slot.{Slot as Slots};
+ghost use Rattle.cmark_leaf_text.specs.declared.leaf_text.LeafText.{LeafText as LeafTexts};
+ghost use Rattle.cmark_references.specs.declared.link.Link.{Link as Links};
+ghost use Rattle.cmark_text.specs.declared.event.TagEnd.{TagEnd as TagEnds};
+ghost use Rattle.cmark_values.specs.declared.text.CowStr.{CowStr as Texts};
+ghost use Rattle.cmark_text.specs.declared.short.PlainTag.{PlainTag as PlainTags};
+
+use crate::leaf_events::{LeafEvents, Opened};
+use cmark_leaf_text::LeafText;
+use cmark_slots::slot::{Element, Slot, SlotKind};
+use cmark_span_scan::code_part;
+use cmark_text::{Excerpt, Next, PlainTag, Short, TagEnd};
+use std::alloc::AllocError;
+
+impl<'a> LeafEvents<'a> {
+    /// Like `next`, but builds no event: an event that owns nothing is given, and an event of another kind is reported and not given. An
+    /// end of an element takes no memory.
+    #[inline(always)]
+    pub fn next_short(&mut self, leaf: &LeafText<'a>) -> Result<Next<'a>, AllocError>
+        requires read { IsRead leaf.now }
+        requires slots { AreSlots (text_of leaf.now) (length (text_of leaf.now)) self.old.slots.items }
+        requires opened { AreOpened (source_of leaf.now) self.old.walk.opened.items }
+        ensures slots { self.new.slots ≡ self.old.slots }
+        ensures left { AreLeft leaf.now self.old → OnOk result (AreLeft leaf.now self.new) }
+        ensures opened { AreOpened (source_of leaf.now) self.new.walk.opened.items }
+        ensures stands { IfOk result (λ next. IfShort next (λ short. (d : Slots) → StandsFor leaf.now (get_or self.old.slots.items (self.new.walk.next - 1) d) short)) }
+        ensures gives { IfOk result (λ next. GivesNext (source_of leaf.now) self.old.walk.opened.items next self.new.walk.opened.items) }
+        ensures fewer { IfOk result (λ next. LeavesFewer self.old next self.new) }
+        ensures most { OnOk result (events_left self.new ≤ events_left self.old) }
+        ensures few { OnOk result (length self.new.slots.items < 18446744073709551616) }
+        ensures events { IfOk result (λ next. IsNextFirst (source_of leaf.now) self.old.walk.opened.items next self.new.walk.opened.items (events_to_come leaf.now self.old) (events_to_come leaf.now self.new)) }
+        ensures ends { OnErr result (BeginWithoutEnd (events_to_come leaf.now self.old)) }
+    {
+        while self.walk.next < self.slots.len() {
+            let slot = self.slots[self.walk.next];
+            let Ok(next) = self.give_short(leaf, slot) else {
+                return Err(AllocError);
+            };
+            match next {
+                Next::Short(short, start, end) => {
+                    self.walk.next += 1;
+                    return Ok(Next::Short(short, start, end));
+                }
+                Next::Long => return Ok(Next::Long),
+                Next::Over => self.walk.next += 1,
+            }
+        }
+        Ok(self.end_short())
+    }
+
+    // Like `next_short` for one slot; `Over` says that the slot has no event.
+    #[inline(always)]
+    fn give_short(&mut self, leaf: &LeafText<'a>, slot: Slot) -> Result<Next<'a>, AllocError>
+        requires read { IsRead leaf.now }
+        requires slot { IsSlot (text_of leaf.now) (length (text_of leaf.now)) slot }
+        requires opened { AreOpened (source_of leaf.now) self.old.walk.opened.items }
+        ensures slots { self.new.slots ≡ self.old.slots }
+        ensures texts { self.new.texts ≡ self.old.texts }
+        ensures links { self.new.links ≡ self.old.links }
+        ensures place { self.new.walk.next ≡ self.old.walk.next }
+        ensures opened { AreOpened (source_of leaf.now) self.new.walk.opened.items }
+        ensures stands { IfOk result (λ next. IfShort next (StandsFor leaf.now slot)) }
+        ensures gives { IfOk result (λ next. PassesShort (source_of leaf.now) self.old.walk.opened.items next self.new.walk.opened.items) }
+        ensures first { IfOk result (λ next. (texts : List Texts) (links : List Links) (following : List Slots)
+            → PassesFirst (source_of leaf.now) self.old.walk.opened.items next self.new.walk.opened.items
+            (events_of leaf.now texts links (slot ∷ following) self.old.walk.opened.items) (events_of leaf.now texts links following self.new.walk.opened.items)) }
+        ensures ends { OnErr result ((texts : List Texts) (links : List Links) (following : List Slots) → BeginWithoutEnd (events_of leaf.now texts links (slot ∷ following) self.old.walk.opened.items)) }
+    {
+        match slot.kind {
+            // The start of a link or an image is an event of another kind.
+            SlotKind::Begin(element) => {
+                let Some((tag, end)) = plain_element(element) else {
+                    return Ok(Next::Long);
+                };
+                let range = leaf.range(slot.start, slot.end);
+                self.walk.opened.push(Opened {
+                    tag: end,
+                    start: range.start,
+                    end: range.end,
+                })?;
+                Ok(Next::Short(Short::Start(tag), range.start, range.end))
+            }
+            SlotKind::End => Ok(self.end_short()),
+            SlotKind::Nothing => Ok(Next::Over),
+            _ => Ok(single_short(leaf, slot)),
+        }
+    }
+
+    // The end of the element that began last, if one is open.
+    #[inline(always)]
+    fn end_short(&mut self) -> Next<'a>
+        ensures slots { self.new.slots ≡ self.old.slots }
+        ensures texts { self.new.texts ≡ self.old.texts }
+        ensures links { self.new.links ≡ self.old.links }
+        ensures place { self.new.walk.next ≡ self.old.walk.next }
+        ensures opened { (source : List ℕ) → AreOpened source self.old.walk.opened.items → AreOpened source self.new.walk.opened.items }
+        ensures gives { (source : List ℕ) → AreOpened source self.old.walk.opened.items → GivesNext source self.old.walk.opened.items result self.new.walk.opened.items }
+        ensures stands { (text : LeafTexts) (slot : Slots) → IfShort result (StandsFor text slot) }
+        ensures fewer { IfShort result (λ short. length self.new.walk.opened.items < length self.old.walk.opened.items) }
+        ensures most { length self.new.walk.opened.items ≤ length self.old.walk.opened.items }
+        ensures first { (source : List ℕ) → AreOpened source self.old.walk.opened.items
+            → IsNextFirst source self.old.walk.opened.items result self.new.walk.opened.items (shown_opened self.old.walk.opened.items) (shown_opened self.new.walk.opened.items) }
+    {
+        match self.walk.opened.pop() {
+            Some(opened) => Next::Short(Short::End(opened.tag), opened.start, opened.end),
+            None => Next::Over,
+        }
+    }
+}
+
+// The tag and the end of an element of emphasis, which has no text of its own.
+#[inline(always)]
+fn plain_element(element: Element) -> Option<(PlainTag, TagEnd)>
+    ensures value { option_map (λ (pair : PlainTags × TagEnds). shown_plain pair.0) result ≡ emphasis_tag element }
+    ensures span { IfSome result (λ pair. IsSpan (shown_plain pair.0)) }
+    ensures end { IfSome result (λ pair. end_of (shown_plain pair.0) ≡ shown_end pair.1) }
+{
+    match element {
+        Element::Emphasis => Some((PlainTag::Emphasis, TagEnd::Emphasis)),
+        Element::Strong => Some((PlainTag::Strong, TagEnd::Strong)),
+        Element::Strikethrough => Some((PlainTag::Strikethrough, TagEnd::Strikethrough)),
+        Element::Superscript => Some((PlainTag::Superscript, TagEnd::Superscript)),
+        Element::Subscript => Some((PlainTag::Subscript, TagEnd::Subscript)),
+        Element::Highlight => Some((PlainTag::Highlight, TagEnd::Highlight)),
+        Element::Link(_) | Element::Autolink(_) | Element::Image(_) => None,
+    }
+}
+
+// The event of a slot that is not an element, if it owns nothing.
+#[inline(always)]
+fn single_short<'a>(leaf: &LeafText<'a>, slot: Slot) -> Next<'a>
+    requires read { IsRead leaf.now }
+    requires slot { IsSlot (text_of leaf.now) (length (text_of leaf.now)) slot }
+    ensures stands { IfShort result (StandsFor leaf.now slot) }
+    ensures gives { (opened : List OpenedOnes) → PassesShort (source_of leaf.now) opened result opened }
+    ensures first { (texts : List Texts) (links : List Links) (opened : List OpenedOnes) (following : List Slots) → IsAlone slot.kind
+        → PassesFirst (source_of leaf.now) opened result opened (events_of leaf.now texts links (slot ∷ following) opened) (events_of leaf.now texts links following opened) }
+{
+    match part_of(leaf, slot) {
+        Some(short) => {
+            let range = leaf.range(slot.start, slot.end);
+            Next::Short(short, range.start, range.end)
+        }
+        None => Next::Long,
+    }
+}
+
+// The event of a slot that is not an element, if its text is a part of the source.
+#[inline(always)]
+fn part_of<'a>(leaf: &LeafText<'a>, slot: Slot) -> Option<Short<'a>>
+    requires read { IsRead leaf.now }
+    requires slot { IsSlot (text_of leaf.now) (length (text_of leaf.now)) slot }
+    ensures stands { IfSome result (StandsFor leaf.now slot) }
+    ensures inline { IfSome result (λ short. IsInline (shown_short short)) }
+    ensures lent { IfSome result (λ short. IsShortZeroCopy (source_of leaf.now) short (place_of leaf.now slot.start) (place_of leaf.now (slot.end - 1) + 1)) }
+{
+    match slot.kind {
+        SlotKind::Text => {
+            let Some(ahead) = leaf.slice_ahead(slot.start, slot.end) else {
+                return None;
+            };
+            Some(Short::Text(Excerpt::new(ahead, slot.end - slot.start)))
+        }
+        SlotKind::SoftBreak => Some(Short::SoftBreak),
+        SlotKind::HardBreak => Some(Short::HardBreak),
+        SlotKind::Code(from, to) => match code_in(leaf, from, to) {
+            Some(code) => Some(Short::Code(code)),
+            None => None,
+        },
+        SlotKind::InlineHtml => match leaf.slice(slot.start, slot.end) {
+            Some(html) => Some(Short::InlineHtml(html)),
+            None => None,
+        },
+        SlotKind::Whole(_) => {
+            let text = leaf.source_between(slot.start, slot.end);
+            Some(Short::Text(Excerpt::whole(text)))
+        }
+        _ => None,
+    }
+}
+
+// The text of a code span if its content is in the source without a gap and without a line ending. `None` in a table cell, since the text
+// may be owned there (GFM 4.10).
+#[inline(always)]
+fn code_in<'a>(leaf: &LeafText<'a>, from: usize, to: usize) -> Option<&'a str>
+    requires read { IsRead leaf.now }
+    requires starts { IsCharBoundary (text_of leaf.now) from }
+    requires ends { IsCharBoundary (text_of leaf.now) to }
+    ensures value { IfSome result (λ part. part.now ≡ code_text (as_in (is_cell_of leaf.now) (slice (text_of leaf.now) from to))) }
+    ensures part { IfSome result (λ part. IsPartOf (source_of leaf.now) part.now) }
+{
+    if from >= to || leaf.is_cell() {
+        return None;
+    }
+    match leaf.slice(from, to) {
+        Some(content) => code_part(content),
+        None => None,
+    }
+}

@@ -1,0 +1,12 @@
+use Rattle.std.proofs.Common.{◌≡◌, length, get_or, refl, sym, subst, arith, rules}
+use Rattle.std.specs.Prelude.{List, ℕ}
+use Rattle.cmark_span_scan.proofs.DollarLinks.{AreHeads, heads-end}
+use Rattle.cmark_span_scan.proofs.dollars.link_dollars.Goals as goal
+
+pub loop-index-init : goal.loop-index-init
+loop-index-init c = record {
+  within = omega arith;
+  whole = search rules;
+  made = λ i d le lt. absurd (omega (arith, le, lt));
+  heads = search (heads-end, rules);
+}

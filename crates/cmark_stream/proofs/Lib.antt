@@ -1,0 +1,4 @@
+pub mod PartSteps
+pub mod RestSteps
+pub mod RestWrites
+pub mod StreamSteps

@@ -1,0 +1,20 @@
+//! Laws for a caller that keeps a text, its HTML and a cut, as `read_from` wants them.
+
+ghost use Rattle.std.specs.Prelude.{◌++◌, ℕ, List, [], IsUtf8};
+ghost use Rattle.cmark_grammar.specs.Event.{Event};
+ghost use Rattle.cmark_grammar.specs.SpanDocuments.{Profile};
+ghost use Rattle.cmark_stream.specs.Rests.{IsShownUpTo};
+
+/// The beginning of each text is a cut, and no HTML is before it.
+pub fn beginnings_are_cuts()
+    ensures { (profile : Profile) (filtered : Event → Event) (text : List ℕ)
+        → IsUtf8 text → IsShownUpTo profile filtered text 0 [] }
+{}
+
+/// If a text grows, its cuts stay cuts, and the HTML before them stays.
+pub fn cuts_stay()
+    ensures { (profile : Profile) (filtered : Event → Event)
+        (text more : List ℕ) (cut : ℕ) (shown : List ℕ)
+        → IsUtf8 more → IsShownUpTo profile filtered text cut shown
+        → IsShownUpTo profile filtered (text ++ more) cut shown }
+{}

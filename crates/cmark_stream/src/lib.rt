@@ -1,0 +1,11 @@
+//! A text that grows at its end, with its HTML.
+#![tactic(auto)]
+
+mod defines;
+pub mod laws;
+mod part;
+mod rest;
+mod stream;
+
+pub use rest::{Rest, read_from};
+pub use stream::{Change, Stream};

@@ -1,0 +1,211 @@
+-- The first line after a cut: what it says whatever lines are ahead.
+use Rattle.std.proofs.Common.{◌≡◌, ℕ, Bool, true, false, ◌&&◌, ◌||◌, not, List, [], ◌∷◌, ◌++◌, length, refl, sym, ap, ◌∙◌, Option, Some, None, true≢false}
+use Rattle.std.specs.Prelude.{if◌then◌else◌, nat_le}
+use Rattle.cmark_grammar.specs.Alignment.{Alignment}
+use Rattle.cmark_grammar.specs.Options.{Options}
+use Rattle.cmark_grammar.specs.Places.{Apart}
+use Rattle.cmark_grammar.specs.Rows.{Row, is_blank_line, indent_of, words_of}
+use Rattle.cmark_grammar.specs.Leaves.{Fence, is_thematic_break, is_atx_heading, run, fence_of, counted, code_continuation}
+use Rattle.cmark_grammar.specs.HtmlBlocks.{html_kind, holds_end}
+use Rattle.cmark_grammar.specs.LinkDefinitions.{Defined, definition_in, bytes_over}
+use Rattle.cmark_grammar.specs.Footnotes.{footnotes_in}
+use Rattle.cmark_grammar.specs.Containers.{Container, BlockQuote, Item, Footnote, ListDefinition, container_of, enter, is_bare_start}
+use Rattle.cmark_grammar.specs.DefinitionLists.{begins_definition, is_definition}
+use Rattle.cmark_grammar.specs.Metadata.{metadata_kind}
+use Rattle.cmark_grammar.specs.TableRows.{table_head, table_interrupts}
+use Rattle.cmark_grammar.specs.Openings.{Leaf, ThematicBreak, AtxHeading, IndentedCode, FencedCode, HtmlBlock, LinkDefinition, MetadataBlock, Table, Opening, Blank, Nests, Takes, Plain, or_else, nests_if, fenced_if, html_if, break_if, heading_if, metadata_begun, defined_if, begins_no_link, interrupts, texts, lazily, text_lines, definition_of, table_if, text_of, leaf_of, whole_opens, opens, opens_at}
+use Rattle.cmark_grammar.specs.Blocks.{Blocks, Nil, BlankLine, Paragraph, LeafBlock, join, place_in}
+use Rattle.cmark_block_model.specs.BlocksModel.{within, place_after}
+use Rattle.cmark_block_model.specs.BlocksByLine.{OpenLines, Between, AfterTag, InParagraph, InLeaf, InVerbatim, InContainer, close_lines, lines_take_lazy, html_begun, leaf_begun, lines_begin_as, lines_begin_in, lines_begin}
+use Rattle.cmark_stream_model.specs.Growth.{is_blank, Parts, are_blind, has_blank_line, are_resolved, HasNoMetadata, is_outside_of_lists, last_list, may_continue}
+use Rattle.cmark_stream_model.proofs.GrowingTables.{same-apart}
+use Rattle.cmark_stream_model.proofs.SettledCuts.{resolved-append, last-join}
+use Rattle.cmark_stream_model.proofs.Walls.{no-metadata}
+
+-- ## Lists
+
+pub outside-any : (list : Option ℕ) (o : Opening) → is_outside_of_lists o ≡ true → may_continue list o ≡ false
+outside-any None o e = refl
+outside-any (Some d) Blank e = absurd (true≢false (sym e))
+outside-any (Some d) (Nests (BlockQuote alert)) e = refl
+outside-any (Some d) (Nests (Item delimiter number width task)) e = absurd (true≢false (sym e))
+outside-any (Some d) (Nests (Footnote label old size)) e = refl
+outside-any (Some d) (Nests (ListDefinition width)) e = absurd (true≢false (sym e))
+outside-any (Some d) (Takes leaf more) e = refl
+outside-any (Some d) Plain e = refl
+
+-- ## Blank lines
+
+not-blank-or : (x y : Opening) → is_blank x ≡ false → is_blank y ≡ false → is_blank (or_else x y) ≡ false
+not-blank-or Blank y e f = e
+not-blank-or (Nests k) y e f = refl
+not-blank-or (Takes leaf more) y e f = refl
+not-blank-or Plain y e f = f
+
+not-blank-nests : (o : Option Container) → is_blank (nests_if o) ≡ false
+not-blank-nests None = refl
+not-blank-nests (Some k) = refl
+
+not-blank-html : (r : Row) (ahead : List Row) (kind : Option ℕ) → is_blank (html_if r ahead kind) ≡ false
+not-blank-html r ahead None = refl
+not-blank-html r ahead (Some kind) = refl
+
+not-blank-break : (z : Bool) → is_blank (break_if z) ≡ false
+not-blank-break true = refl
+not-blank-break false = refl
+
+not-blank-heading : (z : Bool) (level : ℕ) → is_blank (heading_if z level) ≡ false
+not-blank-heading true level = refl
+not-blank-heading false level = refl
+
+not-blank-fenced : (fence : Option Fence) (ahead : List Row) → is_blank (fenced_if fence ahead) ≡ false
+not-blank-fenced None ahead = refl
+not-blank-fenced (Some fence) ahead = refl
+
+not-blank-defined : (lines : ℕ) (found : Option Defined) → is_blank (defined_if lines found) ≡ false
+not-blank-defined lines None = refl
+not-blank-defined lines (Some found) = refl
+
+module _ (options : Options) where
+  not-blank-table : (alignments : Option (List Alignment)) (ahead : List Row) → is_blank (table_if options alignments ahead) ≡ false
+  not-blank-table None ahead = refl
+  not-blank-table (Some alignments) ahead = refl
+
+  not-blank-definition : (r : Row) (ahead : List Row) → is_blank (definition_of options r ahead) ≡ false
+  not-blank-definition r ahead = go (begins_no_link (footnotes_in options) (words_of r))
+    where
+      go : (z : Bool) → is_blank (if z then Plain else defined_if (length (text_lines options ahead)) (definition_in (bytes_over r (text_lines options ahead)))) ≡ false
+      go true = refl
+      go false = not-blank-defined (length (text_lines options ahead)) (definition_in (bytes_over r (text_lines options ahead)))
+
+  not-blank-text : (r : Row) (ahead : List Row) → is_blank (text_of options r ahead) ≡ false
+  not-blank-text r ahead =
+      not-blank-or (definition_of options r ahead) (table_if options (table_head options r ahead) ahead) (not-blank-definition r ahead) (not-blank-table (table_head options r ahead) ahead)
+
+  not-blank-leaf : (r : Row) (ahead : List Row) → is_blank (leaf_of options r ahead) ≡ false
+  not-blank-leaf r ahead = not-blank-or html after_html (not-blank-html r ahead (html_kind (words_of r)))
+      (not-blank-or break after_break (not-blank-break (is_thematic_break (words_of r)))
+      (not-blank-or heading after_heading (not-blank-heading (is_atx_heading (words_of r)) (run 35 (words_of r)))
+      (not-blank-or fenced (text_of options r ahead) (not-blank-fenced (fence_of (indent_of r) (words_of r)) ahead) (not-blank-text r ahead))))
+    where
+      html : Opening
+      html = html_if r ahead (html_kind (words_of r))
+
+      break : Opening
+      break = break_if (is_thematic_break (words_of r))
+
+      heading : Opening
+      heading = heading_if (is_atx_heading (words_of r)) (run 35 (words_of r))
+
+      fenced : Opening
+      fenced = fenced_if (fence_of (indent_of r) (words_of r)) ahead
+
+      after_heading : Opening
+      after_heading = or_else (fenced_if (fence_of (indent_of r) (words_of r)) ahead) (text_of options r ahead)
+
+      after_break : Opening
+      after_break = or_else (heading_if (is_atx_heading (words_of r)) (run 35 (words_of r))) (or_else (fenced_if (fence_of (indent_of r) (words_of r)) ahead) (text_of options r ahead))
+
+      after_html : Opening
+      after_html =
+          or_else (break_if (is_thematic_break (words_of r)))
+          (or_else (heading_if (is_atx_heading (words_of r)) (run 35 (words_of r))) (or_else (fenced_if (fence_of (indent_of r) (words_of r)) ahead) (text_of options r ahead)))
+
+  -- a line that lacks no prefix begins what it would begin without metadata
+  whole-opening : HasNoMetadata options → (r : Row) (ahead : List Row) → r.lazy ≡ false → opens options r ahead ≡ whole_opens options r ahead
+  unfolding opens
+  whole-opening m r ahead e =
+      ap (λ z. if z then Plain else or_else (metadata_begun (metadata_kind options r) ahead) (whole_opens options r ahead)) e
+      ∙ ap (λ k. or_else (metadata_begun k ahead) (whole_opens options r ahead)) (no-metadata options m r)
+
+  pub not-blank : HasNoMetadata options → (r : Row) → r.lazy ≡ false → is_blank_line r ≡ false → (ahead : List Row) → is_blank (opens_at options Apart r ahead) ≡ false
+  not-blank m r whole e ahead =
+      ap is_blank (whole-opening m r ahead whole)
+      ∙ ap (λ z. is_blank (if z then Blank else if nat_le 4 (indent_of r) then Takes IndentedCode (counted code_continuation ahead) else or_else (nests_if (container_of options r)) (leaf_of options r ahead))) e
+      ∙ go (nat_le 4 (indent_of r))
+    where
+      go : (z : Bool) → is_blank (if z then Takes IndentedCode (counted code_continuation ahead) else or_else (nests_if (container_of options r)) (leaf_of options r ahead)) ≡ false
+      go true = refl
+      go false = not-blank-or (nests_if (container_of options r)) (leaf_of options r ahead) (not-blank-nests (container_of options r)) (not-blank-leaf r ahead)
+
+  blank-opening : HasNoMetadata options → (r : Row) → r.lazy ≡ false → is_blank_line r ≡ true → (ahead : List Row) → opens_at options Apart r ahead ≡ Blank
+  blank-opening m r whole e ahead =
+      whole-opening m r ahead whole
+      ∙ ap (λ z. if z then Blank else if nat_le 4 (indent_of r) then Takes IndentedCode (counted code_continuation ahead) else or_else (nests_if (container_of options r)) (leaf_of options r ahead)) e
+
+  -- ## The list after the blocks that a line begins
+
+  abbrev inside_as : Row → List Row → Container → OpenLines
+  inside_as r ahead k = lines_begin_in options (length r.columns) (place_in k) Nil (enter k r) (within k (is_bare_start k r) ahead)
+
+  html-none : (list : Option ℕ) (z : Bool) (closed : Blocks) (kind : ℕ) (r : Row) → last_list list (close_lines (html_begun z closed kind r)) ≡ None
+  html-none list true closed kind r = last-join options list closed (LeafBlock (HtmlBlock kind) r [] Nil)
+  html-none list false closed kind r = last-join options list (join closed (LeafBlock (HtmlBlock kind) r [] Nil)) Nil ∙ last-join options list closed (LeafBlock (HtmlBlock kind) r [] Nil)
+
+  verbatim-none : (list : Option ℕ) (closed : Blocks) (leaf : Leaf) (r : Row) → last_list list (join (join closed (LeafBlock leaf r [] Nil)) Nil) ≡ None
+  verbatim-none list closed leaf r = last-join options list (join closed (LeafBlock leaf r [] Nil)) Nil ∙ last-join options list closed (LeafBlock leaf r [] Nil)
+
+  leaf-none : (list : Option ℕ) (leaf : Leaf) (n : ℕ) (closed : Blocks) (r : Row) → last_list list (close_lines (leaf_begun leaf n closed r)) ≡ None
+  leaf-none list ThematicBreak n closed r = last-join options list closed (LeafBlock ThematicBreak r [] Nil)
+  leaf-none list (AtxHeading level) n closed r = last-join options list closed (LeafBlock (AtxHeading level) r [] Nil)
+  leaf-none list IndentedCode n closed r = verbatim-none list closed IndentedCode r
+  leaf-none list (FencedCode fence) n closed r = verbatim-none list closed (FencedCode fence) r
+  leaf-none list (HtmlBlock kind) n closed r = html-none list (nat_le kind 5 && holds_end kind (words_of r)) closed kind r
+  leaf-none list (LinkDefinition definition) n closed r = last-join options list closed (LeafBlock (LinkDefinition definition) r [] Nil)
+  leaf-none list (MetadataBlock kind) n closed r = verbatim-none list closed (MetadataBlock kind) r
+  leaf-none list (Table alignments) n closed r = last-join options list closed (LeafBlock (Table alignments) r [] Nil)
+
+  outside-none : (list : Option ℕ) (o : Opening) (inside : Container → OpenLines) (closed : Blocks) (r : Row) → is_outside_of_lists o ≡ true → last_list list (close_lines (lines_begin_as o inside closed r)) ≡ None
+  outside-none list Blank inside closed r e = absurd (true≢false (sym e))
+  outside-none list (Nests (BlockQuote alert)) inside closed r e = last-join options list closed _
+  outside-none list (Nests (Item delimiter number width task)) inside closed r e = absurd (true≢false (sym e))
+  outside-none list (Nests (Footnote label old size)) inside closed r e = last-join options list closed _
+  outside-none list (Nests (ListDefinition width)) inside closed r e = absurd (true≢false (sym e))
+  outside-none list (Takes leaf more) inside closed r e = leaf-none list leaf more closed r
+  outside-none list Plain inside closed r e = last-join options list closed (Paragraph r [] Nil)
+
+  pub outside-begins : options.definition_list ≡ false → (list : Option ℕ) (closed : Blocks) (r : Row) (ahead : List Row) → is_outside_of_lists (opens_at options Apart r ahead) ≡ true → last_list list (close_lines (lines_begin options closed r ahead)) ≡ None
+  unfolding lines_begin
+  outside-begins off list closed r ahead e =
+      outside-none list (opens_at options (place_after Apart closed) r ahead) (inside_as r ahead) closed r (ap is_outside_of_lists (same-apart options closed r ahead off) ∙ e)
+
+  pub blank-begins : HasNoMetadata options → options.definition_list ≡ false → (list : Option ℕ) (closed : Blocks) (r : Row) (ahead : List Row) → r.lazy ≡ false → is_blank_line r ≡ true
+      → last_list list (close_lines (lines_begin options closed r ahead)) ≡ last_list list closed
+  unfolding lines_begin
+  blank-begins m off list closed r ahead whole e =
+      ap (λ o. last_list list (close_lines (lines_begin_as o (inside_as r ahead) closed r))) (same-apart options closed r ahead off ∙ blank-opening m r whole e ahead)
+      ∙ last-join options list closed (BlankLine r Nil)
+
+  -- ## Lines that end what is open, whatever is ahead
+
+  pub parts-any : (o : OpenLines) (r : Row) (a b : List Row) → ((ahead : List Row) → table_interrupts options r ahead ≡ false) → Parts options o r a → Parts options o r b
+  unfolding texts lazily
+  parts-any (Between closed) r a b e h = h
+  parts-any AfterTag r a b e h = h
+  parts-any (InParagraph closed first more) r a b e h =
+      (h.0, ap (λ t. not (interrupts options (not r.lazy) r b || (t || begins_definition options r))) (e b ∙ sym (e a)) ∙ h.1)
+  parts-any (InLeaf closed leaf first had left) r a b e h = h
+  parts-any (InVerbatim closed verbatim first had waiting) r a b e h = h
+  parts-any (InContainer closed k first more inside) r a b e h =
+      (h.0, ap (λ t. not (interrupts options false r b || (t || (is_definition k && begins_definition options r))) && lines_take_lazy inside) (e b ∙ sym (e a)) ∙ h.1)
+
+  -- ## Lines that look at none ahead
+
+  pub resolved-blind : (done : List Row) (r : Row) → are_resolved done ≡ true → are_blind r.columns ≡ true → are_resolved (done ++ r ∷ []) ≡ true
+  resolved-blind done r e blind = resolved-append options done (r ∷ []) e (ap (λ z. (z || false) && true) blind)
+
+  blank-end : (done : List Row) (r : Row) → is_blank_line r ≡ true → has_blank_line (done ++ r ∷ []) ≡ true
+  blank-end [] r e = ap (λ z. z || false) e
+  blank-end (s ∷ done) r e = go (is_blank_line s) (blank-end done r e)
+    where
+      go : (z : Bool) → has_blank_line (done ++ r ∷ []) ≡ true → (z || has_blank_line (done ++ r ∷ [])) ≡ true
+      go true ih = refl
+      go false ih = ih
+
+  pub resolved-blank : (done : List Row) (r : Row) → is_blank_line r ≡ true → are_blind r.columns ≡ true → are_resolved (done ++ r ∷ []) ≡ true
+  resolved-blank [] r e blind = ap (λ z. (z || false) && true) blind
+  resolved-blank (s ∷ done) r e blind = ap (λ z. z && are_resolved (done ++ r ∷ [])) (go (are_blind s.columns) (blank-end done r e)) ∙ resolved-blank done r e blind
+    where
+      go : (z : Bool) → has_blank_line (done ++ r ∷ []) ≡ true → (z || has_blank_line (done ++ r ∷ [])) ≡ true
+      go true h = refl
+      go false h = h

@@ -1,0 +1,305 @@
+-- Settled cuts: they stay if the text grows, and the document stays joined there.
+use Rattle.std.proofs.Common.{◌≡◌, ◌⊎◌, inl, inr, ⊎_elim, ℕ, ◌+◌, ◌≤◌, Bool, true, false, ◌&&◌, ◌||◌, List, [], ◌∷◌, ◌++◌, length, take, drop, refl, sym, ap, ◌∙◌, subst, arith, append_assoc, Option, Some, None, true≢false}
+use Rattle.std.proofs.lemmas.List.{append_cancel_right, take-append-le, drop-append-le, take-append-drop, length-take-le}
+use Rattle.cmark_grammar.specs.Answers.{Lookup}
+use Rattle.cmark_grammar.specs.BlockDocument as document
+use Rattle.cmark_block_model.specs.DocumentModel.{document as document_in}
+use Rattle.cmark_grammar.specs.Lines.{lines}
+use Rattle.cmark_grammar.specs.Options.{Options}
+use Rattle.cmark_grammar.specs.Places.{Apart}
+use Rattle.cmark_grammar.specs.Rows.{Row, row_at, rows, rows_from, shown, is_blank_line}
+use Rattle.cmark_grammar.specs.Openings.{opens_at}
+use Rattle.cmark_grammar.specs.Blocks.{Blocks, Nil, BlankLine, Paragraph, SetextHeading, LeafBlock, ContainerBlock, join}
+use Rattle.cmark_grammar.specs.Containers.{BlockQuote, Item, Footnote, ListDefinition}
+use Rattle.cmark_grammar.specs.Lists.{definition_delimiter}
+use Rattle.cmark_block_model.specs.BlocksModel.{blocks}
+use Rattle.cmark_block_model.specs.BlocksByLine.{OpenLines, Between, AfterTag, InParagraph, InLeaf, InVerbatim, InContainer, close_lines, lines_begin, lines_feed_all}
+use Rattle.cmark_block_model.specs.Tails.{document_after}
+use Rattle.cmark_block_model.proofs.Theorem.{document-whole}
+use Rattle.cmark_stream_model.specs.Growth.{ends_whole, is_blank, continues, open_after, blocks_at, Parts, IsCut, are_blind, has_blank_line, are_resolved, HasNoMetadata, last_list, may_continue}
+use Rattle.cmark_stream_model.specs.Settled.{BeginsWithLine, IsSettledCut, IsSettledAt, StaysJoinedAt}
+use Rattle.cmark_stream_model.specs.Tails.{IsJoinedAt}
+use Rattle.cmark_stream_model.proofs.EndsApart.{ends-grow}
+use Rattle.cmark_stream_model.proofs.Fronts.{preceding, Steady, all-front, all-steady, close-front, parts-begin, apart-front, apart-steady, fed-append}
+use Rattle.cmark_stream_model.proofs.GrowingLines.{lines-append, rows-grow}
+use Rattle.cmark_stream_model.proofs.GrowingTables.{same-apart}
+use Rattle.cmark_stream_model.proofs.Leading.{lines-continue}
+use Rattle.cmark_stream_model.proofs.TailFacts.{joined-at}
+use Rattle.cmark_stream_model.proofs.TestedCuts.{tested-cut}
+use Rattle.cmark_stream_model.proofs.Walls.{resolved-settled}
+
+-- ## The text grows
+
+-- whether bytes end with a whole line ending is decided by the first byte after them
+pub whole-first : (front : List ℕ) (next : ℕ) (a b : List ℕ) → ends_whole front (next ∷ a) ≡ ends_whole front (next ∷ b)
+whole-first [] next a b = refl
+whole-first (x ∷ []) next a b = refl
+whole-first (x ∷ (y ∷ bs)) next a b = whole-first (y ∷ bs) next a b
+
+complete-grows : (bytes line more : List ℕ) → BeginsWithLine bytes line → BeginsWithLine (bytes ++ more) line
+complete-grows bytes line more h = record {
+  next = h.next;
+  rest = h.rest ++ more;
+  are = ap (λ l. l ++ more) h.are ∙ append_assoc line (h.next ∷ h.rest) more;
+  one = h.one;
+  whole = whole-first line h.next (h.rest ++ more) h.rest ∙ h.whole;
+}
+
+-- the first row of bytes that begin with a complete line
+pub complete-row : (at : ℕ) (bytes line : List ℕ) → (h : BeginsWithLine bytes line) → rows_from at (lines bytes) ≡ row_at at line ∷ rows_from (at + length line) (lines (h.next ∷ h.rest))
+complete-row at bytes line h =
+    ap (λ l. rows_from at (lines l)) h.are
+    ∙ ap (rows_from at) (lines-append line (h.next ∷ h.rest) h.whole ∙ ap (λ ls. ls ++ lines (h.next ∷ h.rest)) h.one)
+
+-- bytes that begin with a line have a byte
+apart-grows : (front bytes line more : List ℕ) → BeginsWithLine bytes line → ends_whole front bytes ≡ true → ends_whole front (bytes ++ more) ≡ true
+apart-grows front bytes line more h e = go line h.are
+  where
+    go : (l : List ℕ) → bytes ≡ l ++ (h.next ∷ h.rest) → ends_whole front (bytes ++ more) ≡ true
+    go [] are = ap (λ b. ends_whole front (b ++ more)) are ∙ whole-first front h.next (h.rest ++ more) h.rest ∙ ap (ends_whole front) (sym are) ∙ e
+    go (b ∷ l) are = ap (λ x. ends_whole front (x ++ more)) are ∙ whole-first front b ((l ++ (h.next ∷ h.rest)) ++ more) (l ++ (h.next ∷ h.rest)) ∙ ap (ends_whole front) (sym are) ∙ e
+
+module _ (options : Options) where
+  pub settled-stays : (text more : List ℕ) (at : ℕ) → IsSettledCut options text at → IsSettledCut options (text ++ more) at
+  settled-stays text more at h = record {
+    line = h.line;
+    metadata = h.metadata;
+    definitions = h.definitions;
+    within = omega (arith, h.within, length-append-le text more);
+    apart =
+        ap (λ f. ends_whole f (drop at (text ++ more))) same
+        ∙ ap (ends_whole (take at text)) (drop-append-le at text more h.within)
+        ∙ apart-grows (take at text) (drop at text) h.line more h.complete h.apart;
+    complete = subst (λ b. BeginsWithLine b h.line) (sym (drop-append-le at text more h.within)) (complete-grows (drop at text) h.line more h.complete);
+    resolved = ap (λ f. are_resolved (rows f)) same ∙ h.resolved;
+    parts = λ ahead. subst (λ f. Parts options (open_after options f) (row_at at h.line) ahead) (sym same) (h.parts ahead);
+    begins = h.begins;
+    ends_list = λ ahead. ap (λ f. may_continue (last_list None (blocks_at options 0 f)) (opens_at options Apart (row_at at h.line) ahead)) same ∙ h.ends_list ahead;
+  }
+    where
+      same : take at (text ++ more) ≡ take at text
+      same = take-append-le at text more h.within
+
+      length-append-le : (a b : List ℕ) → length a ≤ length (a ++ b)
+      length-append-le [] b = omega arith
+      length-append-le (x ∷ a) b = let e = length-append-le a b in omega (arith, e)
+
+  pub settled-stays-at : (text more : List ℕ) (at : ℕ) → IsSettledAt options text at → IsSettledAt options (text ++ more) at
+  settled-stays-at text more at h = ⊎_elim (λ z. inl z) (λ s. inr (settled-stays text more at s)) h
+
+  -- ## The document is joined there
+
+  settled-joined : (text : List ℕ) (at : ℕ) (lookup : Lookup) → IsSettledCut options text at → IsJoinedAt options lookup text at
+  settled-joined text at lookup h =
+      subst (λ t. IsJoinedAt options lookup t at) (take-append-drop at text)
+      (subst (λ n. IsJoinedAt options lookup (front ++ tail) n) size
+      (joined-at options lookup front tail (ends-grow options h.definitions lookup front tail r rs h.apart first cut ends)))
+    where
+      front : List ℕ
+      front = take at text
+
+      tail : List ℕ
+      tail = drop at text
+
+      size : length (take at text) ≡ at
+      size = length-take-le at text h.within
+
+      r : Row
+      r = row_at at h.line
+
+      rs : List Row
+      rs = rows_from (at + length h.line) (lines (h.complete.next ∷ h.complete.rest))
+
+      first : rows_from (length (take at text)) (lines (drop at text)) ≡ row_at at h.line ∷ rows_from (at + length h.line) (lines (h.complete.next ∷ h.complete.rest))
+      first = ap (λ n. rows_from n (lines (drop at text))) size ∙ complete-row at (drop at text) h.line h.complete
+
+      cut : IsCut options (take at text) (row_at at h.line) (rows_from (at + length h.line) (lines (h.complete.next ∷ h.complete.rest)))
+      cut = tested-cut options h.metadata h.definitions front r rs h.resolved (h.parts (shown rs)) (h.begins (shown rs))
+
+      ends : continues (last_list None (blocks_at options 0 (take at text))) (blocks_at options (length (take at text)) (drop at text)) ≡ false
+      ends =
+          ap (λ ls. continues (last_list None (blocks_at options 0 front)) (close_lines (lines_feed_all options (Between Nil) ls))) first
+          ∙ lines-continue options h.definitions r rs (last_list None (blocks_at options 0 front)) (h.ends_list (shown rs))
+
+  -- the beginning of a text
+  empty-document : (lookup : Lookup) → document_in [] options lookup ≡ document.Nil
+  unfolding blocks
+  empty-document lookup = refl
+
+  start-joined : (text : List ℕ) (lookup : Lookup) → IsJoinedAt options lookup text 0
+  start-joined text lookup = sym (document-whole text options lookup) ∙ ap (λ d. document.join d (document_after text options lookup 0)) (sym (empty-document lookup))
+
+  pub stays-joined : (text : List ℕ) (at : ℕ) → IsSettledAt options text at → StaysJoinedAt options text at
+  stays-joined text at h lookup more =
+      ⊎_elim (λ z. subst (λ n. IsJoinedAt options lookup (text ++ more) n) (sym z) (start-joined (text ++ more) lookup))
+      (λ s. settled-joined (text ++ more) at lookup (settled-stays text more at s)) h
+
+  -- ## A further cut after a settled one
+
+  blank-append : (a b : List Row) → has_blank_line a ≡ true → has_blank_line (a ++ b) ≡ true
+  blank-append [] b e = absurd (true≢false (sym e))
+  blank-append (r ∷ a) b e = go (is_blank_line r) (has_blank_line a) refl e (blank-append a b)
+    where
+      go : (z w : Bool) → has_blank_line a ≡ w → (z || w) ≡ true → (has_blank_line a ≡ true → has_blank_line (a ++ b) ≡ true) → (z || has_blank_line (a ++ b)) ≡ true
+      go true w q t ih = refl
+      go false true q t ih = ih q
+      go false false q t ih = absurd (true≢false (sym t))
+
+  -- lines that are resolved stay so before others
+  pub resolved-append : (a b : List Row) → are_resolved a ≡ true → are_resolved b ≡ true → are_resolved (a ++ b) ≡ true
+  resolved-append [] b e f = f
+  resolved-append (r ∷ a) b e f = go (are_blind r.columns) (has_blank_line a) refl (resolved-append a b) e
+    where
+      go : (z w : Bool) → has_blank_line a ≡ w → (are_resolved a ≡ true → are_resolved b ≡ true → are_resolved (a ++ b) ≡ true) → ((z || w) && are_resolved a) ≡ true
+          → ((z || has_blank_line (a ++ b)) && are_resolved (a ++ b)) ≡ true
+      go true w q ih t = ih t f
+      go false true q ih t = ap (λ z. z && are_resolved (a ++ b)) (blank-append a b q) ∙ ih t f
+      go false false q ih t = absurd (true≢false (sym t))
+
+  pub last-join : (list : Option ℕ) (a b : Blocks) → last_list list (join a b) ≡ last_list (last_list list a) b
+  last-join list Nil b = refl
+  last-join list (BlankLine line after) b = last-join list after b
+  last-join list (Paragraph first more after) b = last-join None after b
+  last-join list (SetextHeading level first more underline after) b = last-join None after b
+  last-join list (LeafBlock leaf first more after) b = last-join None after b
+  last-join list (ContainerBlock (BlockQuote alert) first more inside after) b = last-join None after b
+  last-join list (ContainerBlock (Footnote label old size) first more inside after) b = last-join None after b
+  last-join list (ContainerBlock (Item delimiter number width task) first more inside after) b = last-join (Some delimiter) after b
+  last-join list (ContainerBlock (ListDefinition width) first more inside after) b = last-join (Some definition_delimiter) after b
+
+  parts-front : (b : Blocks) (o : OpenLines) (r : Row) (ahead : List Row) → Parts options o r ahead → Parts options (preceding b o) r ahead
+  parts-front b (Between closed) r ahead h = h
+  parts-front b AfterTag r ahead h = h
+  parts-front b (InParagraph closed first more) r ahead h = h
+  parts-front b (InLeaf closed leaf first had left) r ahead h = h
+  parts-front b (InVerbatim closed verbatim first had waiting) r ahead h = h
+  parts-front b (InContainer closed k first more inside) r ahead h = h
+
+  -- the list that may continue after the bytes before an offset
+  abbrev pub list_before : (text : List ℕ) → (from : ℕ) → Option ℕ
+  list_before text from = last_list None (close_lines (open_after options (take from text)))
+
+  -- what the search for a further cut has found at an offset, after these rows
+  pub record Found (text : List ℕ) (from at : ℕ) (done : List Row) (line : List ℕ) : Type 0 where
+    pub metadata : HasNoMetadata options
+    pub definitions : options.definition_list ≡ false
+    pub within : at ≤ length text
+    pub split : rows_from from (lines (drop from text)) ≡ done ++ rows_from at (lines (drop at text))
+    pub apart : ends_whole (take at text) (drop at text) ≡ true
+    pub complete : BeginsWithLine (drop at text) line
+    pub resolved : are_resolved done ≡ true
+    pub parts : (ahead : List Row) → Parts options (lines_feed_all options (Between Nil) done) (row_at at line) ahead
+    pub begins : (ahead : List Row) → is_blank (opens_at options Apart (row_at at line) ahead) ≡ false
+    pub ends_list : (ahead : List Row) → may_continue (last_list (list_before text from) (close_lines (lines_feed_all options (Between Nil) done))) (opens_at options Apart (row_at at line) ahead) ≡ false
+
+  module _ (text : List ℕ) (from at : ℕ) (done : List Row) (line : List ℕ) (f : Found text from at done line) where
+    abbrev o : OpenLines
+    o = lines_feed_all options (Between Nil) done
+
+    -- the rows of the bytes before the cut are those before the earlier offset and those after it
+    rows-done : from ≤ length text → ends_whole (take from text) (drop from text) ≡ true → rows (take at text) ≡ rows (take from text) ++ done
+    rows-done le whole =
+        append_cancel_right (rows (take at text)) (rows (take from text) ++ done) rest
+        (sym (grown at f.within f.apart)
+        ∙ grown from le whole
+        ∙ ap (λ l. rows (take from text) ++ l) f.split
+        ∙ sym (append_assoc (rows (take from text)) done rest))
+      where
+        rest : List Row
+        rest = rows_from at (lines (drop at text))
+
+        grown : (n : ℕ) → n ≤ length text → ends_whole (take n text) (drop n text) ≡ true → rows text ≡ rows (take n text) ++ rows_from n (lines (drop n text))
+        grown n le e =
+            ap rows (sym (take-append-drop n text)) ∙ rows-grow (take n text) (drop n text) e ∙ ap (λ m. rows (take n text) ++ rows_from m (lines (drop n text))) (length-take-le n text le)
+
+    settled-with : rows (take at text) ≡ rows (take from text) ++ done → are_resolved (rows (take from text)) ≡ true
+        → (b : Blocks) → open_after options (take at text) ≡ preceding b o → last_list None (close_lines (preceding b o)) ≡ last_list (list_before text from) (close_lines o) → IsSettledCut options text at
+    settled-with are resolved b opened listed = record {
+      line = line;
+      metadata = f.metadata;
+      definitions = f.definitions;
+      within = f.within;
+      apart = f.apart;
+      complete = f.complete;
+      resolved = ap are_resolved are ∙ resolved-append (rows (take from text)) done resolved f.resolved;
+      parts = λ ahead. subst (λ x. Parts options x (row_at at line) ahead) (sym opened) (parts-front b o (row_at at line) ahead (f.parts ahead));
+      begins = f.begins;
+      ends_list = λ ahead. ap (λ l. may_continue l (opens_at options Apart (row_at at line) ahead)) (ap (λ x. last_list None (close_lines x)) opened ∙ listed) ∙ f.ends_list ahead;
+    }
+
+    -- after the beginning of the text
+    from-start : from ≡ 0 → IsSettledCut options text at
+    from-start z =
+        settled-with are (ap (λ n. are_resolved (rows (take n text))) z) Nil
+        (ap (lines_feed_all options (Between Nil)) (are ∙ ap (λ n. rows (take n text) ++ done) z) ∙ sym (none o))
+        (ap (λ x. last_list None (close_lines x)) (none o) ∙ ap (λ n. last_list (list_before text n) (close_lines o)) (sym z))
+      where
+        none : (x : OpenLines) → preceding Nil x ≡ x
+        none (Between closed) = refl
+        none AfterTag = refl
+        none (InParagraph closed first more) = refl
+        none (InLeaf closed leaf first had left) = refl
+        none (InVerbatim closed verbatim first had waiting) = refl
+        none (InContainer closed k first more inside) = refl
+
+        are : rows (take at text) ≡ rows (take from text) ++ done
+        are = rows-done (omega (arith, z)) (ap (λ n. ends_whole (take n text) (drop n text)) z)
+
+    -- after a settled cut
+    from-settled : IsSettledCut options text from → IsSettledCut options text at
+    from-settled h = go done refl
+      where
+        r : Row
+        r = row_at from h.line
+
+        b : Blocks
+        b = close_lines (open_after options (take from text))
+
+        are : rows (take at text) ≡ rows (take from text) ++ done
+        are = rows-done h.within h.apart
+
+        go : (rs : List Row) → done ≡ rs → IsSettledCut options text at
+        go [] e = subst (IsSettledCut options text) same h
+          where
+            same : from ≡ at
+            same = ap (λ rs. first_at rs) (sym (complete-row from (drop from text) h.line h.complete) ∙ f.split ∙ ap (λ l. l ++ rows_from at (lines (drop at text))) e ∙ complete-row at (drop at text) line f.complete)
+              where
+                first_at : List Row → ℕ
+                first_at [] = 0
+                first_at (x ∷ xs) = x.at
+        go (r0 ∷ rs) e = settled-with are h.resolved b opened listed
+          where
+            same : r0 ≡ row_at from h.line
+            same = ap (λ l. first_of l) (sym (ap (λ l. l ++ rows_from at (lines (drop at text))) e) ∙ sym f.split ∙ complete-row from (drop from text) h.line h.complete)
+              where
+                first_of : List Row → Row
+                first_of [] = r
+                first_of (x ∷ xs) = x
+
+            begun : OpenLines
+            begun = lines_begin options Nil r (shown rs)
+
+            steady : Steady b (lines_begin options Nil r (shown rs))
+            steady = apart-steady options b r (shown rs) (h.begins (shown rs))
+
+            did : done ≡ r ∷ rs
+            did = e ∙ ap (λ x. x ∷ rs) same
+
+            is : o ≡ lines_feed_all options (lines_begin options Nil r (shown rs)) rs
+            is = ap (lines_feed_all options (Between Nil)) did
+
+            opened : open_after options (take at text) ≡ preceding b o
+            opened =
+                ap (lines_feed_all options (Between Nil)) are
+                ∙ fed-append options done (Between Nil) (rows (take from text))
+                ∙ ap (λ x. lines_feed_all options x done) (resolved-settled options h.metadata (take from text) done h.resolved)
+                ∙ ap (lines_feed_all options (open_after options (take from text))) did
+                ∙ ap (λ x. lines_feed_all options x rs) (parts-begin options (open_after options (take from text)) r (shown rs) (h.parts (shown rs)) ∙ apart-front options b r (shown rs) (same-apart options b r (shown rs) h.definitions))
+                ∙ all-front options b begun rs steady
+                ∙ ap (preceding b) (sym is)
+
+            listed : last_list None (close_lines (preceding b o)) ≡ last_list (list_before text from) (close_lines o)
+            listed = ap (last_list None) (close-front options b o (subst (Steady b) (sym is) (all-steady options b begun rs steady))) ∙ last-join None b (close_lines o)
+
+    pub further : IsSettledAt options text from → IsSettledAt options text at
+    further h = ⊎_elim (λ z. inr (from-start z)) (λ s. inr (from-settled s)) h

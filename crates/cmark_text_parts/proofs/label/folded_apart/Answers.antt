@@ -1,6 +1,0 @@
-use Rattle.std.proofs.Common.{sym, ◌∙◌}
-use Rattle.cmark_text_parts.proofs.Folds.{folded_none}
-use Rattle.cmark_text_parts.proofs.label.folded_apart.Goals as goal
-
-pub returns-in_default : goal.returns-in_default
-returns-in_default c = folded_none c.args.text.now (sym c.find_folding.ensures ∙ c.in_default.is)

@@ -1,7 +1,0 @@
-use Rattle.std.specs.Str.Iter.{split_ascii_whitespace_text}
-use Rattle.std.proofs.Common.{string_bytes}
-use Rattle.cmark_text_parts.proofs.Words.{Joined}
-use Rattle.cmark_text_parts.proofs.label.normalized.Given as goal
-
-abbrev pub invariant-loop-word : goal.invariant-loop-word
-invariant-loop-word l = Joined l.label (string_bytes l.text) (split_ascii_whitespace_text l.word-iterator)

@@ -1,4 +1,0 @@
-pub mod Ends
-pub mod Faults
-pub mod Notes
-pub mod Runs

@@ -1,0 +1,5 @@
+pub mod Ends
+pub mod Faults
+pub mod Notes
+pub mod Runs
+pub mod Statuses

@@ -1,0 +1,10 @@
+use Rattle.std.proofs.Common.{◌≡◌, arith, subst}
+use Rattle.cmark_safe.specs.SafeEvents.{safe}
+use Rattle.pulldown_cmark_c.specs.Streams.{AnswersStream, numbers}
+use Rattle.pulldown_cmark_c.proofs.stream.pcm_safe_stream.Goals as goal
+
+pub returns-clause-listed : goal.returns-clause-listed
+returns-clause-listed c = λ known utf8.
+    let same : c.in-Ok.further.now ≡ c.args.schemes.now = grind arith in
+    subst (λ further. AnswersStream (safe further) c.args.limit c.args.options c.args.text.now c.args.room.now c.answer_from.new.room (numbers c.args.cut.now c.answer_from.new.cut c.answer_from.new.settled c.answer_from.new.size) c.answer_from.result) same
+    c.answer_from.ensures

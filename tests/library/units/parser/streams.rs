@@ -1,0 +1,89 @@
+// A text that grows, with its HTML: after each refresh it is the HTML of the whole text, and settled HTML only grows unless something is
+// defined.
+
+use bitflags::Flags;
+use cmark_parser::to_html_within;
+use cmark_stream::{Change, Stream};
+use cmark_values::{BasicEntities, Options};
+use std::alloc::{AllocError, Global};
+use std::process::Abort;
+use std::test::Fail;
+
+const LIMIT: usize = 100_000;
+
+// Pieces of texts. Texts of the first ones define nothing.
+const PIECES: &[&str] = &[
+    "a", "b c", "\n", "\n\n", "\n\n", "\r", "\r\n", "- ", "1. ", "> ", "# ", "    ", "```\n", "`", "*", "**", "_", "~~", "$", "<div>\n",
+    "<!--", "-->", "|", "|-|\n", "a|b\n", "-|-\n", "---\n", "===\n", "\t", "é", "![", "](u)", "[", "]", "<b>", "&amp;", "\\", "[^x]", ":",
+    ": d\n", "+++\n", "{#i}", "\u{0}", "- [x] t\n", "> [!NOTE]\n", "[[w]]", "]: /u\n", "[a]: /u\n\n", "[^x]: n\n\n", "[a]",
+];
+const UNDEFINED: u64 = 46;
+
+// The next number of a simple random sequence.
+fn next(seed: u64) -> u64 {
+    seed.wrapping_mul(6364136223846793005).wrapping_add(1442695040888963407)
+}
+
+// What a renderer has: the settled HTML, to which it appends.
+fn append(html: &mut String, change: Change, settled: &str) -> Result<(), AllocError> {
+    match change {
+        Change::Grown => {}
+        Change::Anew => html.clear(),
+    }
+    let new = match settled.get(html.len()..) {
+        Some(new) => new,
+        None => "",
+    };
+    html.push_str(new)
+}
+
+fn joined(alloc: Global, stream: &Stream<'_, BasicEntities>) -> Result<String, AllocError> {
+    let mut all = String::from_str(alloc, stream.settled())?;
+    all.push_str(stream.tail())?;
+    Ok(all)
+}
+
+// Compares a stream with the HTML of each beginning of a random text. Returns how often settled HTML was kept.
+fn compare(alloc: Global, rt: &impl Abort, options: Options, mut seed: u64, texts: u64, choice: u64) -> Result<usize, Fail> {
+    let mut kept = 0;
+    for _ in 0..texts {
+        let mut stream = Stream::new(alloc, options, &BasicEntities, LIMIT);
+        let mut shown = String::new(alloc);
+        for _ in 0..30 {
+            seed = next(seed);
+            stream.push(PIECES[((seed >> 33) % choice) as usize])?;
+            if (seed >> 20) % 4 == 0 {
+                continue;
+            }
+            let change = stream.refresh()?;
+            append(&mut shown, change, stream.settled())?;
+            if !stream.settled().is_empty() {
+                kept += 1;
+            }
+            let whole = to_html_within(alloc, stream.text(), options, &BasicEntities, LIMIT)?;
+            let all = joined(alloc, &stream)?;
+            assert_eq!(rt; all.as_str(), whole.as_str());
+            assert_eq!(rt; shown.as_str(), stream.settled());
+        }
+    }
+    Ok(kept)
+}
+
+#[test]
+fn random_texts_have_their_html(rt: HostRuntime) -> Result<(), Fail> {
+    for options in [Options::empty(), Options::GITHUB, Options::all()] {
+        let kept = compare(rt.alloc(), &rt, options, 1, 300, PIECES.len() as u64)?;
+        println!(rt; "kept {}", kept)?;
+    }
+    Ok(())
+}
+
+#[test]
+fn random_texts_without_definitions_have_their_html(rt: HostRuntime) -> Result<(), Fail> {
+    for options in [Options::empty(), Options::GITHUB] {
+        let kept = compare(rt.alloc(), &rt, options, 2, 300, UNDEFINED)?;
+        println!(rt; "kept {}", kept)?;
+        assert!(rt; kept > 300);
+    }
+    Ok(())
+}

@@ -1,0 +1,126 @@
+"""Compiles the proved code a second time, with a profile of its own runs, for `make dist`.
+
+The toolchain's clang compiles the same LLVM module with the same arguments as for `make`. It first adds counters; the counted programs and
+the counted library read the Markdown files of this repository and the texts of tests/texts/rows.json; then it compiles once more, and places
+and inlines code by the counts. So the compiler makes other choices, and nothing else changes. The counts depend only on the code and on
+these texts, so the object code is the same each time. docs/PERFORMANCE.md has the gain.
+
+This needs llvm-profdata and the runtime of the counters in the version of the toolchain's clang (Debian: llvm-22 and libclang-rt-22-dev), and
+a C compiler.
+"""
+import json
+import os
+import pathlib
+import re
+import shutil
+import subprocess
+import tempfile
+
+import llvm
+
+ROOT = pathlib.Path(__file__).resolve().parent.parent
+MADE = ROOT / "bin" / "profiled"
+RUNTIME = "lib/clang/{major}/lib/linux/libclang_rt.profile-x86_64.a"
+# The profile covers only what the runs reach.
+WITH_PROFILE = ("-Wno-profile-instr-unprofiled", "-Wno-profile-instr-missing", "-Wno-backend-plugin")
+# How often a text of the table of tests is in its file. Each is short, and a profile counts how often code runs.
+REPEATED = 20
+# The runs of each program on each text, by their arguments.
+RUNS = {"mdhtml": ([], ["--github"], ["--safe"]), "mdevents": ([], ["--github"])}
+
+
+class Tools:
+    """LLVM's tools for profiles, of the version of the toolchain's clang."""
+
+    def __init__(self, rt):
+        clang = pathlib.Path(rt.KIT) / "toolchain" / "bin" / "clang"
+        said = subprocess.run([clang, "--version"], capture_output=True, text=True, check=True).stdout
+        self.major = re.search(r"clang version (\d+)", said)[1]
+        merger = shutil.which(f"llvm-profdata-{self.major}") or shutil.which("llvm-profdata")
+        self.merger = pathlib.Path(merger).resolve() if merger else None
+        self.runtime = self.merger and self.merger.parent.parent / RUNTIME.format(major=self.major)
+        self.compiler = shutil.which(os.environ.get("CC", "cc"))
+
+    def lack(self):
+        """What is missing, or nothing."""
+        if not self.merger or f"LLVM version {self.major}." not in subprocess.run([self.merger, "--version"], capture_output=True, text=True, check=True).stdout:
+            return f"llvm-profdata of LLVM {self.major} (Debian: llvm-{self.major})"
+        if not self.runtime.exists():
+            return f"the runtime of profiles of LLVM {self.major} (Debian: libclang-rt-{self.major}-dev)"
+        return None if self.compiler else "a C compiler"
+
+
+def texts(room):
+    """The files that are read: the Markdown files of the repository, and a new file for each text of the table of tests."""
+    listed = subprocess.run(["git", "ls-files", "-z", "*.md"], cwd=ROOT, capture_output=True, check=True).stdout.decode().split("\0")
+    found = sorted(ROOT / it for it in listed if it)
+    rows = json.loads((ROOT / "tests" / "texts" / "rows.json").read_text())
+    for number, text in enumerate(dict.fromkeys(row["text"] for row in rows if "text" in row)):
+        file = room / f"{number}.md"
+        file.write_text(f"{text}\n\n" * REPEATED, newline="")
+        found.append(file)
+    return found
+
+
+def runs_of_program(name, program, files):
+    """The calls of a counted program: for each its arguments and the file on its standard input."""
+    return [([program, *words], file) for file in files for words in RUNS[name]]
+
+
+def runs_of_library(program, files):
+    """The one call of the program that calls the counted library on all files."""
+    return [([program, *files], pathlib.Path(os.devnull))]
+
+
+def compiled(tools, code, parts, calls, room):
+    """The object code of a crate, compiled with a profile of these runs of it. `parts` are the other objects of the counted program, in the
+    order of the linker, and `calls` gives the runs of the program."""
+    counted, program, profile = code.compiled(room / "counted.o", "-fprofile-generate"), room / "counted", room / "profile"
+    files = texts(room)
+    how = [tools.compiler, "-static-pie", "-Wl,--gc-sections,-u,__llvm_profile_runtime", "-o", program]
+    subprocess.run([*how, *(counted if it is None else it for it in parts), tools.runtime], check=True)
+    for number, (words, file) in enumerate(calls(program, files)):
+        with open(file, "rb") as given:
+            counts = room / f"{number}.profraw"
+            subprocess.run(words, stdin=given, stdout=subprocess.DEVNULL, check=True, env={**os.environ, "LLVM_PROFILE_FILE": str(counts)})
+    subprocess.run([tools.merger, "merge", "-o", profile, *sorted(room.glob("*.profraw"))], check=True)
+    return code.compiled(room / "profiled.o", f"-fprofile-use={profile}", *WITH_PROFILE)
+
+
+def caller(tools, room):
+    """The object of the program in C that calls the library on each file of its arguments."""
+    made = room / "caller.o"
+    subprocess.run([tools.compiler, "-O2", "-I", ROOT / "include", "-c", ROOT / "tools" / "profiled.c", "-o", made], check=True)
+    return made
+
+
+def made(rt, crates, link, lib):
+    """Makes the programs and the library in bin/profiled/, laid out as in bin/. `crates` are by their names; `link` and `lib` are the tools of
+    these names. Returns the folder, or as a text what is missing."""
+    tools = Tools(rt)
+    if tools.lack():
+        return tools.lack()
+    shutil.rmtree(MADE, ignore_errors=True)
+    (MADE / "lib").mkdir(parents=True)
+    kit = pathlib.Path(rt.KIT)
+    system = [kit / "c" / "libos_c.a", kit / "c" / "liblibc_c.a"]
+    for name in RUNS:
+        with tempfile.TemporaryDirectory(prefix="profiled-") as scratch:
+            room = pathlib.Path(scratch)
+            part = compiled(tools, llvm.Code(rt, crates[name], room), [None, *system], lambda program, files: runs_of_program(name, program, files), room)
+            hindrance = link.linked([part], kit, MADE / name)
+            if hindrance:
+                return hindrance
+            if not link.is_well(name, MADE / name):
+                raise RuntimeError(f"{name}, compiled with a profile, does not write what crates/{name}/stdout has")
+    with tempfile.TemporaryDirectory(prefix="profiled-") as scratch:
+        room = pathlib.Path(scratch)
+        code = llvm.Code(rt, crates["pulldown_cmark_c"], room)
+        part = compiled(tools, code, [caller(tools, room), None, *system], runs_of_library, room)
+        whole = room / "library.a"
+        subprocess.run([kit / "toolchain" / "bin" / "llvm-ar", "rcsD", whole, part], check=True)
+        archive, shared = MADE / "lib" / f"{lib.NAME}.a", MADE / "lib" / f"{lib.NAME}.so.{lib.VERSION}"
+        lib.archive(whole, system[1:], archive, room)
+        lib.shared(archive, shared, room)
+        shutil.copy2(shared, MADE / "lib" / f"{lib.NAME}.so")
+    return MADE
