@@ -20,8 +20,8 @@ pub record OpenImage : Type 0 where
   pub depth : ℕ
   pub title : List ℕ
 
--- the table that is being written. Its cells are those of the head, until the head has ended. It has the alignments of its columns, until
--- the next table begins, and the number of cells of the row that have ended
+-- the table that is being written. Its cells are those of the head, until the head has ended. It has the alignments of its columns, and
+-- the number of cells of the row that have ended
 pub record TableState : Type 0 where
   pub in_head : Bool
   pub alignments : List Alignment
@@ -41,7 +41,7 @@ pub record Writing : Type 0 where
   pub table : TableState
   pub names : List (List ℕ)
 
--- before the first event there is no table
+-- outside of every table
 abbrev pub no_table : TableState
 no_table = record { in_head = true; alignments = []; column = 0 }
 
@@ -389,6 +389,7 @@ table_after_start t _ = t
 abbrev pub table_after_end : TableState → TagEnd → TableState
 table_after_end t end.TableHead = record { in_head = false; alignments = t.alignments; column = t.column }
 table_after_end t end.TableCell = record { in_head = t.in_head; alignments = t.alignments; column = t.column + 1 }
+table_after_end t end.Table = no_table
 table_after_end t _ = t
 
 abbrev pub table_after : TableState → Event → TableState

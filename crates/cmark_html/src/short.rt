@@ -175,7 +175,7 @@ fn write_end(out: &mut String, writer: &mut Writer<'_>, tag: TagEnd) -> Result<(
     writer.line_start = line_start_after_end(writer.line_start, tag);
     match tag {
         TagEnd::MetadataBlock(_) => writer.in_metadata = false,
-        TagEnd::TableHead | TagEnd::TableCell => return writer.table.end(tag),
+        TagEnd::Table | TagEnd::TableHead | TagEnd::TableCell => return writer.table.end(tag),
         _ => {}
     }
     Ok(())

@@ -17,14 +17,14 @@ use std::alloc::{AllocError, Global};
 pub struct TableState {
     /// Whether the cells are cells of a head: from the start of a head to its end.
     pub in_head: bool,
-    /// The alignments of the last table's columns.
+    /// The alignments of the table's columns.
     pub alignments: Vec<Alignment>,
     /// How many cells of the row have ended.
     pub column: usize,
 }
 
 impl TableState {
-    /// The state before the first table.
+    /// The state outside of every table.
     pub fn new(alloc: Global) -> TableState
         ensures { shown_table result ≡ no_table }
     {
@@ -35,7 +35,7 @@ impl TableState {
         }
     }
 
-    /// Whether this is the state before the first table.
+    /// Whether this is the state outside of every table.
     pub fn is_new(&self) -> bool
         ensures { IsTrue result ↔ (shown_table self.now ≡ no_table) }
     {
@@ -70,7 +70,7 @@ impl TableState {
         append(out, cell_start_text(self.in_head, self.alignment()))
     }
 
-    /// Takes account of an end: a cell moves on by one column, and a head ends.
+    /// Takes account of an end: a cell moves on by one column, and a head or the table ends.
     ///
     /// If more than `usize::MAX` cells of a row have ended, the error is the one for refused memory.
     pub fn end(&mut self, tag: TagEnd) -> Result<(), AllocError>
@@ -78,6 +78,11 @@ impl TableState {
             (shown_table self.new ≡ table_after_end (shown_table self.old) (shown_end tag)) }
     {
         match tag {
+            TagEnd::Table => {
+                self.in_head = true;
+                self.alignments.clear();
+                self.column = 0;
+            }
             TagEnd::TableHead => self.in_head = false,
             TagEnd::TableCell => {
                 let Some(column) = self.column.checked_add(1) else {
