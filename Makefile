@@ -120,12 +120,14 @@ programs:
 wrong:
 	tests/edits/try
 
-# The tests over the gate's libraries and programs, as two jobs in parallel: one uses one processor, the other all of them.
+# The tests over the gate's libraries and programs, as two jobs in parallel: one uses one processor, the other all of them. Faults of edits
+# are printed once more at the end, after the long output of the other job.
 beside:
 	$(MAKE) modules installed > bin/lib.log 2>&1 & lib=$$!; \
-	$(MAKE) outside wrong; outside=$$?; \
+	($(MAKE) outside wrong; echo $$? > bin/outside.status) 2>&1 | tee bin/outside.log; \
 	wait $$lib; lib=$$?; cat bin/lib.log; \
-	test "$$lib $$outside" = "0 0"
+	sed -n '/^wrong: fault/p' bin/outside.log; \
+	test "$$lib $$(cat bin/outside.status)" = "0 0"
 
 # Tests of the built programs, for properties that the proofs do not cover.
 outside:
