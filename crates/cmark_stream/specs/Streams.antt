@@ -73,6 +73,18 @@ module _ {E : Type 0} (replacement : E → Lookup) where
     pub opened : stream.cut ≤ stream.read
     pub unread : stream.read ≤ length (text_of stream)
 
+  -- the empty text, with these settings
+  pub record Begins (stream : Stream E) (settings : Options) (known : Lookup) (most : ℕ) (further : Option (List ℕ)) : Type 0 where
+    pub text : text_of stream ≡ []
+    pub settled : settled_of stream ≡ []
+    pub tail : tail_of stream ≡ []
+    pub options : options_of stream ≡ settings
+    pub entities : lookup_of stream ≡ known
+    pub limit : stream.limit ≡ most
+    pub schemes : schemes_of stream ≡ further
+    pub read : stream.read ≡ 0
+    pub good : IsStream stream
+
   -- the HTML from the cut on
   abbrev pub IsRest : Stream E → Rest → Type 0
   IsRest stream rest = IsRestFrom (filter_of stream) stream.limit (text_of stream) (options_of stream) (lookup_of stream) stream.cut (string_bytes rest.settled) (string_bytes rest.tail) rest.cut

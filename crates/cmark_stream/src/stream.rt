@@ -56,40 +56,20 @@ pub struct Stream<'e, E> {
 }
 
 impl<'e, E: EntityLookup> Stream<'e, E> {
-    ghost use Rattle.std.specs.Prelude.{◌≡◌, ◌≢◌, ◌++◌, ◌↔◌, ℕ, List, [], length, IfOk, IsTrue, None, OnErr, OnOk, Some};
+    ghost use Rattle.std.specs.Prelude.{◌≡◌, ◌≢◌, ◌++◌, ◌↔◌, ℕ, List, [], length, option_map, string_bytes, IfOk, IsTrue, None, OnErr, OnOk, Some};
     ghost use Rattle.cmark_grammar.specs.Headline.{IsHtmlWithin};
     ghost use Rattle.cmark_parser.specs.Filters.{filtered_by};
     ghost use Rattle.cmark_safe.specs.SafeHtml.{IsSafe};
     ghost use Rattle.cmark_values.specs.Shown.{shown_options};
-    ghost use Rattle.cmark_stream.specs.Streams.{IsDue, IsRest, IsShown, IsStream, Refreshed, Refreshes, Tells, filter_of, lookup_of, options_of, schemes_of, settled_of, tail_of, text_of};
+    ghost use Rattle.cmark_stream.specs.Streams.{Begins, IsDue, IsRest, IsShown, IsStream, Refreshed, Refreshes, Tells, filter_of, lookup_of, options_of, schemes_of, settled_of, tail_of, text_of};
 
     /// The empty text, with the options with which it is read. `entities` maps entity names to their characters. `limit` is the reference
     /// expansion limit, in bytes: once the destinations and titles of references total `limit` bytes, no definition is looked up.
     pub fn new(alloc: Global, options: Options, entities: &'e E, limit: usize) -> Stream<'e, E>
-        ensures text { text_of result ≡ [] }
-        ensures settled { settled_of result ≡ [] }
-        ensures tail { tail_of result ≡ [] }
-        ensures options { options_of result ≡ shown_options options }
-        ensures entities { lookup_of E.replacement result ≡ E.replacement entities.entry.now }
-        ensures limit { result.limit ≡ limit }
-        ensures schemes { schemes_of result ≡ None }
-        ensures read { result.read ≡ 0 }
-        ensures good { IsStream E.replacement result }
+        ensures { Begins E.replacement result
+            (shown_options options) (E.replacement entities.entry.now) limit None }
     {
-        let text = String::new(alloc);
-        let settled = String::new(alloc);
-        let tail = String::new(alloc);
-        Stream {
-            text,
-            options,
-            entities,
-            limit,
-            schemes: None,
-            settled,
-            tail,
-            cut: 0,
-            read: 0,
-        }
+        Stream::empty(alloc, options, entities, limit, None)
     }
 
     /// The empty text, whose HTML is safe to show, also if the text comes from a stranger, as that of `to_safe_html` is. `further` lists further
@@ -101,20 +81,39 @@ impl<'e, E: EntityLookup> Stream<'e, E> {
         limit: usize,
         further: &str,
     ) -> Result<Stream<'e, E>, AllocError>
-        ensures text { IfOk result (λ stream. text_of stream ≡ []) }
-        ensures settled { IfOk result (λ stream. settled_of stream ≡ []) }
-        ensures tail { IfOk result (λ stream. tail_of stream ≡ []) }
-        ensures options { IfOk result (λ stream. options_of stream ≡ shown_options options) }
-        ensures entities { IfOk result (λ stream. lookup_of E.replacement stream ≡ E.replacement entities.entry.now) }
-        ensures limit { IfOk result (λ stream. stream.limit ≡ limit) }
-        ensures schemes { IfOk result (λ stream. schemes_of stream ≡ Some further.now) }
-        ensures read { IfOk result (λ stream. stream.read ≡ 0) }
-        ensures good { IfOk result (IsStream E.replacement) }
+        ensures { IfOk result (λ stream. Begins E.replacement stream
+            (shown_options options) (E.replacement entities.entry.now) limit (Some further.now)) }
     {
-        let own = String::from_str(alloc, further)?;
-        let mut stream = Stream::new(alloc, options, entities, limit);
-        stream.schemes = Some(own);
-        Ok(stream)
+        let schemes = String::from_str(alloc, further)?;
+        Ok(Stream::empty(alloc, options, entities, limit, Some(schemes)))
+    }
+
+    /// The empty text. Its HTML is safe if there are `schemes`.
+    fn empty(
+        alloc: Global,
+        options: Options,
+        entities: &'e E,
+        limit: usize,
+        schemes: Option<String>,
+    ) -> Stream<'e, E>
+        ensures { Begins E.replacement result
+            (shown_options options) (E.replacement entities.entry.now) limit
+            (option_map string_bytes schemes) }
+    {
+        let text = String::new(alloc);
+        let settled = String::new(alloc);
+        let tail = String::new(alloc);
+        Stream {
+            text,
+            options,
+            entities,
+            limit,
+            schemes,
+            settled,
+            tail,
+            cut: 0,
+            read: 0,
+        }
     }
 
     /// The text so far: all chunks, joined.

@@ -2,7 +2,6 @@ use Rattle.std.proofs.Common.{◌≡◌, ap, subst}
 use Rattle.std.proofs.lemmas.Result.{IfOk-weaker}
 use Rattle.std.specs.Prelude.{IfSome, None, string_bytes}
 use Rattle.cmark_block_model.specs.Tails.{document_after}
-use Rattle.cmark_grammar.specs.Headline.{profile_within}
 use Rattle.cmark_parser.specs.Filters.{filtered_by}
 use Rattle.cmark_parser.specs.Parsing.{callback_of}
 use Rattle.cmark_parser.specs.Tails.{ReadsUndefined}
