@@ -422,8 +422,8 @@ var pulldownCmark = ((records) => {
      * no further text changes, as long as the text defines neither a link nor a footnote. `tail` is the HTML of the other blocks.
      *
      * A refresh reads the lines after the settled blocks. It reads the whole text in three cases: the text defines a link or a footnote, the
-     * options enable metadata or definition lists, or the text is one block. From the first table on, nothing is settled. `safe` and `schemes`
-     * are as for `html`, and `expansionLimit` too, which is 100,000 by default.
+     * options enable metadata or definition lists, or the text is one block. `isDue` says when a refresh is worth it. `safe` and `schemes` are
+     * as for `html`, and `expansionLimit` too, which is 100,000 by default.
      */
     class Stream {
       #bits;
@@ -432,6 +432,8 @@ var pulldownCmark = ((records) => {
       #chunks = new Chunks();
       /** The byte offset after the settled blocks. */
       #cut = 0;
+      /** The bytes of the text at the last refresh that returned. */
+      #read = 0;
       #settled = "";
       #added = "";
       #tail = "";
@@ -473,6 +475,15 @@ var pulldownCmark = ((records) => {
       }
 
       /**
+       * Whether the text has grown enough for the next refresh: the lines that a refresh reads by more than a sixteenth, and the whole text,
+       * which a refresh copies and checks, by more than a thousandth. A program that refreshes only then, and once at the end, reads at most
+       * 18 bytes for each byte of the text, whatever the text is.
+       */
+      get isDue() {
+        return Math.floor((this.#read - this.#cut) / 16) + Math.floor(this.#read / 1024) < this.#chunks.bytes.length - this.#read;
+      }
+
+      /**
        * Appends a chunk to the text: a string, or bytes in UTF-8. It may end inside a character, which the next chunk continues. Nothing is
        * read: the HTML stays as it is until the next refresh. If an error is thrown, the text is as before.
        */
@@ -494,7 +505,7 @@ var pulldownCmark = ((records) => {
         const [added, tail] = instance.answer(call, data, [this.#bits, ...schemes, this.#limit, cut, settled], htmlRoom(data.length - this.#cut), parts);
         const isAnew = cut.value === 0 && this.#settled !== "";
         this.#settled = cut.value === 0 ? "" : this.#settled + added;
-        [this.#cut, this.#added, this.#tail] = [cut.value, added, tail];
+        [this.#cut, this.#read, this.#added, this.#tail] = [cut.value, data.length, added, tail];
         return isAnew ? Change.ANEW : Change.GROWN;
       }
     };

@@ -147,6 +147,11 @@ export declare class Stream {
   readonly html: string;
   /** Whether the chunks end inside a character. If no more arrive, the text was cut off. */
   readonly endsInsideCharacter: boolean;
+  /**
+   * Whether the text has grown enough for the next refresh. A program that refreshes only then, and once at the end, reads at most 18 bytes for
+   * each byte of the text, whatever the text is.
+   */
+  readonly isDue: boolean;
   /** Appends a chunk: a string, or bytes in UTF-8. It may end inside a character. The HTML stays as it is until the next refresh. */
   push(chunk: string | Uint8Array): void;
   /** Reads the lines after the settled blocks. If an error is thrown, the text and its HTML are as before. */

@@ -253,8 +253,23 @@ const growOne = (draw) => {
     judge(`the text ${what}`, stream.text, text);
     judge(`the HTML of ${what}`, stream.html, html(text, bits, { expansionLimit: wishes.safe ? null : 100_000, ...wishes }));
     judge(`the settled HTML of ${what}`, [stream.settled, stream.settled + stream.tail, isAnew && page !== ""], [page, stream.html, false]);
+    judge(`whether a refresh is due after ${what}`, stream.isDue, false);
   }
   return counts;
+};
+
+/** One block of 20,000 bytes in chunks of 10, read by refreshes that are due: at most 18 bytes are read for each byte. */
+const tryDue = () => {
+  const stream = new Stream(), chunk = "words and ";
+  let calls = 0, read = 0;
+  for (let count = 1; count <= 2000; count++) {
+    stream.push(chunk);
+    if (!stream.isDue && count < 2000) continue;
+    stream.refresh();
+    calls += 1;
+    read += chunk.length * count;
+  }
+  judge("refreshes that are due", [read <= 18 * stream.text.length, calls > 50 && calls < 200, stream.html], [true, true, html(stream.text)]);
 };
 
 /** Texts that grow: random ones, and wrong chunks, after which the text and its HTML are as before. */
@@ -295,5 +310,6 @@ tryMade();
 tryLinks();
 tryTexts();
 tryStreams();
+tryDue();
 const answers = { cases: cases.map(answerFor), filters: filters.map(filtered), damaged: damaged.map(renderedOrNot), entities: entities(), version: calls.version() };
 process.stdout.write(JSON.stringify({ answers, faults }));

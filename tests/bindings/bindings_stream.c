@@ -142,6 +142,20 @@ static void expect(const char *text, uint32_t options, const char *schemes, size
     }
 }
 
+/* Calls are due if the part after the cut has grown by more than a sixteenth, and the whole text by more than a thousandth. */
+static void due(void)
+{
+    static const size_t yes[][3] = {{0, 0, 1}, {0, 15, 16}, {0, 16, 18}, {0, 160, 171}, {150, 160, 161}, {0, 1600, 1702}, {9990, 10240, 10266}},
+                        no[][3] = {{0, 0, 0}, {7, 7, 7}, {0, 16, 17}, {0, 160, 170}, {0, 1600, 1701}, {9990, 10240, 10265}};
+    size_t i;
+    for (i = 0; i < sizeof yes / sizeof *yes; i++)
+        if (!pcm_is_due(yes[i][0], yes[i][1], yes[i][2]))
+            stop("a call that is due is not", NULL);
+    for (i = 0; i < sizeof no / sizeof *no; i++)
+        if (pcm_is_due(no[i][0], no[i][1], no[i][2]))
+            stop("a call is due too early", NULL);
+}
+
 /* Each status, and what the calls settle of a known text. */
 static void statuses(void)
 {
@@ -178,6 +192,7 @@ int main(int words, char **word)
     size_t i, j, k, settled = 0;
     if (words == 2 && !strcmp(word[1], "statuses")) {
         statuses();
+        due();
         return 0;
     }
     read_records();

@@ -85,6 +85,7 @@ class Trial:
             text = given.decode(errors="ignore")
             self.judge(f"the text of {given!r}", (stream.text, stream.ends_inside_character), (text, not is_whole(given)))
             self.judge(f"the HTML of {given!r}", stream.html, whole(text))
+            self.judge(f"whether a refresh is due after {given!r}", stream.is_due, False)
             self.settled += bool(page)
 
     def refreshed(self, stream, page):
@@ -163,6 +164,19 @@ def pushes_in_thread(package):
     return False
 
 
+def due_refreshes(package):
+    """One block of 20,000 bytes in chunks of 10, read by refreshes that are due. Returns whether the number of bytes that they read is as said,
+    whether some refreshes were not due, and whether the HTML is that of the whole text."""
+    stream, chunk, calls, read = package.Stream(), "words and ", 0, 0
+    for count in range(1, 2001):
+        stream.push(chunk)
+        if stream.is_due or count == 2000:
+            stream.refresh()
+            calls += 1
+            read += len(chunk) * count
+    return read <= 18 * len(stream.text), 50 < calls < 200, stream.html == package.html(stream.text)
+
+
 def faults(package, pushes=PUSHES, seed=1):
     """The faults of the package's Stream, for random texts of this number of pushes and for wrong calls."""
     trial = Trial(package, seed)
@@ -172,6 +186,7 @@ def faults(package, pushes=PUSHES, seed=1):
     trial.judge("wrong calls", wrong_calls(package), WRONG)
     trial.judge("pushes during a refresh", pushes_in_thread(package), True)
     stream = package.Stream()
+    trial.judge("refreshes that are due", due_refreshes(package), (True, True, True))
     trial.judge("an empty text", (stream.refresh(), stream.text, stream.html), (package.Change.GROWN, "", ""))
     print(f"bindings: Python: {trial.pushes} pushes to texts that grow, {trial.settled} times with settled HTML, which was dropped {trial.anew} times")
     return trial.faults

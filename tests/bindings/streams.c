@@ -1,9 +1,10 @@
 /* A text that grows by chunks, read by pcm_stream or rendered anew: streams LIBRARY CALL CHUNK EVERY OPTIONS, with the text on standard input.
 
-   CALL is `stream` (pcm_stream), `whole` (pcm_html_within of the whole text so far) or `none` (no call). A chunk has CHUNK bytes, or up to
-   three more so that it ends between characters. Only one in EVERY chunks is followed by a call. Writes the HTML of the whole text on standard
-   output. Writes the number of calls, the bytes that they read, and the last cut on standard error. A call reads the bytes from the cut on that it is given.
-   tests/bindings/streams and tests/speed/growing build and run it. */
+   CALL is `stream` (pcm_stream), `due` (pcm_stream if pcm_is_due, and at the end), `whole` (pcm_html_within of the whole text so far) or
+   `none` (no call). A chunk has CHUNK bytes, or up to three more so that it ends between characters. Only one in EVERY chunks is followed by
+   a call. Writes the HTML of the whole text on standard output. Writes the number of calls, the bytes that they read, and the last cut on
+   standard error. A call reads the bytes from the cut on that it is given. tests/bindings/streams and tests/speed/growing build and run it. */
+#include "../../include/pulldown_cmark.h"
 #include <dlfcn.h>
 #include <stdint.h>
 #include <stdio.h>
@@ -16,7 +17,7 @@ typedef uint32_t (*whole_call)(const uint8_t *, size_t, uint32_t, size_t, uint8_
 enum { LIMIT = 100000 };
 
 static uint8_t text[1 << 22], room[1 << 24], html[1 << 24];
-static size_t html_len, tail_at, cut, calls, bytes_read;
+static size_t html_len, tail_at, cut, read_len, calls, bytes_read;
 
 /* The end of the chunk that begins at `from`: after a whole character. */
 static size_t end_of(size_t from, size_t chunk, size_t len)
@@ -33,7 +34,9 @@ static int read_on(stream_call call, size_t len, uint32_t options)
     size_t settled, size, from = cut;
     if (call(text, len, options, LIMIT, &cut, &settled, room, sizeof room, &size))
         return 0;
+    calls++;
     bytes_read += len - from;
+    read_len = len;
     if (cut == 0)
         tail_at = 0;
     if (size > sizeof html - tail_at)
@@ -46,6 +49,7 @@ static int read_on(stream_call call, size_t len, uint32_t options)
 
 static int read_whole(whole_call call, size_t len, uint32_t options)
 {
+    calls++;
     bytes_read += len;
     return !call(text, len, options, LIMIT, html, sizeof html, &html_len);
 }
@@ -69,8 +73,9 @@ int main(int words, char **word)
         end = end_of(end, chunk, len);
         if (++number % every && end < len)
             continue;
-        calls += strcmp(word[2], "none") != 0;
         if (!strcmp(word[2], "stream") && !read_on(stream, end, options))
+            return 1;
+        if (!strcmp(word[2], "due") && (pcm_is_due(cut, read_len, end) || end == len) && !read_on(stream, end, options))
             return 1;
         if (!strcmp(word[2], "whole") && !read_whole(whole, end, options))
             return 1;

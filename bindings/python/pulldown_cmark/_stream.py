@@ -24,7 +24,7 @@ class Stream:
     The HTML is in two parts. ``settled`` is the HTML of blocks that no further text changes, as long as the text defines neither a link nor
     a footnote. ``tail`` is the HTML of the other blocks. A refresh reads the lines after the settled blocks; of the others it only checks
     that they are UTF-8. It reads the whole text in three cases: the text defines a link or a footnote, the options enable metadata or
-    definition lists, or the text is one block. From the first table on, nothing is settled.
+    definition lists, or the text is one block. ``is_due`` says when a refresh is worth it.
 
     The HTML is not safe to show if the text comes from a stranger; with ``safe=True`` it is safe. ``options``, ``safe`` and ``schemes`` are
     as for ``html``. Once the destinations and titles of references have ``expansion_limit`` bytes in all, further references stay text.
@@ -39,7 +39,7 @@ class Stream:
     A stream is for one thread at a time. Raises ``ValueError`` for bits that are no options and for a limit below 0.
     """
 
-    __slots__ = ("_bits", "_schemes", "_limit", "_text", "_decoder", "_cut", "_pieces", "_added", "_tail")
+    __slots__ = ("_bits", "_schemes", "_limit", "_text", "_decoder", "_cut", "_read", "_pieces", "_added", "_tail")
 
     def __init__(self, *, options: int = Options.NONE, safe: bool = False, schemes: Iterable[str] = (), expansion_limit: int = 100_000) -> None:
         self._bits = bits_of(options)
@@ -50,6 +50,8 @@ class Stream:
         self._decoder = codecs.getincrementaldecoder("utf-8")()
         # The byte offset after the settled blocks.
         self._cut = 0
+        # The bytes of the text at the last refresh that returned.
+        self._read = 0
         # The settled HTML: the parts that refreshes have added.
         self._pieces: List[str] = []
         self._added = ""
@@ -87,6 +89,15 @@ class Stream:
         """Whether the bytes that were pushed end inside a character. If no more arrive, the text was cut off."""
         return bool(self._decoder.getstate()[0])
 
+    @property
+    def is_due(self) -> bool:
+        """Whether the text has grown enough for the next refresh: the lines that a refresh reads by more than a sixteenth, and the whole text,
+        which a refresh checks, by more than a thousandth.
+
+        A program that refreshes only then, and once at the end, reads at most 18 bytes for each byte of the text, whatever the text is.
+        """
+        return (self._read - self._cut) // 16 + self._read // 1024 < len(self._text) - self._read
+
     def push(self, chunk: Text) -> None:
         """Appends a chunk to the text. Nothing is read: the HTML stays as it is until the next refresh.
 
@@ -117,5 +128,5 @@ class Stream:
             self._pieces = []
         elif added:
             self._pieces.append(added)
-        self._cut, self._added, self._tail = part.cut, added, tail
+        self._cut, self._read, self._added, self._tail = part.cut, len(self._text), added, tail
         return change

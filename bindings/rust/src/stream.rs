@@ -18,7 +18,7 @@ pub enum Change {
 /// The HTML is in two parts. [`settled`](Stream::settled) is the HTML of blocks that no further text changes, as long as the text defines
 /// neither a link nor a footnote. [`tail`](Stream::tail) is the HTML of the other blocks. A refresh reads the lines after the settled blocks;
 /// of the others it only checks that they are UTF-8. It reads the whole text in three cases: the text defines a link or a footnote, the
-/// options enable metadata or definition lists, or the text is one block. From the first table on, nothing is settled.
+/// options enable metadata or definition lists, or the text is one block. [`is_due`](Stream::is_due) says when a refresh is worth it.
 ///
 /// ```
 /// use pulldown_cmark::{Change, Options, Stream};
@@ -49,6 +49,8 @@ pub struct Stream {
     schemes: Option<String>,
     /// The byte offset in the text after the settled blocks.
     cut: usize,
+    /// The bytes of the text at the last successful refresh.
+    read: usize,
     settled: String,
     /// The byte offset in `settled` at which the HTML of the last refresh begins.
     added: usize,
@@ -110,6 +112,7 @@ impl Stream {
             limit,
             schemes: None,
             cut: 0,
+            read: 0,
             settled: String::new(),
             added: 0,
             tail: String::new(),
@@ -175,6 +178,30 @@ impl Stream {
     /// Whether the bytes that were pushed end inside a character. If no more arrive, the text was cut off.
     pub fn ends_inside_character(&self) -> bool {
         self.begun.len > 0
+    }
+
+    /// Whether the text has grown enough for the next refresh: the lines that a refresh reads by more than a sixteenth, and the whole text,
+    /// which a refresh checks, by more than a thousandth.
+    ///
+    /// A program that refreshes only then, and once at the end, reads at most 18 bytes for each byte of the text, whatever the text is.
+    ///
+    /// ```
+    /// use pulldown_cmark::{Options, Stream};
+    ///
+    /// let (mut stream, mut refreshes) = (Stream::new(Options::empty()), 0);
+    /// for _ in 0..1000 {
+    ///     stream.push("one block ")?;
+    ///     if stream.is_due() {
+    ///         stream.refresh()?;
+    ///         refreshes += 1;
+    ///     }
+    /// }
+    /// stream.refresh()?;
+    /// assert!(refreshes < 100);
+    /// # Ok::<(), pulldown_cmark::Error>(())
+    /// ```
+    pub fn is_due(&self) -> bool {
+        (self.read - self.cut) / 16 + self.read / 1024 < self.text.len() - self.read
     }
 
     /// Appends a chunk to the text. Nothing is read: the HTML stays as it is until the next refresh.
@@ -246,6 +273,7 @@ impl Stream {
         part.html.drain(..part.settled);
         self.tail = part.html;
         self.cut = part.cut;
+        self.read = self.text.len();
         Ok(if is_anew { Change::Anew } else { Change::Grown })
     }
 }

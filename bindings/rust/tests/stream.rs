@@ -118,6 +118,7 @@ fn compare(
         assert_eq!(stream.ends_inside_character(), !text.is_char_boundary(at));
         assert_eq!(stream.html()?, whole(stream.text())?, "{:?}", stream.text());
         assert_eq!(stream.settled(), page);
+        assert!(!stream.is_due());
         assert_eq!(stream.html()?, page.clone() + stream.tail());
     }
     Ok((kept, dropped))
@@ -148,6 +149,24 @@ fn random_texts_have_their_html() -> Result<(), Error> {
         dropped += counts.1;
     }
     assert!(kept > 300 && dropped > 5, "{kept}, {dropped}");
+    Ok(())
+}
+
+/// One block in chunks of ten bytes, read by refreshes that are due: at most 18 bytes are read for each byte.
+#[test]
+fn refreshes_that_are_due_read_little() -> Result<(), Error> {
+    let (mut stream, mut calls, mut read) = (Stream::new(Options::empty()), 0, 0);
+    for count in 1..=2000 {
+        stream.push("words and ")?;
+        if stream.is_due() || count == 2000 {
+            stream.refresh()?;
+            calls += 1;
+            read += stream.text().len();
+        }
+    }
+    assert!(read <= 18 * stream.text().len(), "{read}");
+    assert!((50..200).contains(&calls), "{calls}");
+    assert_eq!(stream.html()?, html::to_html(stream.text(), Options::empty())?);
     Ok(())
 }
 

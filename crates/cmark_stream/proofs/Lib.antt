@@ -1,4 +1,6 @@
+pub mod Offsets
 pub mod PartSteps
 pub mod RestSteps
 pub mod RestWrites
+pub mod SafeWriting
 pub mod StreamSteps

@@ -1,7 +1,6 @@
 -- The HTML of a growing text from a cut on.
-use Rattle.std.proofs.Common.{◌≡◌, inl, inr, ℕ, zero, suc, ◌<◌, Bool, true, false, ◌||◌, List, [], ◌∷◌, ◌++◌, length, take, drop, Option, None, refl, sym, ap, ◌∙◌, subst, append_assoc, append-nil, arith, length-append}
+use Rattle.std.proofs.Common.{◌≡◌, inl, inr, ℕ, zero, suc, ◌<◌, false, ◌||◌, List, [], ◌∷◌, ◌++◌, take, Option, None, refl, sym, ap, ◌∙◌, subst, append_assoc, append-nil, arith}
 use Rattle.std.proofs.lemmas.List.{map-append, take-append-le, take-take}
-use Rattle.std.proofs.Math.Seq.{take-append_seam}
 use Rattle.std.specs.Prelude.{IsCharBoundary, IsUtf8}
 use Rattle.cmark_block_model.specs.BlocksModel as blocks_model
 use Rattle.cmark_block_model.specs.DocumentModel.{document}
@@ -29,7 +28,7 @@ use Rattle.cmark_stream_model.specs.Settled.{IsSettledAt}
 use Rattle.cmark_stream_model.proofs.SettledCuts.{settled-stays-at, stays-joined}
 use Rattle.cmark_stream_model.proofs.SettledPieces.{front-joined}
 use Rattle.cmark_stream.specs.Rests.{AreReadAfter, IsPieceHtml, IsRestFrom, IsShownAlone, IsShownUpTo, IsTailHtml, kept_at}
-use Rattle.cmark_stream.proofs.StreamSteps.{boundary-grown}
+use Rattle.cmark_stream.proofs.Offsets.{boundary-grown}
 
 -- ## Two lists of events, if the writer is as at the beginning after the first
 
@@ -149,38 +148,31 @@ module _ (limit : ℕ) (options : Options) (lookup : Lookup) (filtered : Event �
   cut-is-joined : (cut : ℕ) → IsSettledAt options text cut → IsJoinedAt options lookup text cut
   cut-is-joined cut h = subst (λ t. IsJoinedAt options lookup t cut) (append-nil text) (stays-joined options text cut h lookup [])
 
-  settles-nothing : IsCharBoundary text 0 → (output : List ℕ) → IsShownUpTo read filtered text 0 (take 0 output)
-  settles-nothing start output = subst (IsShownUpTo read filtered text 0) (sym (take-none output)) (starts-shown read filtered text start)
-
-  pub rest-same : (from : ℕ) (output other : List ℕ) (settled size cut at : ℕ) → output ≡ other → settled ≡ size → cut ≡ at → IsRestFrom filtered limit text options lookup from other size at
-      → IsRestFrom filtered limit text options lookup from output settled cut
-  rest-same from output other settled size cut at e f g h =
-      subst (λ l. IsRestFrom filtered limit text options lookup from l settled cut) (sym e)
-      (subst (λ n. IsRestFrom filtered limit text options lookup from other n cut) (sym f) (subst (IsRestFrom filtered limit text options lookup from other size) (sym g) h))
+  pub rest-same : (from : ℕ) (settled other tail : List ℕ) (cut at : ℕ) → settled ≡ other → cut ≡ at → IsRestFrom filtered limit text options lookup from other tail at → IsRestFrom filtered limit text options lookup from settled tail cut
+  rest-same from settled other tail cut at e f h =
+      subst (λ l. IsRestFrom filtered limit text options lookup from l tail cut) (sym e) (subst (IsRestFrom filtered limit text options lookup from other tail) (sym f) h)
 
   -- the whole text is read
-  pub rest-whole : (from : ℕ) (output : List ℕ) → IsCharBoundary text 0 → IsHtmlBy limit filtered text options lookup output → IsRestFrom filtered limit text options lookup from output 0 0
-  rest-whole from output start h = record {
-    within = omega arith;
+  pub rest-whole : (from : ℕ) (tail : List ℕ) → IsCharBoundary text 0 → IsHtmlBy limit filtered text options lookup tail → IsRestFrom filtered limit text options lookup from [] tail 0
+  rest-whole from tail start h = record {
     boundary = start;
     order = inl refl;
     written = (h.events, h.output_is);
     whole = λ z. (refl, h);
     shows = λ shown k. h;
-    settles = λ shown k. settles-nothing start output;
+    settles = λ shown k. starts-shown read filtered text start;
   }
 
   -- no further block is settled
-  pub rest-stays : (from : ℕ) (output : List ℕ) → IsCharBoundary text from → IsTailHtml read filtered text from output → IsRestFrom filtered limit text options lookup from output 0 from
-  rest-stays zero output start t = rest-whole zero output start (rest-shown limit options lookup filtered text 0 (cut-is-joined 0 (inl refl)) [] output (starts-shown read filtered text start).html t)
-  rest-stays (suc n) output begins t = record {
-    within = omega arith;
+  pub rest-stays : (from : ℕ) (tail : List ℕ) → IsCharBoundary text from → IsTailHtml read filtered text from tail → IsRestFrom filtered limit text options lookup from [] tail from
+  rest-stays zero tail start t = rest-whole zero tail start (rest-shown limit options lookup filtered text 0 (cut-is-joined 0 (inl refl)) [] tail (starts-shown read filtered text start).html t)
+  rest-stays (suc n) tail begins t = record {
     boundary = begins;
     order = inr (omega arith);
     written = (t.events, t.tail_is);
     whole = λ z. absurd (omega (arith, z));
-    shows = λ shown k. rest-shown limit options lookup filtered text (suc n) (cut-is-joined (suc n) k.is_settled) shown output k.html t;
-    settles = λ shown k. subst (IsShownUpTo read filtered text (suc n)) (sym (ap (λ l. shown ++ l) (take-none output) ∙ append-nil shown)) k;
+    shows = λ shown k. rest-shown limit options lookup filtered text (suc n) (cut-is-joined (suc n) k.is_settled) shown tail k.html t;
+    settles = λ shown k. subst (IsShownUpTo read filtered text (suc n)) (sym (append-nil shown)) k;
   }
 
   module _ (from cut : ℕ) (less : from < cut) (stays : IsSettledAt options text from → IsSettledAt options text cut) (piece tail : List ℕ) (p : IsPieceHtml read filtered (take cut text) from piece) (t : IsTailHtml read filtered text cut tail) where
@@ -200,18 +192,16 @@ module _ (limit : ℕ) (options : Options) (lookup : Lookup) (filtered : Event �
         ∙ sym (html-both (filtered_of filtered p.events) (filtered_of filtered t.events) p.after_is) ∙ ap html (sym (both-filtered filtered p.events t.events))
 
     -- the blocks up to the cut are settled
-    pub rest-grows : IsCharBoundary text cut → IsRestFrom filtered limit text options lookup from (piece ++ tail) (length piece) cut
+    pub rest-grows : IsCharBoundary text cut → IsRestFrom filtered limit text options lookup from piece tail cut
     rest-grows boundary = record {
-      within = let e = length-append piece tail in omega (arith, e);
       boundary = boundary;
       order = inr (omega (arith, less));
       written = (p.events ++ t.events, all-written);
       whole = λ z. absurd (omega (arith, z, less));
       shows = λ shown k. subst (λ l. IsHtmlBy limit filtered text options lookup (l ++ (piece ++ tail))) (sym (kept shown)) (all-shown shown k);
       settles = λ shown k.
-          subst (λ l. IsShownUpTo read filtered text cut (l ++ take (length piece) (piece ++ tail))) (sym (kept shown))
-          (subst (λ l. IsShownUpTo read filtered text cut (shown ++ l)) (sym (take-append_seam piece tail))
-          (record { boundary = boundary; is_settled = stays k.is_settled; html = settled-shown shown k }));
+          subst (λ l. IsShownUpTo read filtered text cut (l ++ piece)) (sym (kept shown))
+          (record { boundary = boundary; is_settled = stays k.is_settled; html = settled-shown shown k });
     }
       where
         kept : (shown : List ℕ) → kept_at cut shown ≡ shown

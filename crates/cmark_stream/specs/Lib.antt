@@ -1,4 +1,2 @@
-pub mod Parts
 pub mod Rests
 pub mod Streams
-pub mod Writes

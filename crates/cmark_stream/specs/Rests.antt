@@ -1,5 +1,5 @@
 -- The HTML of a growing text from a cut on, for a caller that keeps nothing but the text, the HTML and the cut.
-use Rattle.std.specs.Prelude.{◌≡◌, ◌⊎◌, ◌≤◌, ℕ, zero, suc, false, List, [], ◌++◌, length, take, IsCharBoundary, None, Option}
+use Rattle.std.specs.Prelude.{◌≡◌, ◌⊎◌, ◌≤◌, ℕ, zero, suc, false, List, [], ◌++◌, take, IsCharBoundary, IsTrue, None, Option, string_bytes}
 use Rattle.cmark_block_model.specs.DocumentModel.{document}
 use Rattle.cmark_block_model.specs.Tails.{document_after}
 use Rattle.cmark_grammar.specs.Answers.{Lookup}
@@ -17,6 +17,7 @@ use Rattle.cmark_stream_model.specs.Continued.{reader_with}
 use Rattle.cmark_stream_model.specs.Settled.{IsSettledAt}
 use Rattle.cmark_stream_model.specs.Undefined.{HasNoDefinitions, IsReadAlone}
 use Rattle.cmark_values.specs.declared.text.CowStr.{CowStr}
+use Rattle.cmark_stream.specs.declared.part.Part.{Part}
 
 -- `filtered` replaces each event
 module _ (profile : Profile) (filtered : Event → Event) where
@@ -62,27 +63,24 @@ module _ (filtered : Event → Event) (limit : ℕ) (text : List ℕ) (options :
   abbrev pub rest_profile : Profile
   rest_profile = profile_within limit options lookup false
 
-  -- What a call writes for the lines after an offset: the output, how many bytes of it are settled, and the new cut. `shown` is the settled
-  -- HTML that the caller has, if the offset is 0 or a cut that an earlier call returned:
+  -- What a call returns for the lines after an offset: the HTML of the blocks before a new cut, which are settled, and that of the others.
+  -- `shown` is the settled HTML that the caller has, if the offset is 0 or a cut that an earlier call returned:
   --
-  -- - within, boundary, order: the settled bytes are a part of the output; the new cut is 0 or not before the offset;
-  -- - written: whatever the offset is, the output is the HTML of replaced events;
-  -- - whole: at the cut 0 it is the HTML of the text, and nothing is settled;
-  -- - shows: what the caller keeps, followed by the output, is the HTML of the text;
-  -- - settles: with the settled bytes it is the HTML of the bytes before the new cut
-  pub record IsRestFrom (from : ℕ) (output : List ℕ) (settled cut : ℕ) : Type 0 where
-    pub within : settled ≤ length output
+  -- - boundary, order: the new cut is between two characters, and 0 or not before the offset;
+  -- - written: whatever the offset is, both parts are the HTML of replaced events;
+  -- - whole: at the cut 0 the tail is the HTML of the text, and nothing is settled;
+  -- - shows: what the caller keeps, followed by both parts, is the HTML of the text;
+  -- - settles: with the settled part it is the HTML of the bytes before the new cut
+  pub record IsRestFrom (from : ℕ) (settled tail : List ℕ) (cut : ℕ) : Type 0 where
     pub boundary : IsCharBoundary text cut
     pub order : (cut ≡ 0) ⊎ (from ≤ cut)
-    pub written : (events : List Ranged) × (output ≡ html (filtered_of filtered events))
-    pub whole : cut ≡ 0 → (settled ≡ 0) × IsHtmlBy limit filtered text options lookup output
-    pub shows : (shown : List ℕ) → IsShownUpTo rest_profile filtered text from shown → IsHtmlBy limit filtered text options lookup (kept_at cut shown ++ output)
-    pub settles : (shown : List ℕ) → IsShownUpTo rest_profile filtered text from shown
-        → IsShownUpTo rest_profile filtered text cut (kept_at cut shown ++ take settled output)
+    pub written : (events : List Ranged) × (settled ++ tail ≡ html (filtered_of filtered events))
+    pub whole : cut ≡ 0 → (settled ≡ []) × IsHtmlBy limit filtered text options lookup tail
+    pub shows : (shown : List ℕ) → IsShownUpTo rest_profile filtered text from shown → IsHtmlBy limit filtered text options lookup (kept_at cut shown ++ (settled ++ tail))
+    pub settles : (shown : List ℕ) → IsShownUpTo rest_profile filtered text from shown → IsShownUpTo rest_profile filtered text cut (kept_at cut shown ++ settled)
 
--- what the functions wrote of the events that a parser had left, by a writer as at the beginning
 module _ {E F : Type 0} (Says : F → BrokenLink → Option (CowStr × CowStr) → F → Type 0) (replacement : E → Lookup) (filtered : Event → Event) where
-  -- the HTML of all of them
+  -- all events that the parser had left were returned, with the questions that were asked, and this is the HTML of their replacements
   pub record WritesTail (old new : Parser E F) (tail : List ℕ) : Type 0 where
     pub exchanges : List Exchange
     pub events : List Ranged
@@ -90,11 +88,12 @@ module _ {E F : Type 0} (Says : F → BrokenLink → Option (CowStr × CowStr) �
     pub asks : Asks Says old exchanges new
     pub tail_is : tail ≡ html (filtered_of filtered events)
 
-  -- and the writer is as at the beginning after them
+  -- and after it the writer is as at the beginning
   pub record WritesPiece (old new : Parser E F) (piece : List ℕ) : Type 0 where
-    pub exchanges : List Exchange
-    pub events : List Ranged
-    pub left : Remains replacement old exchanges events
-    pub asks : Asks Says old exchanges new
-    pub piece_is : piece ≡ pieces (filtered_of filtered events)
-    pub after_is : moved_all at_line_start (filtered_of filtered events) ≡ at_line_start
+    pub written : WritesTail old new piece
+    pub after_is : moved_all at_line_start (filtered_of filtered written.events) ≡ at_line_start
+
+  -- and the part says whether the writer is as at the beginning after it
+  pub record WritesPart (old new : Parser E F) (part : Part) : Type 0 where
+    pub written : WritesTail old new (string_bytes part.html)
+    pub after_is : IsTrue part.ends_at_beginning → moved_all at_line_start (filtered_of filtered written.events) ≡ at_line_start

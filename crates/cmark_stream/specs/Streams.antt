@@ -1,21 +1,24 @@
 -- A text that grows, with its HTML.
-use Rattle.std.specs.Prelude.{◌≡◌, ℕ, ◌≤◌, false, List, [], ◌++◌, length, take, IsCharBoundary, string_bytes, Result, Ok, Err}
+use Rattle.std.specs.Prelude.{◌≡◌, ℕ, ◌-◌, ◌*◌, ◌≤◌, ◌<◌, false, List, [], ◌++◌, length, string_bytes, Option, None, Some, option_map, Result, Ok, Err}
 use Rattle.std.specs.declared.alloc.AllocError.{AllocError}
-use Rattle.cmark_block_model.specs.DocumentModel.{document}
 use Rattle.cmark_grammar.specs.Answers.{Lookup}
-use Rattle.cmark_grammar.specs.Headline.{IsHtmlWithin, profile_within}
-use Rattle.cmark_grammar.specs.Html.{Writing}
+use Rattle.cmark_grammar.specs.Event.{Event}
+use Rattle.cmark_grammar.specs.Headline.{profile_within}
 use Rattle.cmark_grammar.specs.Options.{Options}
 use Rattle.cmark_grammar.specs.SpanDocuments.{Profile}
-use Rattle.cmark_html.specs.Pauses.{paused}
-use Rattle.cmark_stream_model.specs.Settled.{IsSettledAt}
-use Rattle.cmark_stream_model.specs.Undefined.{HasNoDefinitions}
+use Rattle.cmark_parser.specs.Rendering.{IsHtmlBy}
+use Rattle.cmark_safe.specs.SafeEvents.{safe}
 use Rattle.cmark_values.specs.Shown.{shown_options}
-use Rattle.cmark_stream.specs.Parts.{IsSettledHtml}
+use Rattle.cmark_stream.specs.Rests.{IsRestFrom, IsShownUpTo}
+use Rattle.cmark_stream.specs.declared.rest.Rest.{Rest}
 use Rattle.cmark_stream.specs.declared.stream.Change.{Change}
 use Rattle.cmark_stream.specs.declared.stream.Change.TheVariants.{Grown, Anew}
-use Rattle.cmark_stream.specs.declared.stream.Piece.{Piece}
 use Rattle.cmark_stream.specs.declared.stream.Stream.{Stream}
+
+-- the events as they are or, with further schemes, in their safe forms
+abbrev pub filter_for : (schemes : Option (List ℕ)) → Event → Event
+filter_for None event = event
+filter_for (Some further) event = safe further event
 
 module _ {E : Type 0} where
   -- the text so far
@@ -24,6 +27,13 @@ module _ {E : Type 0} where
 
   abbrev pub options_of : Stream E → Options
   options_of stream = shown_options stream.options
+
+  -- the further schemes, if the HTML is safe
+  abbrev pub schemes_of : Stream E → Option (List ℕ)
+  schemes_of stream = option_map string_bytes stream.schemes
+
+  abbrev pub filter_of : Stream E → Event → Event
+  filter_of stream = filter_for (schemes_of stream)
 
   -- the HTML of the settled blocks, and that of the other blocks
   abbrev pub settled_of : Stream E → List ℕ
@@ -38,17 +48,16 @@ module _ {E : Type 0} where
     pub options : options_of new ≡ options_of old
     pub entities : new.entities.now ≡ old.entities.now
     pub limit : new.limit ≡ old.limit
+    pub schemes : schemes_of new ≡ schemes_of old
 
 -- Grown: the settled HTML begins with the earlier settled HTML. Anew: nothing is settled
 abbrev pub Tells : Change → (earlier now : List ℕ) → Type 0
 Tells Grown earlier now = (more : List ℕ) × (now ≡ earlier ++ more)
 Tells Anew earlier now = now ≡ []
 
--- this HTML is that of the bytes before this offset, which is the beginning of the text or a settled cut, and the writer is in this state there
-pub record IsCutAt (profile : Profile) (text : List ℕ) (cut : ℕ) (shown : List ℕ) (state : Writing) : Type 0 where
-  pub boundary : IsCharBoundary text cut
-  pub is_settled : IsSettledAt profile.options text cut
-  pub html : IsSettledHtml profile (take cut text) shown state
+-- the part of the text after the cut has grown by more than a sixteenth, since the text had `read` bytes
+abbrev pub IsDue : (cut read size : ℕ) → Type 0
+IsDue cut read size = read - cut < 16 * (size - read)
 
 -- `replacement` is the look-up that a value of E represents
 module _ {E : Type 0} (replacement : E → Lookup) where
@@ -58,31 +67,38 @@ module _ {E : Type 0} (replacement : E → Lookup) where
   abbrev pub profile_of : Stream E → Profile
   profile_of stream = profile_within stream.limit (options_of stream) (lookup_of stream) false
 
-  -- the settled HTML is that of the bytes before the last cut. The cut was found when the text had `seen` bytes
+  -- the settled HTML is that of the bytes before the cut, and the last refresh read `read` bytes
   pub record IsStream (stream : Stream E) : Type 0 where
-    pub start : IsCharBoundary (text_of stream) 0
-    pub cut : IsCutAt (profile_of stream) (text_of stream) stream.cut (settled_of stream) (paused stream.pause)
-    pub order : stream.cut ≤ stream.seen
-    pub within : stream.seen ≤ length (text_of stream)
-    pub seen : IsSettledAt (options_of stream) (take stream.seen (text_of stream)) stream.cut
+    pub shown : IsShownUpTo (profile_of stream) (filter_of stream) (text_of stream) stream.cut (settled_of stream)
+    pub opened : stream.cut ≤ stream.read
+    pub unread : stream.read ≤ length (text_of stream)
 
-  -- with this HTML of the settled blocks and of the others, the text has the HTML of its reading
-  abbrev pub ShowsAfter : Stream E → (settled tail : List ℕ) → Type 0
-  ShowsAfter stream settled tail = IsHtmlWithin stream.limit (text_of stream) (options_of stream) (lookup_of stream) (settled ++ tail)
+  -- the empty text, with these settings
+  pub record Begins (stream : Stream E) (settings : Options) (known : Lookup) (most : ℕ) (further : Option (List ℕ)) : Type 0 where
+    pub text : text_of stream ≡ []
+    pub settled : settled_of stream ≡ []
+    pub tail : tail_of stream ≡ []
+    pub options : options_of stream ≡ settings
+    pub entities : lookup_of stream ≡ known
+    pub limit : stream.limit ≡ most
+    pub schemes : schemes_of stream ≡ further
+    pub read : stream.read ≡ 0
+    pub good : IsStream stream
 
-  -- the text defines neither a link nor a footnote
-  abbrev pub IsUndefined : Stream E → Type 0
-  IsUndefined stream = HasNoDefinitions (document (text_of stream) (options_of stream) (lookup_of stream))
+  -- the HTML from the cut on
+  abbrev pub IsRest : Stream E → Rest → Type 0
+  IsRest stream rest = IsRestFrom (filter_of stream) stream.limit (text_of stream) (options_of stream) (lookup_of stream) stream.cut (string_bytes rest.settled) (string_bytes rest.tail) rest.cut
 
-  -- with this piece of HTML, the settled HTML is that of the bytes before a later cut
-  abbrev pub IsPiece : Stream E → Piece → Type 0
-  IsPiece stream piece = IsCutAt (profile_of stream) (text_of stream) piece.cut (settled_of stream ++ string_bytes piece.html) (paused piece.pause)
+  -- this is the HTML of the reading of the text
+  abbrev pub IsShown : Stream E → (output : List ℕ) → Type 0
+  IsShown stream output = IsHtmlBy stream.limit (filter_of stream) (text_of stream) (options_of stream) (lookup_of stream) output
 
   -- a refresh that did this: the text is the same, and has the HTML of its reading
   pub record Refreshed (old : Stream E) (change : Change) (new : Stream E) : Type 0 where
     pub keeps : KeepsText old new
-    pub shown : ShowsAfter old (settled_of new) (tail_of new)
+    pub shown : IsShown old (settled_of new ++ tail_of new)
     pub tells : Tells change (settled_of old) (settled_of new)
+    pub read : new.read ≡ length (text_of new)
     pub good : IsStream new
 
   -- a refresh for which memory was refused: the text and the HTML are the same
@@ -90,6 +106,7 @@ module _ {E : Type 0} (replacement : E → Lookup) where
     pub keeps : KeepsText old new
     pub settled : settled_of new ≡ settled_of old
     pub tail : tail_of new ≡ tail_of old
+    pub unread : new.read ≡ old.read
     pub good : IsStream new
 
   abbrev pub Refreshes : Stream E → Result Change AllocError → Stream E → Type 0

@@ -1,9 +1,10 @@
-//! Laws for a caller that keeps a text, its HTML and a cut, as `read_from` wants them.
+//! Laws of texts that grow: of the cuts that a caller of `read_from` keeps, and of refreshes that are due.
 
-ghost use Rattle.std.specs.Prelude.{◌++◌, ℕ, List, [], IsUtf8};
+ghost use Rattle.std.specs.Prelude.{◌++◌, ◌-◌, ◌*◌, ◌<◌, ◌≤◌, ℕ, List, [], IsUtf8};
 ghost use Rattle.cmark_grammar.specs.Event.{Event};
 ghost use Rattle.cmark_grammar.specs.SpanDocuments.{Profile};
 ghost use Rattle.cmark_stream.specs.Rests.{IsShownUpTo};
+ghost use Rattle.cmark_stream.specs.Streams.{IsDue};
 
 /// The beginning of each text is a cut, and no HTML is before it.
 pub fn beginnings_are_cuts()
@@ -17,4 +18,10 @@ pub fn cuts_stay()
         (text more : List ℕ) (cut : ℕ) (shown : List ℕ)
         → IsUtf8 more → IsShownUpTo profile filtered text cut shown
         → IsShownUpTo profile filtered (text ++ more) cut shown }
+{}
+
+/// A refresh that is due reads fewer than 17 bytes for each byte that was pushed since the last one.
+pub fn due_refreshes_read_little()
+    ensures { (cut read size : ℕ) → cut ≤ read → read ≤ size → IsDue cut read size
+        → size - cut < 17 * (size - read) }
 {}

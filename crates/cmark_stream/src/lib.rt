@@ -1,7 +1,6 @@
 //! A text that grows at its end, with its HTML.
 #![tactic(auto)]
 
-mod defines;
 pub mod laws;
 mod part;
 mod rest;

@@ -1,6 +1,6 @@
 //! The HTML of a growing text from a cut on, for a caller that keeps nothing but the text and the cut.
 
-ghost use Rattle.std.specs.Prelude.{◌≡◌, ◌<◌, ◌++◌, IfOk, IfSome, IsCharBoundary, List, ℕ, false, length, string_bytes, take};
+ghost use Rattle.std.specs.Prelude.{◌≡◌, ◌<◌, IfOk, IfSome, IsCharBoundary, ℕ, false, string_bytes, take};
 ghost use Rattle.cmark_grammar.specs.Headline.{profile_within};
 ghost use Rattle.cmark_parser.specs.Filters.{filtered_by};
 ghost use Rattle.cmark_parser.specs.Parsing.{CanGo, IsReady};
@@ -11,7 +11,6 @@ ghost use Rattle.cmark_stream.specs.Rests.{IsPieceHtml, IsRestFrom, WritesPiece,
 
 use crate::part::{Part, write_part};
 use cmark_blocks::last_cut;
-use cmark_html::Pause;
 use cmark_inline::BrokenLinkCallback;
 use cmark_parser::{Filtering, Parser, parse_undefined, to_filtered_html};
 use cmark_text::{EntityLookup, Options};
@@ -20,11 +19,11 @@ use std::alloc::{AllocError, Global};
 /// The HTML of a text from a cut on.
 #[derive(Drop)]
 pub struct Rest {
-    /// The HTML of the lines from the cut on that was passed. If `cut` is 0, the HTML of the whole text.
-    pub html: String,
-    /// How many bytes of `html` are the HTML of the blocks before `cut`.
-    pub settled: usize,
-    /// The cut for the next call, a byte offset: `settled` bytes of the HTML are that of the blocks before it.
+    /// The HTML of the blocks between the cut that was passed and the new one.
+    pub settled: String,
+    /// The HTML of the blocks after the new cut. If this is 0, the HTML of the whole text.
+    pub tail: String,
+    /// The cut for the next call, a byte offset.
     pub cut: usize,
 }
 
@@ -45,7 +44,7 @@ pub fn read_from<E: EntityLookup>(
     requires begins { IsCharBoundary text.now from }
     ensures { IfOk result (λ rest. IsRestFrom (filtered_by filter.now) limit text.now
         (shown_options options) (E.replacement entities.now)
-        from (string_bytes rest.html) rest.settled rest.cut) }
+        from (string_bytes rest.settled) (string_bytes rest.tail) rest.cut) }
 {
     let found = parse_undefined(alloc, text, from, options, entities, limit)?;
     let Some(mut parser) = found else {
@@ -54,8 +53,8 @@ pub fn read_from<E: EntityLookup>(
     let cut = last_cut(alloc, text, from, options)?;
     let settled = settled_html(alloc, text, from, cut, options, entities, filter, limit)?;
     match settled {
-        Some(html) => read_after(alloc, text, cut, html, options, entities, filter, limit),
-        None => stay(alloc, from, &mut parser, filter),
+        Some(html) => read_after(alloc, text, html, cut, options, entities, filter, limit),
+        None => with_tail(alloc, String::new(alloc), from, &mut parser, filter),
     }
 }
 
@@ -70,12 +69,12 @@ fn read_whole<E: EntityLookup>(
 ) -> Result<Rest, AllocError>
     ensures { IfOk result (λ rest. (from : ℕ) → IsRestFrom (filtered_by filter.now) limit text.now
         (shown_options options) (E.replacement entities.now)
-        from (string_bytes rest.html) rest.settled rest.cut) }
+        from (string_bytes rest.settled) (string_bytes rest.tail) rest.cut) }
 {
-    let html = to_filtered_html(alloc, text, options, entities, limit, filter)?;
+    let tail = to_filtered_html(alloc, text, options, entities, limit, filter)?;
     Ok(Rest {
-        html,
-        settled: 0,
+        settled: String::new(alloc),
+        tail,
         cut: 0,
     })
 }
@@ -120,11 +119,14 @@ fn settled_part<'a, E: EntityLookup, F: BrokenLinkCallback<'a> + Drop>(
     ensures { IfOk result (λ found. IfSome found (λ piece. WritesPiece F.answers E.replacement
         (filtered_by filter.now) parser.old parser.new (string_bytes piece))) }
 {
-    let beginning = Pause::at_beginning(alloc);
-    let Part { html, pause } = write_part(alloc, &beginning, parser, filter)?;
-    match pause {
-        Some(pause) if pause.is_at_beginning() => Ok(Some(html)),
-        Some(_) | None => Ok(None),
+    let Part {
+        html,
+        ends_at_beginning,
+    } = write_part(alloc, parser, filter)?;
+    if ends_at_beginning {
+        Ok(Some(html))
+    } else {
+        Ok(None)
     }
 }
 
@@ -132,8 +134,8 @@ fn settled_part<'a, E: EntityLookup, F: BrokenLinkCallback<'a> + Drop>(
 fn read_after<E: EntityLookup>(
     alloc: Global,
     text: &str,
-    cut: usize,
     settled: String,
+    cut: usize,
     options: Options,
     entities: &E,
     filter: &Filtering<'_>,
@@ -148,55 +150,29 @@ fn read_after<E: EntityLookup>(
         (filtered_by filter.now) (take cut text.now) from (string_bytes settled)
         → IsRestFrom (filtered_by filter.now) limit text.now
         (shown_options options) (E.replacement entities.now)
-        from (string_bytes rest.html) rest.settled rest.cut) }
+        from (string_bytes rest.settled) (string_bytes rest.tail) rest.cut) }
 {
     let found = parse_undefined(alloc, text, cut, options, entities, limit)?;
     match found {
-        Some(mut parser) => grow(alloc, cut, settled, &mut parser, filter),
+        Some(mut parser) => with_tail(alloc, settled, cut, &mut parser, filter),
         None => read_whole(alloc, text, options, entities, filter, limit),
     }
 }
 
-/// Appends the HTML of the events that the parser has left to that of the settled blocks.
-fn grow<'a, E: EntityLookup, F: BrokenLinkCallback<'a> + Drop>(
+/// The HTML of the settled blocks before the cut, and of the events that the parser has left.
+fn with_tail<'a, E: EntityLookup, F: BrokenLinkCallback<'a> + Drop>(
     alloc: Global,
-    cut: usize,
     settled: String,
+    cut: usize,
     parser: &mut Parser<'a, E, F>,
     filter: &Filtering<'_>,
 ) -> Result<Rest, AllocError>
     requires goes { CanGo E.replacement parser.old }
     requires ready { IsReady F.ready parser.old }
-    ensures { IfOk result (λ rest. (rest.cut ≡ cut) × (rest.settled ≡ length (string_bytes settled))
-        × ((tail : List ℕ) × (string_bytes rest.html ≡ string_bytes settled ++ tail)
-        × WritesTail F.answers E.replacement (filtered_by filter.now) parser.old parser.new tail)) }
-{
-    let beginning = Pause::at_beginning(alloc);
-    let Part { html: tail, .. } = write_part(alloc, &beginning, parser, filter)?;
-    let mut html = settled;
-    let settled = html.as_str().len();
-    html.push_str(tail.as_str())?;
-    Ok(Rest { html, settled, cut })
-}
-
-/// The HTML of the events that the parser has left. No further block is settled.
-fn stay<'a, E: EntityLookup, F: BrokenLinkCallback<'a> + Drop>(
-    alloc: Global,
-    from: usize,
-    parser: &mut Parser<'a, E, F>,
-    filter: &Filtering<'_>,
-) -> Result<Rest, AllocError>
-    requires goes { CanGo E.replacement parser.old }
-    requires ready { IsReady F.ready parser.old }
-    ensures { IfOk result (λ rest. (rest.cut ≡ from) × (rest.settled ≡ 0)
+    ensures { IfOk result (λ rest. (rest.cut ≡ cut) × (rest.settled ≡ settled)
         × WritesTail F.answers E.replacement (filtered_by filter.now)
-        parser.old parser.new (string_bytes rest.html)) }
+        parser.old parser.new (string_bytes rest.tail)) }
 {
-    let beginning = Pause::at_beginning(alloc);
-    let Part { html, .. } = write_part(alloc, &beginning, parser, filter)?;
-    Ok(Rest {
-        html,
-        settled: 0,
-        cut: from,
-    })
+    let Part { html: tail, .. } = write_part(alloc, parser, filter)?;
+    Ok(Rest { settled, tail, cut })
 }

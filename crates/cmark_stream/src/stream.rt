@@ -1,14 +1,7 @@
 //! A text that grows at its end, with its HTML.
 
-ghost use Rattle.std.specs.Prelude.{◌≡◌, ◌≤◌, [], IfErr, IfOk, IsCharBoundary, OnErr, OnOk};
-ghost use Rattle.cmark_grammar.specs.Headline.{IsHtmlWithin};
-ghost use Rattle.cmark_values.specs.Shown.{shown_options};
-
-use crate::defines::defines_nothing;
-use crate::part::{Part, read_part};
-use cmark_blocks::last_cut;
-use cmark_html::Pause;
-use cmark_parser::to_html_within;
+use crate::rest::{Rest, read_from};
+use cmark_parser::Filtering;
 use cmark_text::{EntityLookup, Options};
 use std::alloc::{AllocError, Global};
 
@@ -34,6 +27,8 @@ pub enum Change {
 /// - The options enable metadata or definition lists: later lines may change earlier blocks.
 /// - The text is one block: a list, a table, a code block or a paragraph without end.
 ///
+/// `is_due` says when a refresh is worth it.
+///
 /// ```text
 /// let mut stream = Stream::new(alloc, Options::GITHUB, &BasicEntities, 100_000);
 /// stream.push("# Bread\n\nFlour\nand *wa")?;
@@ -48,61 +43,76 @@ pub struct Stream<'e, E> {
     entities: &'e E,
     /// The reference expansion limit, in bytes.
     limit: usize,
+    /// For safe HTML: the further schemes that addresses may have.
+    schemes: Option<String>,
     /// The HTML of the blocks before `cut`.
     settled: String,
     /// The HTML of the rest of the text, as it was at the last refresh.
     tail: String,
     /// A byte offset: the beginning of the text or a settled cut.
     cut: usize,
-    /// How many bytes the text had when `cut` was found.
-    seen: usize,
-    /// The state of the writer after the settled HTML.
-    pause: Pause,
-}
-
-/// The HTML between two cuts.
-#[derive(Drop)]
-pub(crate) struct Piece {
-    html: String,
-    /// The second cut, a byte offset.
-    cut: usize,
-    /// The state of the writer there.
-    pause: Pause,
+    /// How many bytes the text had at the last successful refresh.
+    read: usize,
 }
 
 impl<'e, E: EntityLookup> Stream<'e, E> {
-    ghost use Rattle.std.specs.Prelude.{◌≡◌, ◌++◌, ◌≤◌, ℕ, List, [], IfOk, IfSome, IsCharBoundary, IsTrue, OnErr, OnOk, string_bytes};
-    ghost use Rattle.cmark_html.specs.Pauses.{paused};
+    ghost use Rattle.std.specs.Prelude.{◌≡◌, ◌≢◌, ◌++◌, ◌↔◌, ℕ, List, [], length, option_map, string_bytes, IfOk, IsTrue, None, OnErr, OnOk, Some};
     ghost use Rattle.cmark_grammar.specs.Headline.{IsHtmlWithin};
-    ghost use Rattle.cmark_stream_model.specs.Settled.{IsSettledAt, StaysJoinedAt};
+    ghost use Rattle.cmark_parser.specs.Filters.{filtered_by};
+    ghost use Rattle.cmark_safe.specs.SafeHtml.{IsSafe};
     ghost use Rattle.cmark_values.specs.Shown.{shown_options};
-    ghost use Rattle.cmark_stream.specs.Streams.{IsCutAt, IsPiece, IsStream, IsUndefined, Refreshes, Tells, ShowsAfter, lookup_of, options_of, profile_of, settled_of, tail_of, text_of};
+    ghost use Rattle.cmark_stream.specs.Streams.{Begins, IsDue, IsRest, IsShown, IsStream, Refreshed, Refreshes, Tells, filter_of, lookup_of, options_of, schemes_of, settled_of, tail_of, text_of};
 
     /// The empty text, with the options with which it is read. `entities` maps entity names to their characters. `limit` is the reference
     /// expansion limit, in bytes: once the destinations and titles of references total `limit` bytes, no definition is looked up.
     pub fn new(alloc: Global, options: Options, entities: &'e E, limit: usize) -> Stream<'e, E>
-        ensures text { text_of result ≡ [] }
-        ensures settled { settled_of result ≡ [] }
-        ensures tail { tail_of result ≡ [] }
-        ensures options { options_of result ≡ shown_options options }
-        ensures entities { lookup_of E.replacement result ≡ E.replacement entities.entry.now }
-        ensures limit { result.limit ≡ limit }
-        ensures good { IsStream E.replacement result }
+        ensures { Begins E.replacement result
+            (shown_options options) (E.replacement entities.entry.now) limit None }
+    {
+        Stream::empty(alloc, options, entities, limit, None)
+    }
+
+    /// The empty text, whose HTML is safe to show, also if the text comes from a stranger, as that of `to_safe_html` is. `further` lists further
+    /// schemes for addresses, with white space between them. The other parameters are those of `new`. Fails only if memory is refused.
+    pub fn new_safe(
+        alloc: Global,
+        options: Options,
+        entities: &'e E,
+        limit: usize,
+        further: &str,
+    ) -> Result<Stream<'e, E>, AllocError>
+        ensures { IfOk result (λ stream. Begins E.replacement stream
+            (shown_options options) (E.replacement entities.entry.now) limit (Some further.now)) }
+    {
+        let schemes = String::from_str(alloc, further)?;
+        Ok(Stream::empty(alloc, options, entities, limit, Some(schemes)))
+    }
+
+    /// The empty text. Its HTML is safe if there are `schemes`.
+    fn empty(
+        alloc: Global,
+        options: Options,
+        entities: &'e E,
+        limit: usize,
+        schemes: Option<String>,
+    ) -> Stream<'e, E>
+        ensures { Begins E.replacement result
+            (shown_options options) (E.replacement entities.entry.now) limit
+            (option_map string_bytes schemes) }
     {
         let text = String::new(alloc);
         let settled = String::new(alloc);
         let tail = String::new(alloc);
-        let pause = Pause::at_beginning(alloc);
         Stream {
             text,
             options,
             entities,
             limit,
+            schemes,
             settled,
             tail,
             cut: 0,
-            seen: 0,
-            pause,
+            read: 0,
         }
     }
 
@@ -138,169 +148,120 @@ impl<'e, E: EntityLookup> Stream<'e, E> {
         ensures options { options_of self.new ≡ options_of self.old }
         ensures entities { lookup_of E.replacement self.new ≡ lookup_of E.replacement self.old }
         ensures limit { self.new.limit ≡ self.old.limit }
+        ensures schemes { schemes_of self.new ≡ schemes_of self.old }
+        ensures read { self.new.read ≡ self.old.read }
         ensures good { IsStream E.replacement self.new }
     {
         self.text.push_str(chunk)
+    }
+
+    /// Whether the part of the text that a refresh reads has grown by more than a sixteenth since the last refresh.
+    ///
+    /// A program that refreshes only then, and once at the end, reads at most 18 bytes for each byte of a text, whatever the text is. Without
+    /// this rule a text of one block is read again at each refresh.
+    pub fn is_due(&self) -> bool
+        requires { IsStream E.replacement self.now }
+        ensures { IsTrue result ↔ IsDue self.now.cut self.now.read (length (text_of self.now)) }
+    {
+        let open = self.read - self.cut;
+        let new = self.text.as_str().len() - self.read;
+        open / 16 < new
     }
 
     /// Reads the blocks that are not settled. Afterwards `settled` followed by `tail` is the HTML of the whole text. Fails only if memory is
     /// refused; the text and its HTML are then as before.
     pub fn refresh(&mut self) -> Result<Change, AllocError>
         requires { IsStream E.replacement self.old }
-        ensures html { OnOk result (IsHtmlWithin self.old.limit (text_of self.old) (options_of self.old) (lookup_of E.replacement self.old) (settled_of self.new ++ tail_of self.new)) }
+        ensures html { OnOk result (IsShown E.replacement self.old (settled_of self.new ++ tail_of self.new)) }
+        ensures plain { schemes_of self.old ≡ None → OnOk result (IsHtmlWithin self.old.limit
+            (text_of self.old) (options_of self.old) (lookup_of E.replacement self.old)
+            (settled_of self.new ++ tail_of self.new)) }
+        ensures safe { (schemes : List ℕ) → schemes_of self.old ≡ Some schemes
+            → OnOk result (IsSafe schemes (settled_of self.new ++ tail_of self.new)) }
         ensures grown { IfOk result (λ change. Tells change (settled_of self.old) (settled_of self.new)) }
         ensures text { text_of self.new ≡ text_of self.old }
         ensures options { options_of self.new ≡ options_of self.old }
         ensures entities { lookup_of E.replacement self.new ≡ lookup_of E.replacement self.old }
         ensures limit { self.new.limit ≡ self.old.limit }
+        ensures schemes { schemes_of self.new ≡ schemes_of self.old }
         ensures settled { OnErr result (settled_of self.new ≡ settled_of self.old) }
         ensures tail { OnErr result (tail_of self.new ≡ tail_of self.old) }
+        ensures read { OnOk result (self.new.read ≡ length (text_of self.new)) }
+        ensures unread { OnErr result (self.new.read ≡ self.old.read) }
         ensures good { IsStream E.replacement self.new }
     {
-        self.read()
-    }
-
-    /// Does the work of `refresh`.
-    fn read(&mut self) -> Result<Change, AllocError>
-        requires { IsStream E.replacement self.old }
-        ensures { Refreshes E.replacement self.old result self.new }
-    {
-        let is_undefined = self.defines_nothing()?;
-        if !is_undefined {
-            return self.read_anew();
-        }
         self.read_on()
     }
 
-    /// Whether the text defines neither a link nor a footnote.
-    fn defines_nothing(&self) -> Result<bool, AllocError>
-        requires { IsStream E.replacement self.now }
-        ensures { IfOk result (λ is_undefined. IsTrue is_undefined → IsUndefined E.replacement self.now) }
-    {
-        let alloc = *self.text.allocator();
-        let text = self.text.as_str();
-        defines_nothing(alloc, text, self.cut, self.options, self.entities)
-    }
-
-    /// Reads the blocks after the last cut, of a text that defines nothing.
+    /// Does the work of `refresh`.
     fn read_on(&mut self) -> Result<Change, AllocError>
-        requires good { IsStream E.replacement self.old }
-        requires undefined { IsUndefined E.replacement self.old }
-        ensures { Refreshes E.replacement self.old result self.new }
-    {
-        let next = self.next_piece()?;
-        match next {
-            Some(piece) => self.grow(piece),
-            None => self.stay(),
-        }
-    }
-
-    /// The HTML up to the last cut that is known, if it is a later one.
-    fn next_piece(&self) -> Result<Option<Piece>, AllocError>
-        requires good { IsStream E.replacement self.now }
-        requires undefined { IsUndefined E.replacement self.now }
-        ensures { IfOk result (λ piece. IfSome piece (IsPiece E.replacement self.now)) }
-    {
-        let alloc = *self.text.allocator();
-        let text = self.text.as_str();
-        let cut = last_cut(alloc, text, self.cut, self.options)?;
-        if cut <= self.seen {
-            return Ok(None);
-        }
-        self.piece_to(cut)
-    }
-
-    /// The HTML between the last cut and `cut`, which is not before `seen`. `None` if the writer keeps something of the text there.
-    fn piece_to(&self, cut: usize) -> Result<Option<Piece>, AllocError>
-        requires good { IsStream E.replacement self.now }
-        requires undefined { IsUndefined E.replacement self.now }
-        requires boundary { IsCharBoundary (text_of self.now) cut }
-        requires settled { IsSettledAt (options_of self.now) (text_of self.now) cut }
-        requires seen { self.now.seen ≤ cut }
-        ensures { IfOk result (λ piece. IfSome piece (IsPiece E.replacement self.now)) }
-    {
-        let alloc = *self.text.allocator();
-        let text = self.text.as_str();
-        let front = &text[..cut];
-        let part = read_part(
-            alloc,
-            front,
-            self.cut,
-            &self.pause,
-            self.options,
-            self.entities,
-            self.limit,
-        )?;
-        let Part { html, pause } = part;
-        match pause {
-            Some(pause) => Ok(Some(Piece { html, cut, pause })),
-            None => Ok(None),
-        }
-    }
-
-    /// The HTML of the blocks after `cut`, by a writer in the state `pause`. The text defines nothing.
-    fn tail_after(&self, cut: usize, pause: &Pause) -> Result<String, AllocError>
-        requires cut { (html : List ℕ) × IsCutAt (profile_of E.replacement self.now) (text_of self.now) cut html (paused pause.now) }
-        requires undefined { IsUndefined E.replacement self.now }
-        ensures { IfOk result (λ tail. (html : List ℕ) → IsCutAt (profile_of E.replacement self.now) (text_of self.now) cut html (paused pause.now) → ShowsAfter E.replacement self.now html (string_bytes tail)) }
-    {
-        let alloc = *self.text.allocator();
-        let text = self.text.as_str();
-        let part = read_part(
-            alloc,
-            text,
-            cut,
-            pause,
-            self.options,
-            self.entities,
-            self.limit,
-        )?;
-        Ok(part.html)
-    }
-
-    /// Reads the blocks after the last cut. No further block is settled.
-    fn stay(&mut self) -> Result<Change, AllocError>
-        requires good { IsStream E.replacement self.old }
-        requires undefined { IsUndefined E.replacement self.old }
-        ensures { Refreshes E.replacement self.old result self.new }
-    {
-        let tail = self.tail_after(self.cut, &self.pause)?;
-        self.tail = tail;
-        Ok(Change::Grown)
-    }
-
-    /// Settles the blocks of `piece`, and reads the others. Nothing changes before all that may fail is done.
-    fn grow(&mut self, piece: Piece) -> Result<Change, AllocError>
-        requires good { IsStream E.replacement self.old }
-        requires undefined { IsUndefined E.replacement self.old }
-        requires piece { IsPiece E.replacement self.old piece }
-        ensures { Refreshes E.replacement self.old result self.new }
-    {
-        let Piece { html, cut, pause } = piece;
-        let tail = self.tail_after(cut, &pause)?;
-        self.settled.push_str(html.as_str())?;
-        self.tail = tail;
-        self.cut = cut;
-        self.seen = self.text.as_str().len();
-        self.pause = pause;
-        Ok(Change::Grown)
-    }
-
-    /// Reads the whole text. Nothing is settled afterwards.
-    fn read_anew(&mut self) -> Result<Change, AllocError>
         requires { IsStream E.replacement self.old }
         ensures { Refreshes E.replacement self.old result self.new }
     {
+        let rest = self.rest()?;
+        if rest.cut == 0 {
+            return Ok(self.begin_anew(rest));
+        }
+        self.grow(rest)
+    }
+
+    /// The HTML from the last cut on.
+    fn rest(&self) -> Result<Rest, AllocError>
+        requires { IsStream E.replacement self.now }
+        ensures { IfOk result (IsRest E.replacement self.now) }
+    {
         let alloc = *self.text.allocator();
         let text = self.text.as_str();
-        let html = to_html_within(alloc, text, self.options, self.entities, self.limit)?;
+        let filter = self.filter();
+        read_from(
+            alloc,
+            text,
+            self.cut,
+            self.options,
+            self.entities,
+            &filter,
+            self.limit,
+        )
+    }
+
+    /// What replaces each event.
+    fn filter(&self) -> Filtering<'_>
+        ensures { filtered_by result ≡ filter_of self.now }
+    {
+        match &self.schemes {
+            None => Filtering::AsTheyAre,
+            Some(schemes) => Filtering::Safe(schemes.as_str()),
+        }
+    }
+
+    /// Settles the blocks before a new cut.
+    fn grow(&mut self, rest: Rest) -> Result<Change, AllocError>
+        requires good { IsStream E.replacement self.old }
+        requires rest { IsRest E.replacement self.old rest }
+        requires cut { rest.cut ≢ 0 }
+        ensures { Refreshes E.replacement self.old result self.new }
+    {
+        let Rest { settled, tail, cut } = rest;
+        self.settled.push_str(settled.as_str())?;
+        self.tail = tail;
+        self.cut = cut;
+        self.read = self.text.as_str().len();
+        Ok(Change::Grown)
+    }
+
+    /// Takes the HTML of the whole text as the tail. Nothing is settled afterwards.
+    fn begin_anew(&mut self, rest: Rest) -> Change
+        requires good { IsStream E.replacement self.old }
+        requires rest { IsRest E.replacement self.old rest }
+        requires cut { rest.cut ≡ 0 }
+        ensures { Refreshed E.replacement self.old result self.new }
+    {
         let change = self.change_if_cleared();
         self.settled.clear();
-        self.tail = html;
+        self.tail = rest.tail;
         self.cut = 0;
-        self.seen = 0;
-        self.pause = Pause::at_beginning(alloc);
-        Ok(change)
+        self.read = self.text.as_str().len();
+        change
     }
 
     /// What a refresh did if nothing is settled after it.

@@ -23,21 +23,23 @@ pub record RefusesStream (old new : List ℕ) (n : Numbers) : Type 0 where
 
 -- `filtered` replaces each event
 module _ (filtered : Event → Event) (limit : ℕ) (bits : ℕ) (text : List ℕ) where
-  -- the output is at the beginning of the room, the rest of the room is unchanged, and the numbers are those of the output
+  -- The settled HTML and the tail are at the beginning of the room, and the rest of the room is unchanged. The numbers are those of the output
   pub record WroteStream (old new : List ℕ) (n : Numbers) : Type 0 where
-    pub output : List ℕ
-    pub is : IsRestFrom filtered limit text (options_of bits) (entities_of bits) n.cut output n.settled n.new_cut
-    pub size : n.size ≡ length output
+    pub settled_html : List ℕ
+    pub tail : List ℕ
+    pub is : IsRestFrom filtered limit text (options_of bits) (entities_of bits) n.cut settled_html tail n.new_cut
+    pub settled : n.settled ≡ length settled_html
+    pub size : n.size ≡ length (settled_html ++ tail)
     pub fits : n.size ≤ length old
-    pub room : new ≡ output ++ drop n.size old
+    pub room : new ≡ (settled_html ++ tail) ++ drop n.size old
 
   -- the output has this size, which is more than that of the room. The room and the cut are unchanged, and nothing is settled
   pub record IsTooLongStream (old new : List ℕ) (n : Numbers) : Type 0 where
-    pub output : List ℕ
-    pub settled_then : ℕ
+    pub settled_html : List ℕ
+    pub tail : List ℕ
     pub cut_then : ℕ
-    pub is : IsRestFrom filtered limit text (options_of bits) (entities_of bits) n.cut output settled_then cut_then
-    pub size : n.size ≡ length output
+    pub is : IsRestFrom filtered limit text (options_of bits) (entities_of bits) n.cut settled_html tail cut_then
+    pub size : n.size ≡ length (settled_html ++ tail)
     pub longer : length old < n.size
     pub room : new ≡ old
     pub cut : n.new_cut ≡ n.cut

@@ -1,8 +1,9 @@
 //! HTML of a text that grows at its end: the caller keeps the text and a cut.
 
-ghost use Rattle.std.specs.Prelude.{◌≡◌, ◌<◌, ◌≤◌, ◌++◌, ◌⊎◌, IsUtf8, drop, false, length, string_bytes, true};
+ghost use Rattle.std.specs.Prelude.{◌≡◌, ◌<◌, ◌≤◌, ◌++◌, ◌⊎◌, IsUtf8, drop, false, length, string_bytes, take, true};
 ghost use Rattle.cmark_parser.specs.Filters.{filtered_by};
 ghost use Rattle.cmark_safe.specs.SafeEvents.{safe};
+ghost use Rattle.cmark_safe.specs.SafeHtml.{IsSafe};
 ghost use Rattle.pulldown_cmark_c.specs.Calls.{are_known};
 ghost use Rattle.pulldown_cmark_c.specs.Streams.{AnswersStream, RefusesStream, UnknownStream, numbers};
 
@@ -80,6 +81,7 @@ pub extern "C" fn pcm_safe_stream(
     ensures not_listed { are_known options ≡ true → (IsUtf8 schemes.now → ⊥)
         → (result ≡ 2) × RefusesStream room.old room.new
         (numbers cut.old cut.new settled.new size.new) }
+    ensures safe { result ≡ 0 → IsSafe schemes.now (take size.new room.new) }
     ensures unknown { are_known options ≡ false → UnknownStream room.old room.new
         (numbers cut.old cut.new settled.new size.new) result }
 {
@@ -130,33 +132,40 @@ fn answer_from(
     let options = Options::from_bits_retain(bits);
     let entities = Entities { bits };
     match read_from(alloc, text, *cut, options, &entities, filter, limit) {
-        Ok(rest) => hand_over_rest(&rest, cut, settled, room, size),
+        Ok(rest) => hand_over_rest(rest, cut, settled, room, size),
         Err(_) => NO_MEMORY,
     }
 }
 
 /// Writes the HTML to the beginning of `room`, and the new cut and how much is settled, if the HTML fits. Writes its size in any case. Returns
-/// `DONE` or `TOO_LONG`.
+/// `DONE` or `TOO_LONG`, or `NO_MEMORY`, which changes nothing.
 fn hand_over_rest(
-    rest: &Rest,
+    rest: Rest,
     cut: &mut usize,
     settled: &mut usize,
     room: &mut [u8],
     size: &mut usize,
 ) -> u32
-    ensures either { (result ≡ 0) ⊎ (result ≡ 1) }
-    ensures size { size.new ≡ length (string_bytes rest.now.html) }
-    ensures done { result ≡ 0 → (cut.new ≡ rest.now.cut) × (settled.new ≡ rest.now.settled)
-        × (length (string_bytes rest.now.html) ≤ length room.old)
-        × (room.new ≡ string_bytes rest.now.html
-        ++ drop (length (string_bytes rest.now.html)) room.old) }
-    ensures too_long { result ≡ 1 → (cut.new ≡ cut.old) × (settled.new ≡ settled.old)
-        × (length room.old < length (string_bytes rest.now.html)) × (room.new ≡ room.old) }
+    ensures either { (result ≡ 0) ⊎ ((result ≡ 1) ⊎ (result ≡ 3)) }
+    ensures done { let html = string_bytes rest.settled ++ string_bytes rest.tail in
+        result ≡ 0 → (cut.new ≡ rest.cut) × (settled.new ≡ length (string_bytes rest.settled))
+        × (size.new ≡ length html) × (length html ≤ length room.old)
+        × (room.new ≡ html ++ drop (length html) room.old) }
+    ensures too_long { let html = string_bytes rest.settled ++ string_bytes rest.tail in
+        result ≡ 1 → (cut.new ≡ cut.old) × (settled.new ≡ settled.old)
+        × (size.new ≡ length html) × (length room.old < length html) × (room.new ≡ room.old) }
+    ensures no_memory { result ≡ 3 → (cut.new ≡ cut.old) × (settled.new ≡ settled.old)
+        × (size.new ≡ size.old) × (room.new ≡ room.old) }
 {
-    let status = hand_over(rest.html.as_str().as_bytes(), room, size);
+    let settled_len = rest.settled.as_str().len();
+    let mut html = rest.settled;
+    let Ok(()) = html.push_str(rest.tail.as_str()) else {
+        return NO_MEMORY;
+    };
+    let status = hand_over(html.as_str().as_bytes(), room, size);
     if status == DONE {
         *cut = rest.cut;
-        *settled = rest.settled;
+        *settled = settled_len;
     }
     status
 }

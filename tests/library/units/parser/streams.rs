@@ -2,7 +2,7 @@
 // defined.
 
 use bitflags::Flags;
-use cmark_parser::to_html_within;
+use cmark_parser::{to_html_within, to_safe_html};
 use cmark_stream::{Change, Stream};
 use cmark_values::{BasicEntities, Options};
 use std::alloc::{AllocError, Global};
@@ -43,11 +43,32 @@ fn joined(alloc: Global, stream: &Stream<'_, BasicEntities>) -> Result<String, A
     Ok(all)
 }
 
+// What HTML a stream has.
+#[derive(Clone, Copy)]
+enum Kind {
+    Plain,
+    Safe,
+}
+
+fn stream_of(alloc: Global, kind: Kind, options: Options) -> Result<Stream<'static, BasicEntities>, AllocError> {
+    match kind {
+        Kind::Plain => Ok(Stream::new(alloc, options, &BasicEntities, LIMIT)),
+        Kind::Safe => Stream::new_safe(alloc, options, &BasicEntities, LIMIT, "tel"),
+    }
+}
+
+fn whole_html(alloc: Global, kind: Kind, text: &str, options: Options) -> Result<String, AllocError> {
+    match kind {
+        Kind::Plain => to_html_within(alloc, text, options, &BasicEntities, LIMIT),
+        Kind::Safe => to_safe_html(alloc, text, options, &BasicEntities, "tel"),
+    }
+}
+
 // Compares a stream with the HTML of each beginning of a random text. Returns how often settled HTML was kept.
-fn compare(alloc: Global, rt: &impl Abort, options: Options, mut seed: u64, texts: u64, choice: u64) -> Result<usize, Fail> {
+fn compare(alloc: Global, rt: &impl Abort, kind: Kind, options: Options, mut seed: u64, texts: u64, choice: u64) -> Result<usize, Fail> {
     let mut kept = 0;
     for _ in 0..texts {
-        let mut stream = Stream::new(alloc, options, &BasicEntities, LIMIT);
+        let mut stream = stream_of(alloc, kind, options)?;
         let mut shown = String::new(alloc);
         for _ in 0..30 {
             seed = next(seed);
@@ -60,7 +81,7 @@ fn compare(alloc: Global, rt: &impl Abort, options: Options, mut seed: u64, text
             if !stream.settled().is_empty() {
                 kept += 1;
             }
-            let whole = to_html_within(alloc, stream.text(), options, &BasicEntities, LIMIT)?;
+            let whole = whole_html(alloc, kind, stream.text(), options)?;
             let all = joined(alloc, &stream)?;
             assert_eq!(rt; all.as_str(), whole.as_str());
             assert_eq!(rt; shown.as_str(), stream.settled());
@@ -72,8 +93,10 @@ fn compare(alloc: Global, rt: &impl Abort, options: Options, mut seed: u64, text
 #[test]
 fn random_texts_have_their_html(rt: HostRuntime) -> Result<(), Fail> {
     for options in [Options::empty(), Options::GITHUB, Options::all()] {
-        let kept = compare(rt.alloc(), &rt, options, 1, 300, PIECES.len() as u64)?;
-        println!(rt; "kept {}", kept)?;
+        for kind in [Kind::Plain, Kind::Safe] {
+            let kept = compare(rt.alloc(), &rt, kind, options, 1, 300, PIECES.len() as u64)?;
+            println!(rt; "kept {}", kept)?;
+        }
     }
     Ok(())
 }
@@ -81,7 +104,7 @@ fn random_texts_have_their_html(rt: HostRuntime) -> Result<(), Fail> {
 #[test]
 fn random_texts_without_definitions_have_their_html(rt: HostRuntime) -> Result<(), Fail> {
     for options in [Options::empty(), Options::GITHUB] {
-        let kept = compare(rt.alloc(), &rt, options, 2, 300, UNDEFINED)?;
+        let kept = compare(rt.alloc(), &rt, Kind::Plain, options, 2, 300, UNDEFINED)?;
         println!(rt; "kept {}", kept)?;
         assert!(rt; kept > 300);
     }

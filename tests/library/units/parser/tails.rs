@@ -13,6 +13,9 @@ const CHUNK: usize = 20;
 const TIMES: usize = 500;
 // The most bytes of tails for each byte of a text whose blocks end. If nothing settles, the texts have more than 80.
 const BOUND: usize = 8;
+// The same for any text, if only refreshes that are due are made: they read at most 18 bytes for each byte, and these texts have at most three
+// bytes of HTML for each byte.
+const DUE: usize = 54;
 
 // Pieces in which blocks end. After a table, a list or a fence a further block is settled too.
 const ENDED: &[&str] = &[
@@ -31,8 +34,15 @@ const ENDED: &[&str] = &[
 // Pieces of texts of one block, in which nothing is settled.
 const ONE_BLOCK: &[&str] = &["- item\n", "> words of a quote\n", "words and ", "    let code = 1;\n"];
 
+// The refreshes of a text that grows.
+#[derive(Clone, Copy)]
+enum Refreshes {
+    Each,
+    Due,
+}
+
 // The bytes of the tails after each chunk of a repeated piece, for each byte of the text.
-fn tails(alloc: Global, piece: &str) -> Result<usize, Fail> {
+fn tails(alloc: Global, piece: &str, refreshes: Refreshes) -> Result<usize, Fail> {
     let mut whole = String::new(alloc);
     for _ in 0..TIMES {
         whole.push_str(piece)?;
@@ -45,8 +55,14 @@ fn tails(alloc: Global, piece: &str) -> Result<usize, Fail> {
             break;
         };
         stream.push(chunk)?;
-        stream.refresh()?;
-        sum += stream.tail().len();
+        let is_due = match refreshes {
+            Refreshes::Each => true,
+            Refreshes::Due => stream.is_due() || to == whole.len(),
+        };
+        if is_due {
+            stream.refresh()?;
+            sum += stream.tail().len();
+        }
         from = to;
     }
     Ok(sum / whole.len())
@@ -55,7 +71,7 @@ fn tails(alloc: Global, piece: &str) -> Result<usize, Fail> {
 #[test]
 fn blocks_that_end_are_settled(rt: HostRuntime) -> Result<(), Fail> {
     for piece in ENDED {
-        let sum = tails(rt.alloc(), *piece)?;
+        let sum = tails(rt.alloc(), *piece, Refreshes::Each)?;
         println!(rt; "{} bytes of tails for each byte", sum)?;
         assert!(rt; sum <= BOUND);
     }
@@ -66,9 +82,21 @@ fn blocks_that_end_are_settled(rt: HostRuntime) -> Result<(), Fail> {
 #[test]
 fn one_block_is_a_tail(rt: HostRuntime) -> Result<(), Fail> {
     for piece in ONE_BLOCK {
-        let sum = tails(rt.alloc(), *piece)?;
+        let sum = tails(rt.alloc(), *piece, Refreshes::Each)?;
         println!(rt; "{} bytes of tails for each byte of one block", sum)?;
-        assert!(rt; sum > BOUND);
+        assert!(rt; sum > DUE);
+    }
+    Ok(())
+}
+
+#[test]
+fn refreshes_that_are_due_read_little(rt: HostRuntime) -> Result<(), Fail> {
+    for pieces in [ENDED, ONE_BLOCK, &["[a]: /b\n\n[a] c\n\n"]] {
+        for piece in pieces {
+            let sum = tails(rt.alloc(), *piece, Refreshes::Due)?;
+            println!(rt; "{} bytes of tails for each byte, if due", sum)?;
+            assert!(rt; sum <= DUE);
+        }
     }
     Ok(())
 }

@@ -1,8 +1,7 @@
-use Rattle.std.proofs.Common.{◌≡◌, subst}
+use Rattle.std.proofs.Common.{◌≡◌, ap, subst}
 use Rattle.std.proofs.lemmas.Result.{IfOk-weaker}
 use Rattle.std.specs.Prelude.{IfSome, None, string_bytes}
 use Rattle.cmark_block_model.specs.Tails.{document_after}
-use Rattle.cmark_grammar.specs.Headline.{profile_within}
 use Rattle.cmark_parser.specs.Filters.{filtered_by}
 use Rattle.cmark_parser.specs.Parsing.{callback_of}
 use Rattle.cmark_parser.specs.Tails.{ReadsUndefined}
@@ -19,16 +18,16 @@ returns-in-Some g c =
     let replacement = g.E.EntityLookup.replacement in
     let lookup = replacement c.args.entities.now in
     let filtered = filtered_by c.args.filter.now in
-    IfOk-weaker c.grow.result _ _
+    IfOk-weaker c.with_tail.result _ _
     (λ rest w from less stays piece.
-    rest-same c.args.limit options lookup filtered text from (string_bytes rest.html) _ rest.settled _ rest.cut _ w.2.1 w.1 w.0
-    (rest-grows c.args.limit options lookup filtered text from c.args.cut less stays (string_bytes c.args.settled) w.2.0 piece
-    (tail-read _ replacement filtered c.args.limit text c.args.cut options lookup c.in-Some.parser c.grow.new.parser
+    rest-same c.args.limit options lookup filtered text from (string_bytes rest.settled) (string_bytes c.args.settled) (string_bytes rest.tail) rest.cut c.args.cut (ap string_bytes w.1) w.0
+    (rest-grows c.args.limit options lookup filtered text from c.args.cut less stays (string_bytes c.args.settled) (string_bytes rest.tail) piece
+    (tail-read _ replacement filtered c.args.limit text c.args.cut options lookup c.in-Some.parser c.with_tail.new.parser
     (subst (λ o. IfSome o (λ parser. HasNoDefinitions (document_after text options lookup c.args.cut))) c.in-Some.is c.in_ok-found.ensures.undefined)
     (subst (λ o. IfSome o (ReadsUndefined replacement c.args.limit text c.args.cut options lookup)) c.in-Some.is c.in_ok-found.ensures.reads)
     (subst (λ o. IfSome o (λ parser. callback_of parser ≡ None)) c.in-Some.is c.in_ok-found.ensures.callback)
-    w.2.0 w.2.2)
-    c.requires.begins)) c.grow.ensures
+    (string_bytes rest.tail) w.2)
+    c.requires.begins)) c.with_tail.ensures
 
 pub returns-in-None : goal.returns-in-None
 returns-in-None g c = IfOk-weaker c.read_whole.result _ _ (λ rest w from less stays piece. w from) c.read_whole.ensures

@@ -1,4 +1,4 @@
-use Rattle.std.proofs.Common.{◌≡◌, ◌<◌, refl, subst, take}
+use Rattle.std.proofs.Common.{◌≡◌, ◌<◌, ◌∙◌, [], ap, subst, take}
 use Rattle.std.proofs.lemmas.Result.{IfOk-weaker}
 use Rattle.std.specs.Prelude.{IfSome, None, false, string_bytes}
 use Rattle.cmark_block_model.specs.Tails.{document_after}
@@ -32,12 +32,12 @@ returns g c =
     let replacement = g.E.EntityLookup.replacement in
     let lookup = replacement c.args.entities.now in
     let filtered = filtered_by c.args.filter.now in
-    IfOk-weaker c.stay.result _ _
+    IfOk-weaker c.with_tail.result _ _
     (λ rest w.
-    rest-same c.args.limit options lookup filtered text c.args.from (string_bytes rest.html) _ rest.settled _ rest.cut _ refl w.1 w.0
-    (rest-stays c.args.limit options lookup filtered text c.args.from (string_bytes rest.html) c.requires.begins
-    (tail-read _ replacement filtered c.args.limit text c.args.from options lookup c.in-Some.parser c.stay.new.parser
+    rest-same c.args.limit options lookup filtered text c.args.from (string_bytes rest.settled) [] (string_bytes rest.tail) rest.cut c.args.from (ap string_bytes w.1 ∙ c.new.ensures.bytes) w.0
+    (rest-stays c.args.limit options lookup filtered text c.args.from (string_bytes rest.tail) c.requires.begins
+    (tail-read _ replacement filtered c.args.limit text c.args.from options lookup c.in-Some.parser c.with_tail.new.parser
     (subst (λ o. IfSome o (λ parser. HasNoDefinitions (document_after text options lookup c.args.from))) c.in-Some.is c.in_ok-found.ensures.undefined)
     (subst (λ o. IfSome o (ReadsUndefined replacement c.args.limit text c.args.from options lookup)) c.in-Some.is c.in_ok-found.ensures.reads)
     (subst (λ o. IfSome o (λ parser. callback_of parser ≡ None)) c.in-Some.is c.in_ok-found.ensures.callback)
-    (string_bytes rest.html) w.2))) c.stay.ensures
+    (string_bytes rest.tail) w.2))) c.with_tail.ensures

@@ -8,7 +8,7 @@ use Rattle.cmark_parser.specs.Tails.{ReadsUndefined}
 use Rattle.cmark_stream_model.specs.Undefined.{HasNoDefinitions}
 use Rattle.cmark_values.specs.Shown.{shown_options}
 use Rattle.cmark_stream.proofs.RestWrites.{each-found, piece-read}
-use Rattle.cmark_stream.proofs.StreamSteps.{boundary-front}
+use Rattle.cmark_stream.proofs.Offsets.{boundary-front}
 use Rattle.cmark_stream.specs.Rests.{IsPieceHtml}
 use Rattle.cmark_stream.proofs.rest.settled_html.Goals as goal
 

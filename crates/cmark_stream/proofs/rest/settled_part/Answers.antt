@@ -1,9 +1,4 @@
-use Rattle.cmark_parser.specs.Filters.{filtered_by}
-use Rattle.cmark_html.specs.Pauses.{paused}
-use Rattle.cmark_stream.proofs.RestWrites.{piece-written}
 use Rattle.cmark_stream.proofs.rest.settled_part.Goals as goal
 
-pub returns-in-Some : goal.returns-in-Some
-returns-in-Some g c =
-    piece-written g.F.BrokenLinkCallback.answers g.E.EntityLookup.replacement (filtered_by c.args.filter.now) c.args.parser.now c.write_part.new.parser _ (paused c.at_beginning-beginning.result)
-    c.at_beginning-beginning.ensures c.in_ok-html.ensures c.in-Some.pause c.in-Some.is (c.is_at_beginning.ensures.0 c.if-is_at_beginning.true)
+pub returns-then-ends_at_beginning : goal.returns-then-ends_at_beginning
+returns-then-ends_at_beginning g c = record { written = c.in_ok-html.ensures.written; after_is = c.in_ok-html.ensures.after_is c.if-ends_at_beginning.true }
