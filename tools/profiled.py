@@ -117,7 +117,7 @@ def made(rt, crates, link, lib):
         room = pathlib.Path(scratch)
         code = llvm.Code(rt, crates["pulldown_cmark_c"], room)
         part = compiled(tools, code, [caller(tools, room), None, *system], runs_of_library, room)
-        whole = room / "library.a"
+        whole = room / "whole.a"
         subprocess.run([kit / "toolchain" / "bin" / "llvm-ar", "rcsD", whole, part], check=True)
         archive, shared = MADE / "lib" / f"{lib.NAME}.a", MADE / "lib" / f"{lib.NAME}.so.{lib.VERSION}"
         lib.archive(whole, system[1:], archive, room)
