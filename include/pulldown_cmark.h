@@ -243,7 +243,7 @@ uint32_t pcm_version(void);
 
 /* Whether a text that grows has grown enough for the next call of pcm_stream: the lines that the call reads by more than a sixteenth, and the
    whole text, which the call checks, by more than a thousandth. cut is the cut of the last call, and read the length of the text then; both
-   are 0 at first. If calls are made only then, and once at the end, they read at most 18 bytes for each byte of the text, whatever it is. */
+   are 0 at first. If calls are made only then, and once at the end, they read at most 36 bytes for each byte of the text, whatever it is. */
 static inline int pcm_is_due(size_t cut, size_t read, size_t text_len)
 {
     return (read - cut) / 16 + read / 1024 < text_len - read;

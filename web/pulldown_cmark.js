@@ -477,7 +477,7 @@ var pulldownCmark = ((records) => {
       /**
        * Whether the text has grown enough for the next refresh: the lines that a refresh reads by more than a sixteenth, and the whole text,
        * which a refresh copies and checks, by more than a thousandth. A program that refreshes only then, and once at the end, reads at most
-       * 18 bytes for each byte of the text, whatever the text is.
+       * 36 bytes for each byte of the text, whatever the text is.
        */
       get isDue() {
         return Math.floor((this.#read - this.#cut) / 16) + Math.floor(this.#read / 1024) < this.#chunks.bytes.length - this.#read;

@@ -148,7 +148,7 @@ export declare class Stream {
   /** Whether the chunks end inside a character. If no more arrive, the text was cut off. */
   readonly endsInsideCharacter: boolean;
   /**
-   * Whether the text has grown enough for the next refresh. A program that refreshes only then, and once at the end, reads at most 18 bytes for
+   * Whether the text has grown enough for the next refresh. A program that refreshes only then, and once at the end, reads at most 36 bytes for
    * each byte of the text, whatever the text is.
    */
   readonly isDue: boolean;

@@ -3,7 +3,8 @@
    CALL is `stream` (pcm_stream), `due` (pcm_stream if pcm_is_due, and at the end), `whole` (pcm_html_within of the whole text so far) or
    `none` (no call). A chunk has CHUNK bytes, or up to three more so that it ends between characters. Only one in EVERY chunks is followed by
    a call. Writes the HTML of the whole text on standard output. Writes the number of calls, the bytes that they read, and the last cut on
-   standard error. A call reads the bytes from the cut on that it is given. tests/bindings/streams and tests/speed/growing build and run it. */
+   standard error. A call reads the bytes from the cut on that it is given, and then the whole text if it drops the cut.
+   tests/bindings/streams and tests/speed/growing build and run it. */
 #include "../../include/pulldown_cmark.h"
 #include <dlfcn.h>
 #include <stdint.h>
@@ -35,7 +36,7 @@ static int read_on(stream_call call, size_t len, uint32_t options)
     if (call(text, len, options, LIMIT, &cut, &settled, room, sizeof room, &size))
         return 0;
     calls++;
-    bytes_read += len - from;
+    bytes_read += len - from + (cut == 0 && from > 0 ? len : 0);
     read_len = len;
     if (cut == 0)
         tail_at = 0;

@@ -94,7 +94,7 @@ class Stream:
         """Whether the text has grown enough for the next refresh: the lines that a refresh reads by more than a sixteenth, and the whole text,
         which a refresh checks, by more than a thousandth.
 
-        A program that refreshes only then, and once at the end, reads at most 18 bytes for each byte of the text, whatever the text is.
+        A program that refreshes only then, and once at the end, reads at most 36 bytes for each byte of the text, whatever the text is.
         """
         return (self._read - self._cut) // 16 + self._read // 1024 < len(self._text) - self._read
 

@@ -183,7 +183,7 @@ impl Stream {
     /// Whether the text has grown enough for the next refresh: the lines that a refresh reads by more than a sixteenth, and the whole text,
     /// which a refresh checks, by more than a thousandth.
     ///
-    /// A program that refreshes only then, and once at the end, reads at most 18 bytes for each byte of the text, whatever the text is.
+    /// A program that refreshes only then, and once at the end, reads at most 36 bytes for each byte of the text, whatever the text is.
     ///
     /// ```
     /// use pulldown_cmark::{Options, Stream};

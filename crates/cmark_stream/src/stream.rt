@@ -157,7 +157,7 @@ impl<'e, E: EntityLookup> Stream<'e, E> {
 
     /// Whether the part of the text that a refresh reads has grown by more than a sixteenth since the last refresh.
     ///
-    /// A program that refreshes only then, and once at the end, reads at most 18 bytes for each byte of a text, whatever the text is. Without
+    /// A program that refreshes only then, and once at the end, reads at most 36 bytes for each byte of a text, whatever the text is. Without
     /// this rule a text of one block is read again at each refresh.
     pub fn is_due(&self) -> bool
         requires { IsStream E.replacement self.now }

@@ -13,7 +13,7 @@ const CHUNK: usize = 20;
 const TIMES: usize = 500;
 // The most bytes of tails for each byte of a text whose blocks end. If nothing settles, the texts have more than 80.
 const BOUND: usize = 8;
-// The same for any text, if only refreshes that are due are made: they read at most 18 bytes for each byte, and these texts have at most three
+// The same if only refreshes that are due are made. Of these texts they read at most 18 bytes for each byte, and the texts have at most three
 // bytes of HTML for each byte.
 const DUE: usize = 54;
 
