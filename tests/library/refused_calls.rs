@@ -14,7 +14,7 @@ use mdhtml_run::run;
 use program_settings::read_entities;
 use pulldown_cmark::html::push_html;
 use pulldown_cmark::{
-    BasicEntities, BrokenLink, BrokenLinkCallback, CowStr, EntityLookup, Options, Parser,
+    BasicEntities, BrokenLink, BrokenLinkCallback, CowStr, EntityLookup, Options, Parser, Stream,
     TextMergeStream, TextMergeWithOffset,
 };
 use std::alloc::{AllocError, Global};
@@ -235,6 +235,21 @@ fn entities(rt: &HostRuntime, row: Row<'_>) -> io::Result<()> {
     }
 }
 
+/// Pushes the text to a stream in chunks of three bytes, each once more if it is refused, and writes what the stream has after each try.
+fn pushed(rt: &HostRuntime, row: Row<'_>) -> io::Result<()> {
+    let mut stream = Stream::new(rt.alloc(), row.options, &BasicEntities, row.text.len());
+    for chunk in row.text.as_bytes().chunks(3) {
+        if let Err(fault) = stream.push_bytes(chunk) {
+            println!(rt; "{fault:?} {:?} {}", stream.text(), stream.ends_inside_character())?;
+            if stream.push_bytes(chunk).is_err() {
+                return println!(rt; "refused twice");
+            }
+        }
+        println!(rt; "Ok {:?} {}", stream.text(), stream.ends_inside_character())?;
+    }
+    Ok(())
+}
+
 /// The call that a letter names.
 fn call(rt: &HostRuntime, name: u8, row: Row<'_>) -> io::Result<()> {
     match name {
@@ -246,6 +261,7 @@ fn call(rt: &HostRuntime, name: u8, row: Row<'_>) -> io::Result<()> {
         b'u' => run_on(rt, row),
         b's' => resolve(rt, row),
         b'n' => entities(rt, row),
+        b'p' => pushed(rt, row),
         _ => println!(rt; "no such call"),
     }
 }

@@ -22,7 +22,8 @@ ghost use Rattle.cmark_block_model.specs.Tightness.{HasTightParagraphs};
 
 /// The model's blocks are the blocks of the text's lines.
 pub fn blocks_are_derived()
-    ensures { (options : Options) (text : List ℕ) → Body options Apart (rows text) (blocks options text) }
+    ensures { (options : Options) (text : List ℕ)
+        → Body options Apart (rows text) (blocks options text) }
 {}
 
 /// A text has one block structure: all blocks of its lines equal the model's.
@@ -39,7 +40,8 @@ pub fn metadata_stands_outside_of_containers()
 
 /// The model's document of a text is derived from it, so that each text derives a document.
 pub fn block_document_is_derived()
-    ensures { (text : List ℕ) (options : Options) (lookup : Lookup) → Derives text options lookup (document text options lookup) }
+    ensures { (text : List ℕ) (options : Options) (lookup : Lookup)
+        → Derives text options lookup (document text options lookup) }
 {}
 
 /// A text derives one document: two documents that it derives have equal nodes, with equal data, ranges and tokens.
@@ -51,7 +53,8 @@ pub fn one_block_document()
 /// A text has one reading: two documents that it derives have equal events with equal ranges.
 pub fn one_block_reading()
     ensures { (text : List ℕ) (options : Options) (lookup : Lookup) (first second : BlockDocument)
-        → Derives text options lookup first → Derives text options lookup second → block_reading first ≡ block_reading second }
+        → Derives text options lookup first
+        → Derives text options lookup second → block_reading first ≡ block_reading second }
 {}
 
 /// The events of a document are balanced: each start has its end after it, with its tag.
@@ -61,7 +64,8 @@ pub fn block_reading_is_balanced()
 
 /// The blocks do not change if lines are judged one by one, and blank lines wait until a later line shows whether they belong to code.
 pub fn lines_give_the_blocks()
-    ensures { (options : Options) (text : List ℕ) → blocks_by_line options text ≡ blocks options text }
+    ensures { (options : Options) (text : List ℕ)
+        → blocks_by_line options text ≡ blocks options text }
 {}
 
 /// A paragraph directly in an item of a tight list is not an element; every other paragraph is one.
@@ -80,7 +84,8 @@ pub fn tables_are_rectangular()
 pub fn first_definition_stays()
     ensures first { (fold : List ℕ → List ℕ) (folded : List ℕ) (references : List Reference)
         → first_with fold folded (table fold references) ≡ first_with fold folded references }
-    ensures once { (fold : List ℕ → List ℕ) (references : List Reference) → EachOnce fold (table fold references) }
+    ensures once { (fold : List ℕ → List ℕ) (references : List Reference)
+        → EachOnce fold (table fold references) }
 {}
 
 /// The ranges of a document are in its text: siblings are in order without overlap, and a child is within its parent.
@@ -92,16 +97,19 @@ pub fn ranges_are_in_order()
 /// The ranges of a document begin and end at character boundaries.
 pub fn ranges_cut_no_character()
     ensures { (text : List ℕ) (options : Options) (lookup : Lookup) (document : BlockDocument)
-        → IsUtf8 text → Derives text options lookup document → AllAt (IsCharBoundary text) document }
+        → IsUtf8 text → Derives text options lookup document
+        → AllAt (IsCharBoundary text) document }
 {}
 
 /// A document has at most four nodes for each byte of its text, and 262,144 more for each of its tables: the cells that are filled in.
 /// There are no more tables than bytes.
 pub fn nodes_are_few()
     ensures nodes { (text : List ℕ) (options : Options) (lookup : Lookup) (document : BlockDocument)
-        → Derives text options lookup document → count_nodes document ≤ 4 * length text + 262144 * count_tables document }
-    ensures tables { (text : List ℕ) (options : Options) (lookup : Lookup) (document : BlockDocument)
-        → Derives text options lookup document → count_tables document ≤ length text }
+        → Derives text options lookup document
+        → count_nodes document ≤ 4 * length text + 262144 * count_tables document }
+    ensures tables { (text : List ℕ) (options : Options) (lookup : Lookup)
+        (document : BlockDocument) → Derives text options lookup document
+        → count_tables document ≤ length text }
 {}
 
 /// A text that is not owned, and an HTML line, is the slice of its range.

@@ -29,9 +29,12 @@ impl<'a> Walk<'a> {
     pub(crate) fn synthesized(&self, item: Item) -> Result<Event<'a>, AllocError>
         requires drawn { IsDrawn self.now item }
         requires synthesized { is_synthesized item.body ≡ true }
-        ensures value { IfOk result (λ made. (tight : Bool) (node : BlockNode) → Drawn self.now.text.now (texts_of self.now) item node
+        ensures value { IfOk result
+            (λ made. (tight : Bool) (node : BlockNode)
+            → Drawn self.now.text.now (texts_of self.now) item node
             → reads.Alone (shown made) ≡ read_as (kind_within tight node.kind)) }
-        ensures lent { IfOk result (λ made. IsZeroCopy (text_of self.now) made item.start item.end) }
+        ensures lent { IfOk result
+            (λ made. IsZeroCopy (text_of self.now) made item.start item.end) }
     {
         let text = match item.body {
             ItemBody::SynthesizeText(index) => self.allocations[index].clone(self.alloc)?,
@@ -51,7 +54,9 @@ impl<'a> Walk<'a> {
         requires below { IsBelow self.now }
         requires drawn { IsDrawn self.now item }
         requires texts { has_texts item.body ≡ true }
-        ensures { IfOk result (λ tag. (z : Zip Item) (above : List Outer) (node : BlockNode) → StandsBelow self.now z above → Drawn self.now.text.now (texts_of self.now) item node
+        ensures { IfOk result
+            (λ tag. (z : Zip Item) (above : List Outer) (node : BlockNode)
+            → StandsBelow self.now z above → Drawn self.now.text.now (texts_of self.now) item node
             → Some (shown_tag tag) ≡ tag_in (read_as (kind_within (tight_below above) node.kind))) }
     {
         match item.body {
@@ -84,8 +89,10 @@ impl<'a> Walk<'a> {
     #[inline(always)]
     pub(crate) fn end(&self, item: Item) -> Option<TagEnd>
         requires below { IsBelow self.now }
-        ensures { (z : Zip Item) (above : List Outer) (node : BlockNode) → StandsBelow self.now z above → Drawn self.now.text.now (texts_of self.now) item node
-            → option_map shown_end result ≡ end_in (read_as (kind_within (tight_below above) node.kind)) }
+        ensures { (z : Zip Item) (above : List Outer) (node : BlockNode)
+            → StandsBelow self.now z above → Drawn self.now.text.now (texts_of self.now) item node
+            → option_map shown_end result
+            ≡ end_in (read_as (kind_within (tight_below above) node.kind)) }
     {
         match item.body {
             ItemBody::Paragraph | ItemBody::ParagraphOf(_) => {
@@ -126,7 +133,8 @@ impl<'a> Walk<'a> {
     #[inline(always)]
     pub(crate) fn is_tight(&self) -> bool
         requires { IsBelow self.now }
-        ensures { (z : Zip Item) (above : List Outer) → StandsBelow self.now z above → result ≡ tight_below above }
+        ensures { (z : Zip Item) (above : List Outer) → StandsBelow self.now z above
+            → result ≡ tight_below above }
     {
         let mut parents = self.tree.walk_spine();
         while let Some(ix) = parents.next_back() {
@@ -145,7 +153,8 @@ impl<'a> Walk<'a> {
 #[inline(always)]
 pub(crate) fn event_of<'a>(alloc: Global, short: Short<'a>) -> Event<'a>
     ensures value { shown result ≡ shown_short short.entry }
-    ensures lent { (text : List ℕ) (start end : ℕ) → IsShortZeroCopy text short.entry start end → IsZeroCopy text result start end }
+    ensures lent { (text : List ℕ) (start end : ℕ) → IsShortZeroCopy text short.entry start end
+        → IsZeroCopy text result start end }
 {
     match short {
         Short::Text(text) => Event::Text(CowStr::Borrowed(text.as_str())),
@@ -162,7 +171,8 @@ pub(crate) fn event_of<'a>(alloc: Global, short: Short<'a>) -> Event<'a>
 
 // The tag of a heading with these words between the braces of its attributes.
 fn heading<'a>(alloc: Global, level: HeadingLevel, words: &str) -> Result<Tag<'a>, AllocError>
-    ensures { IfOk result (λ tag. shown_tag tag ≡ Heading (level_number level) (attributes_of words.now)) }
+    ensures { IfOk result
+        (λ tag. shown_tag tag ≡ Heading (level_number level) (attributes_of words.now)) }
 {
     let HeadingAttributes { id, classes, attrs } = HeadingAttributes::read(alloc, words)?;
     Ok(Tag::Heading {

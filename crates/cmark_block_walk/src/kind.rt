@@ -34,7 +34,8 @@ pub(crate) fn is_synthesized(item: Item) -> bool
 // Whether an item is a leaf, whose lines have spans (CommonMark 4.2, 4.3 and 4.8, GFM 4.10).
 #[inline(always)]
 pub(crate) fn is_leaf(item: Item) -> bool
-    ensures { (text : List ℕ) (texts : List CowStr) (node : BlockNode) → Drawn text texts item node → result ≡ is_leaf node.kind }
+    ensures { (text : List ℕ) (texts : List CowStr) (node : BlockNode) → Drawn text texts item node
+        → result ≡ is_leaf node.kind }
 {
     match item.body {
         ItemBody::Paragraph => true,
@@ -52,7 +53,8 @@ pub(crate) fn is_leaf(item: Item) -> bool
 // Whether an item is the cell of a table (GFM 4.10).
 #[inline(always)]
 pub(crate) fn is_cell(item: Item) -> bool
-    ensures { (text : List ℕ) (texts : List CowStr) (node : BlockNode) → Drawn text texts item node → result ≡ is_cell node.kind }
+    ensures { (text : List ℕ) (texts : List CowStr) (node : BlockNode) → Drawn text texts item node
+        → result ≡ is_cell node.kind }
 {
     match item.body {
         ItemBody::TableCell => true,
@@ -63,7 +65,8 @@ pub(crate) fn is_cell(item: Item) -> bool
 // Whether an item is a definition list.
 #[inline(always)]
 pub(crate) fn is_list(item: Item) -> bool
-    ensures { (text : List ℕ) (texts : List CowStr) (node : BlockNode) → Drawn text texts item node → result ≡ is_list node.kind }
+    ensures { (text : List ℕ) (texts : List CowStr) (node : BlockNode) → Drawn text texts item node
+        → result ≡ is_list node.kind }
 {
     matches!(item.body, ItemBody::DefinitionList(_))
 }
@@ -71,7 +74,8 @@ pub(crate) fn is_list(item: Item) -> bool
 // Whether an item is a title in a definition list.
 #[inline(always)]
 pub(crate) fn is_title(item: Item) -> bool
-    ensures { (text : List ℕ) (texts : List CowStr) (node : BlockNode) → Drawn text texts item node → result ≡ is_title node.kind }
+    ensures { (text : List ℕ) (texts : List CowStr) (node : BlockNode) → Drawn text texts item node
+        → result ≡ is_title node.kind }
 {
     matches!(
         item.body,

@@ -7,5 +7,6 @@ ghost use Rattle.cmark_block_walk.specs.Walking.{Remains};
 
 /// The rest of a walk is one list of events and leaves: the tree and the place of the walk determine it.
 pub fn one_remainder()
-    ensures { (walk : Walk) (first second : List Segment) → Remains walk first → Remains walk second → first ≡ second }
+    ensures { (walk : Walk) (first second : List Segment) → Remains walk first → Remains walk second
+        → first ≡ second }
 {}

@@ -24,7 +24,9 @@ impl<'a> Walk<'a> {
     ) -> Result<bool, AllocError>
         requires at { IsAt self.old ix }
         requires before { self.old.stage ≡ stage.Lines }
-        ensures given { IfOk result (λ is_cell. (left : List Segment) → Remains self.old left → Gives left (met.Leaf is_cell) lines.new.items self.new) }
+        ensures given { IfOk result
+            (λ is_cell. (left : List Segment) → Remains self.old left
+            → Gives left (met.Leaf is_cell) lines.new.items self.new) }
         ensures refused { OnErr result (LeavesTheSame self.old self.new) }
         ensures goes_on { GoesOn self.old self.new }
     {

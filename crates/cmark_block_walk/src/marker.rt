@@ -32,7 +32,9 @@ impl<'a> Walk<'a> {
         requires at { IsAt self.old ix }
         requires before { self.old.stage ≡ stage.Before }
         requires task { IsTaskAt self.old ix is_checked }
-        ensures given { IfOk result (λ met. (left : List Segment) (lines : List LeafLine) → Remains self.old left → Gives left met lines self.new) }
+        ensures given { IfOk result
+            (λ met. (left : List Segment) (lines : List LeafLine) → Remains self.old left
+            → Gives left met lines self.new) }
         ensures lent { IfOk result (MeetsZeroCopy (text_of self.old)) }
         ensures refused { OnErr result (LeavesTheSame self.old self.new) }
         ensures goes_on { GoesOn self.old self.new }
@@ -65,7 +67,9 @@ impl<'a> Walk<'a> {
         requires before { self.old.stage ≡ stage.Before }
         requires task { IsTaskAt self.old ix is_checked }
         requires following { IsLeafAfter self.old ix (Some leaf) }
-        ensures given { IfOk result (λ met. (left : List Segment) (lines : List LeafLine) → Remains self.old left → Gives left met lines self.new) }
+        ensures given { IfOk result
+            (λ met. (left : List Segment) (lines : List LeafLine) → Remains self.old left
+            → Gives left met lines self.new) }
         ensures lent { IfOk result (MeetsZeroCopy (text_of self.old)) }
         ensures refused { OnErr result (LeavesTheSame self.old self.new) }
         ensures goes_on { GoesOn self.old self.new }
@@ -86,7 +90,9 @@ impl<'a> Walk<'a> {
     // The tag of a paragraph or a heading.
     fn leaf_tag(&self, leaf: Item) -> Result<Tag<'a>, AllocError>
         requires { IsLeafElement self.now leaf }
-        ensures { IfOk result (λ tag. (z : Zip Item) (above : List Outer) (node : BlockNode) → StandsBelow self.now z above → Drawn self.now.text.now (texts_of self.now) leaf node
+        ensures { IfOk result
+            (λ tag. (z : Zip Item) (above : List Outer) (node : BlockNode)
+            → StandsBelow self.now z above → Drawn self.now.text.now (texts_of self.now) leaf node
             → reads.Around (shown_tag tag) ≡ read_as (kind_within (tight_below above) node.kind)) }
     {
         match self.glance(leaf) {
@@ -106,7 +112,9 @@ impl<'a> Walk<'a> {
     ) -> Result<Met<'a>, AllocError>
         requires at { IsAt self.old ix }
         requires listed { self.old.stage ≡ stage.Listed is_checked start end }
-        ensures given { IfOk result (λ met. (left : List Segment) (lines : List LeafLine) → Remains self.old left → Gives left met lines self.new) }
+        ensures given { IfOk result
+            (λ met. (left : List Segment) (lines : List LeafLine) → Remains self.old left
+            → Gives left met lines self.new) }
         ensures lent { IfOk result (MeetsZeroCopy (text_of self.old)) }
         ensures refused { OnErr result (LeavesTheSame self.old self.new) }
         ensures goes_on { GoesOn self.old self.new }
@@ -169,7 +177,8 @@ impl<'a> Walk<'a> {
     pub(crate) fn meet_marker(&mut self, is_checked: bool, start: usize, end: usize) -> Met<'a>
         requires goes { Goes self.old }
         requires marked { self.old.stage ≡ stage.Marked is_checked start end }
-        ensures given { (left : List Segment) (lines : List LeafLine) → Remains self.old left → Gives left result lines self.new }
+        ensures given { (left : List Segment) (lines : List LeafLine) → Remains self.old left
+            → Gives left result lines self.new }
         ensures lent { MeetsZeroCopy (text_of self.old) result }
         ensures goes_on { GoesOn self.old self.new }
     {

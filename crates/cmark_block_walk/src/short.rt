@@ -29,7 +29,8 @@ impl<'a> Walk<'a> {
     pub fn next_short(&mut self, lines: &mut Vec<LeafLine>) -> Result<Brief<'a>, AllocError>
         requires { Goes self.old }
         ensures given { IfOk result (λ brief. GivesBrief self.old brief lines.new.items self.new) }
-        ensures refused { OnErr result ((left : List Segment) → Remains self.old left → Remains self.new left) }
+        ensures refused { OnErr result
+            ((left : List Segment) → Remains self.old left → Remains self.new left) }
         ensures ends { OnErr result (NoEndIsNext self.old) }
         ensures goes { Goes self.new }
         ensures definitions { definitions_of self.new ≡ definitions_of self.old }
@@ -59,7 +60,8 @@ impl<'a> Walk<'a> {
         lines: &mut Vec<LeafLine>,
     ) -> Result<BriefStep<'a>, AllocError>
         requires { Goes self.old }
-        ensures given { IfOk result (λ brief. GivesShortStep self.old brief lines.new.items self.new) }
+        ensures given { IfOk result
+            (λ brief. GivesShortStep self.old brief lines.new.items self.new) }
         ensures refused { OnErr result (LeavesTheSame self.old self.new) }
         ensures nearer { IfOk result (λ brief. ComesNearer self.old brief self.new) }
         ensures goes_on { GoesOn self.old self.new }
@@ -83,7 +85,8 @@ impl<'a> Walk<'a> {
     fn enter_short(&mut self, ix: TreeIndex) -> Result<BriefStep<'a>, AllocError>
         requires at { IsAt self.old ix }
         requires before { self.old.stage ≡ stage.Before }
-        ensures given { IfOk result (λ brief. (lines : List LeafLines) → GivesShortStep self.old brief lines self.new) }
+        ensures given { IfOk result
+            (λ brief. (lines : List LeafLines) → GivesShortStep self.old brief lines self.new) }
         ensures refused { OnErr result (LeavesTheSame self.old self.new) }
         ensures nearer { IfOk result (λ brief. ComesNearer self.old brief self.new) }
         ensures goes_on { GoesOn self.old self.new }
@@ -154,7 +157,8 @@ impl<'a> Walk<'a> {
     pub(crate) fn glance(&self, item: Item) -> Glance<'a>
         requires below { IsBelow self.now }
         requires drawn { IsDrawn self.now item }
-        ensures value { (z : Zip Item) (above : List Outer) (node : BlockNode) → StandsBelow self.now z above → Drawn self.now.text.now (texts_of self.now) item node
+        ensures value { (z : Zip Item) (above : List Outer) (node : BlockNode)
+            → StandsBelow self.now z above → Drawn self.now.text.now (texts_of self.now) item node
             → ReadsAs result (read_as (kind_within (tight_below above) node.kind)) }
         ensures lent { GlancesZeroCopy (text_of self.now) item result }
         ensures long { IsLongGlance result item.body }

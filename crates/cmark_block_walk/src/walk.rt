@@ -81,9 +81,12 @@ impl<'a> Walk<'a> {
     #[inline(always)]
     pub fn next(&mut self, lines: &mut Vec<LeafLine>) -> Result<Met<'a>, AllocError>
         requires { Goes self.old }
-        ensures given { IfOk result (λ met. (left : List Segment) → Remains self.old left → Gives left met lines.new.items self.new) }
+        ensures given { IfOk result
+            (λ met. (left : List Segment) → Remains self.old left
+            → Gives left met lines.new.items self.new) }
         ensures lent { IfOk result (MeetsZeroCopy (text_of self.old)) }
-        ensures refused { OnErr result ((left : List Segment) → Remains self.old left → Remains self.new left) }
+        ensures refused { OnErr result
+            ((left : List Segment) → Remains self.old left → Remains self.new left) }
         ensures ends { OnErr result (NoEndIsNext self.old) }
         ensures goes { Goes self.new }
         ensures definitions { definitions_of self.new ≡ definitions_of self.old }
@@ -111,7 +114,9 @@ impl<'a> Walk<'a> {
     #[inline(never)]
     fn long_step(&mut self, ix: TreeIndex) -> Result<Met<'a>, AllocError>
         requires { IsLongAt self.old ix }
-        ensures given { IfOk result (λ met. (left : List Segment) (lines : List LeafLine) → Remains self.old left → Gives left met lines self.new) }
+        ensures given { IfOk result
+            (λ met. (left : List Segment) (lines : List LeafLine) → Remains self.old left
+            → Gives left met lines self.new) }
         ensures lent { IfOk result (MeetsZeroCopy (text_of self.old)) }
         ensures refused { OnErr result (LeavesTheSame self.old self.new) }
         ensures goes_on { GoesOn self.old self.new }
@@ -136,7 +141,9 @@ impl<'a> Walk<'a> {
         requires at { IsAt self.old ix }
         requires before { self.old.stage ≡ stage.Before }
         requires long { IsLongItemAt self.old ix }
-        ensures given { IfOk result (λ met. (left : List Segment) (lines : List LeafLine) → Remains self.old left → Gives left met lines self.new) }
+        ensures given { IfOk result
+            (λ met. (left : List Segment) (lines : List LeafLine) → Remains self.old left
+            → Gives left met lines self.new) }
         ensures lent { IfOk result (MeetsZeroCopy (text_of self.old)) }
         ensures refused { OnErr result (LeavesTheSame self.old self.new) }
         ensures goes_on { GoesOn self.old self.new }
@@ -157,7 +164,9 @@ impl<'a> Walk<'a> {
         requires before { self.old.stage ≡ stage.Before }
         requires item { IsItemAt self.old ix item }
         requires synthesized { is_synthesized item.body ≡ true }
-        ensures given { IfOk result (λ met. (left : List Segment) (lines : List LeafLine) → Remains self.old left → Gives left met lines self.new) }
+        ensures given { IfOk result
+            (λ met. (left : List Segment) (lines : List LeafLine) → Remains self.old left
+            → Gives left met lines self.new) }
         ensures lent { IfOk result (MeetsZeroCopy (text_of self.old)) }
         ensures refused { OnErr result (LeavesTheSame self.old self.new) }
         ensures goes_on { GoesOn self.old self.new }
@@ -175,7 +184,9 @@ impl<'a> Walk<'a> {
         requires before { self.old.stage ≡ stage.Before }
         requires item { IsItemAt self.old ix item }
         requires texts { has_texts item.body ≡ true }
-        ensures given { IfOk result (λ met. (left : List Segment) (lines : List LeafLine) → Remains self.old left → Gives left met lines self.new) }
+        ensures given { IfOk result
+            (λ met. (left : List Segment) (lines : List LeafLine) → Remains self.old left
+            → Gives left met lines self.new) }
         ensures lent { IfOk result (MeetsZeroCopy (text_of self.old)) }
         ensures refused { OnErr result (LeavesTheSame self.old self.new) }
         ensures goes_on { GoesOn self.old self.new }
@@ -210,7 +221,8 @@ pub(crate) fn begun<'a>(tag: Tag<'a>, item: Item) -> Met<'a>
 #[inline(always)]
 pub(crate) fn given<'a>(event: Event<'a>, start: usize, end: usize) -> Met<'a>
     ensures value { GivesRanged event.entry start end result }
-    ensures lent { (text : List ℕ) → IsZeroCopy text event.entry start end → MeetsZeroCopy text result }
+    ensures lent { (text : List ℕ) → IsZeroCopy text event.entry start end
+        → MeetsZeroCopy text result }
 {
     Met::Event(Ranged {
         event,

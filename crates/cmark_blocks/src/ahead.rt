@@ -55,8 +55,10 @@ impl<'a, E: EntityLookup> Pass<'a, E> {
         requires within { IsIn self.now.text.now last }
         ensures next { SeesNextInside E.replacement self.now count last.entry result }
         ensures placed { IfSome result (IsIn self.now.text.now) }
-        ensures in_text { IfSome result (λ rest. StandInText self.now.text.now (row_of rest).columns) }
-        ensures further { IfSome result (λ rest. (row_of last.entry).line_end < (row_of rest).line_end) }
+        ensures in_text { IfSome result
+            (λ rest. StandInText self.now.text.now (row_of rest).columns) }
+        ensures further { IfSome result
+            (λ rest. (row_of last.entry).line_end < (row_of rest).line_end) }
     {
         let start = last.line_end();
         if start == self.text.len() {
@@ -73,8 +75,10 @@ impl<'a, E: EntityLookup> Pass<'a, E> {
         requires within { IsIn self.now.text.now last }
         ensures next { SeesNext E.replacement self.now last.entry result }
         ensures placed { IfSome result (IsIn self.now.text.now) }
-        ensures in_text { IfSome result (λ rest. StandInText self.now.text.now (row_of rest).columns) }
-        ensures further { IfSome result (λ rest. (row_of last.entry).line_end < (row_of rest).line_end) }
+        ensures in_text { IfSome result
+            (λ rest. StandInText self.now.text.now (row_of rest).columns) }
+        ensures further { IfSome result
+            (λ rest. (row_of last.entry).line_end < (row_of rest).line_end) }
     {
         let start = last.line_end();
         if start == self.text.len() {
@@ -90,8 +94,10 @@ impl<'a, E: EntityLookup> Pass<'a, E> {
         requires within { IsIn self.now.text.now last }
         ensures next { GoesOnWith E.replacement self.now last.entry result }
         ensures placed { IfSome result (IsIn self.now.text.now) }
-        ensures in_text { IfSome result (λ rest. StandInText self.now.text.now (row_of rest).columns) }
-        ensures further { IfSome result (λ rest. (row_of last.entry).line_end < (row_of rest).line_end) }
+        ensures in_text { IfSome result
+            (λ rest. StandInText self.now.text.now (row_of rest).columns) }
+        ensures further { IfSome result
+            (λ rest. (row_of last.entry).line_end < (row_of rest).line_end) }
     {
         let rest = self.line_ahead(last)?;
         if is_text(rest, self.options) && !self.block_interrupts(self.outer.len(), rest, true) {
@@ -104,7 +110,11 @@ impl<'a, E: EntityLookup> Pass<'a, E> {
 
 /// Whether the line, which lacks no prefix, continues a paragraph as its text.
 fn is_text(rest: LineRest<'_>, options: Options) -> bool
-    ensures { (ahead : List Row) → result ≡ (not (interrupts (shown_options options) true (row_of rest.entry) ahead) && is_none (underlines (row_of rest.entry))) }
+    ensures { (ahead : List Row)
+        → result
+        ≡
+        (not (interrupts (shown_options options) true (row_of rest.entry) ahead) && is_none
+        (underlines (row_of rest.entry))) }
 {
     if interrupts(rest, true, options) {
         return false;

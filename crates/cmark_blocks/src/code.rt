@@ -43,7 +43,9 @@ fn draw_blank_lines(
 ) -> Result<Option<Stretch>, AllocError>
     requires { IsPlaced builder.old.tree }
     ensures placed { IsPlaced builder.new.tree }
-    ensures lines { IfOk result (λ left. (text : List ℕ) → DrawsLines text builder.old builder.new (map row_of lines.now) waits left) }
+    ensures lines { IfOk result
+        (λ left. (text : List ℕ)
+        → DrawsLines text builder.old builder.new (map row_of lines.now) waits left) }
     ensures definitions { defined builder.new.allocations ≡ defined builder.old.allocations }
 {
     let mut left = waits;
@@ -64,7 +66,8 @@ impl<'a, E: EntityLookup> Pass<'a, E> {
         requires good { IsGood self.old }
         requires closed { self.old.leaf ≡ leaf.Closed }
         ensures good { IsGood self.new }
-        ensures runs { OnOk result ((more : ℕ) → BeginsLeaf E.replacement IndentedCode more rest.entry self.old self.new) }
+        ensures runs { OnOk result
+            ((more : ℕ) → BeginsLeaf E.replacement IndentedCode more rest.entry self.old self.new) }
         ensures text { self.new.text ≡ self.old.text }
     {
         self.begin_block();
@@ -79,7 +82,10 @@ impl<'a, E: EntityLookup> Pass<'a, E> {
     fn info_string(&self, fence: CodeFence, rest: LineRest<'a>) -> Result<CowStr<'a>, AllocError>
         requires line { IsRead self.now.text.now rest }
         requires stands { InfoStands self.now.text.now (row_of rest) fence }
-        ensures { IfOk result (λ info. text_bytes info ≡ resolved (E.replacement self.now.entities.now) (slice_range (words_of (row_of rest.entry)) fence.info_start fence.info_end)) }
+        ensures { IfOk result
+            (λ info. text_bytes info
+            ≡ resolved (E.replacement self.now.entities.now)
+            (slice_range (words_of (row_of rest.entry)) fence.info_start fence.info_end)) }
     {
         let words = rest.words_begin();
         let info = &self.text[words + fence.info_start..words + fence.info_end];
@@ -98,7 +104,11 @@ impl<'a, E: EntityLookup> Pass<'a, E> {
         requires line { IsRead self.old.text.now rest }
         requires stands { InfoStands self.old.text.now (row_of rest) fence }
         ensures good { IsGood self.new }
-        ensures runs { OnOk result ((more : ℕ) → BeginsLeaf E.replacement (FencedCode (shown_fence indent (words_of (row_of rest.entry)) fence)) more rest.entry self.old self.new) }
+        ensures runs { OnOk result
+            ((more : ℕ)
+            → BeginsLeaf E.replacement
+            (FencedCode (shown_fence indent (words_of (row_of rest.entry)) fence)) more rest.entry
+            self.old self.new) }
         ensures text { self.new.text ≡ self.old.text }
     {
         let info = self.info_string(fence, rest)?;
@@ -166,7 +176,8 @@ impl<'a, E: EntityLookup> Pass<'a, E> {
     fn keep_blank_line(&mut self, rest: LineRest<'a>) -> Result<(), AllocError>
         requires good { IsGood self.old }
         requires line { IsRead self.old.text.now rest }
-        requires is { (waits : Option Stretch) × (end : ℕ) × (self.old.leaf ≡ leaf.Indented waits end) }
+        requires is { (waits : Option Stretch) × (end : ℕ)
+            × (self.old.leaf ≡ leaf.Indented waits end) }
         requires waits { code_continuation (row_of rest) ≡ grammar.Waits }
         ensures good { IsGood self.new }
         ensures runs { OnOk result (FeedsLeaf E.replacement rest.entry self.old self.new) }

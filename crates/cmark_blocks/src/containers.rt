@@ -58,10 +58,14 @@ impl<'a, E: EntityLookup> Pass<'a, E> {
         requires enters { Enters (row_of rest) start }
         requires placed { IsIn self.old.text.now (inside_of start) }
         ensures good { IsGood self.new }
-        ensures runs { IfOk result (λ entered. BeginsContainer E.replacement start.entry rest.entry entered self.old self.new) }
-        ensures inside { IfOk result (λ entered. IfSome entered (λ inside. inside.0 ≡ inside_of start.entry)) }
+        ensures runs { IfOk result
+            (λ entered. BeginsContainer E.replacement start.entry rest.entry entered self.old
+            self.new) }
+        ensures inside { IfOk result
+            (λ entered. IfSome entered (λ inside. inside.0 ≡ inside_of start.entry)) }
         ensures text { self.new.text ≡ self.old.text }
-        ensures leaf { IfOk result (λ entered. IfSome entered (λ inside. self.new.leaf ≡ leaf.Closed)) }
+        ensures leaf { IfOk result
+            (λ entered. IfSome entered (λ inside. self.new.leaf ≡ leaf.Closed)) }
         ensures bare { self.new.bare ≡ self.old.bare }
     {
         match start {
@@ -101,7 +105,8 @@ impl<'a, E: EntityLookup> Pass<'a, E> {
         requires line { IsRead self.old.text.now following }
         requires closed { self.old.leaf ≡ leaf.Closed }
         ensures good { IsGood self.new }
-        ensures runs { OnOk result (BeginsTask E.replacement is_checked start following.entry self.old self.new) }
+        ensures runs { OnOk result
+            (BeginsTask E.replacement is_checked start following.entry self.old self.new) }
         ensures text { self.new.text ≡ self.old.text }
         ensures bare { self.new.bare ≡ self.old.bare }
     {
@@ -116,8 +121,10 @@ impl<'a, E: EntityLookup> Pass<'a, E> {
     pub(crate) fn definition_begun(&self, rest: LineRest<'a>) -> Option<(usize, LineRest<'a>)>
         ensures width { DefinesAs E.replacement self.now rest.entry (option_map width_of result) }
         ensures inside { IfSome result (EntersDefinition (row_of rest.entry)) }
-        ensures placed { (text : List ℕ) → IsIn text rest.entry → IfSome result (λ begun. IsIn text begun.1) }
-        ensures shorter { IfSome result (λ begun. length (row_of begun.1).columns < length (row_of rest.entry).columns) }
+        ensures placed { (text : List ℕ) → IsIn text rest.entry
+            → IfSome result (λ begun. IsIn text begun.1) }
+        ensures shorter { IfSome result
+            (λ begun. length (row_of begun.1).columns < length (row_of rest.entry).columns) }
     {
         if !reads_definition_lists(self.options) || !self.inner.may_define() {
             return None;
@@ -129,7 +136,9 @@ impl<'a, E: EntityLookup> Pass<'a, E> {
     pub(crate) fn enter(&mut self, container: Container) -> Result<(), AllocError>
         requires { IsGood self.old }
         ensures good { IsGood self.new }
-        ensures runs { OnOk result ((k : grammar.Container) → Shows container k → Steps E.replacement self.old self.new (stepped_inside k)) }
+        ensures runs { OnOk result
+            ((k : grammar.Container) → Shows container k
+            → Steps E.replacement self.old self.new (stepped_inside k)) }
         ensures tables { self.new.builder.allocations ≡ self.old.builder.allocations }
         ensures text { self.new.text ≡ self.old.text }
         ensures leaf { self.new.leaf ≡ self.old.leaf }
@@ -151,7 +160,9 @@ impl<'a, E: EntityLookup> Pass<'a, E> {
     ) -> Result<(), AllocError>
         requires { IsGood self.old }
         ensures good { IsGood self.new }
-        ensures runs { OnOk result (Steps E.replacement self.old self.new (block_quote_begun (option_map shown_block_quote_kind alert) start)) }
+        ensures runs { OnOk result
+            (Steps E.replacement self.old self.new
+            (block_quote_begun (option_map shown_block_quote_kind alert) start)) }
         ensures text { self.new.text ≡ self.old.text }
         ensures leaf { self.new.leaf ≡ self.old.leaf }
         ensures bare { self.new.bare ≡ self.old.bare }
@@ -166,7 +177,10 @@ impl<'a, E: EntityLookup> Pass<'a, E> {
         requires good { IsGood self.old }
         requires number { list_number item.delimiter (unwrap_or item.number 0) ≡ item.number }
         ensures good { IsGood self.new }
-        ensures runs { OnOk result ((task : Option Bool) → Steps E.replacement self.old self.new (item_begun_in item.delimiter item.number item.width task start)) }
+        ensures runs { OnOk result
+            ((task : Option Bool)
+            → Steps E.replacement self.old self.new
+            (item_begun_in item.delimiter item.number item.width task start)) }
         ensures text { self.new.text ≡ self.old.text }
         ensures leaf { self.new.leaf ≡ self.old.leaf }
         ensures bare { self.new.bare ≡ self.old.bare }
@@ -184,7 +198,8 @@ impl<'a, E: EntityLookup> Pass<'a, E> {
     ) -> Result<(), AllocError>
         requires { IsGood self.old }
         ensures good { IsGood self.new }
-        ensures runs { OnOk result (Steps E.replacement self.old self.new (definition_begun_in width start)) }
+        ensures runs { OnOk result
+            (Steps E.replacement self.old self.new (definition_begun_in width start)) }
         ensures text { self.new.text ≡ self.old.text }
         ensures leaf { self.new.leaf ≡ self.old.leaf }
         ensures bare { self.new.bare ≡ self.old.bare }
@@ -259,7 +274,9 @@ impl<'a, E: EntityLookup> Pass<'a, E> {
 impl OpenContainer {
     /// The siblings with this container as the last one; it ended at this byte offset with these blocks in it.
     fn siblings_after(self, inside: Siblings, end: usize) -> Siblings
-        ensures { (m : model.OpenContainer) → ShowsContainer self m → shown_siblings result ≡ after_container m.container end (shown_siblings inside) m.around }
+        ensures { (m : model.OpenContainer) → ShowsContainer self m
+            → shown_siblings result
+            ≡ after_container m.container end (shown_siblings inside) m.around }
     {
         match self.container {
             Container::BlockQuote => self.around,

@@ -28,7 +28,10 @@ use std::alloc::{AllocError, Global};
 
 /// Whether metadata blocks of any kind are read.
 fn reads_metadata(options: Options) -> bool
-    ensures { result ≡ ((shown_options options).yaml_style_metadata_blocks || (shown_options options).pluses_delimited_metadata_blocks) }
+    ensures { result
+        ≡
+        ((shown_options options).yaml_style_metadata_blocks ||
+        (shown_options options).pluses_delimited_metadata_blocks) }
 {
     options.contains(Options::ENABLE_YAML_STYLE_METADATA_BLOCKS)
         || options.contains(Options::ENABLE_PLUSES_DELIMITED_METADATA_BLOCKS)
@@ -73,7 +76,9 @@ fn is_outside(opening: Opening<'_>) -> bool
 
 /// Whether the line begins a block that is no item of a list, if it begins one after all open blocks.
 fn begins_outside_of_lists(line: LineRest<'_>, options: Options) -> bool
-    ensures { HasNoMetadata (shown_options options) → (ahead : List Row) → result ≡ is_outside_of_lists (opens_at (shown_options options) Apart (row_of line.entry) ahead) }
+    ensures { HasNoMetadata (shown_options options) → (ahead : List Row)
+        → result
+        ≡ is_outside_of_lists (opens_at (shown_options options) Apart (row_of line.entry) ahead) }
 {
     is_outside(what_opens(line, options))
 }
@@ -104,7 +109,8 @@ fn ends_leaf(leaf: OpenLeaf<'_>, by: bool, line: LineRest<'_>) -> bool
 
 /// Whether the container does not keep the line.
 fn misses(container: Container, bare: bool, line: LineRest<'_>) -> bool
-    ensures { (k : grammar.Container) → Shows container k → result ≡ is_missed (keeps k bare (row_of line.entry)) }
+    ensures { (k : grammar.Container) → Shows container k
+        → result ≡ is_missed (keeps k bare (row_of line.entry)) }
 {
     match container.keeps(bare, line) {
         Some(_) => false,
@@ -140,7 +146,10 @@ struct CutSearch {
 impl CutSearch {
     /// Whether the next line is a cut.
     fn has_cut(self, line: LineFacts) -> bool
-        ensures { result ≡ (line.begins && (self.is_resolved && (line.is_decided && (line.is_outside || not self.after_item)))) }
+        ensures { result
+            ≡
+            (line.begins &&
+            (self.is_resolved && (line.is_decided && (line.is_outside || not self.after_item)))) }
     {
         line.begins
             && (self.is_resolved && (line.is_decided && (line.is_outside || !self.after_item)))
@@ -148,7 +157,11 @@ impl CutSearch {
 
     /// The last cut after the next line, which begins at the byte offset `at`.
     fn cut_after(self, at: usize, line: LineFacts) -> usize
-        ensures { result ≡ (if line.begins && (self.is_resolved && (line.is_decided && (line.is_outside || not self.after_item))) then at else self.cut) }
+        ensures { result
+            ≡
+            (if line.begins &&
+            (self.is_resolved && (line.is_decided && (line.is_outside || not self.after_item))) then
+            at else self.cut) }
     {
         if self.has_cut(line) { at } else { self.cut }
     }
@@ -173,9 +186,15 @@ impl CutSearch {
 
     /// The search after the next line, which begins at the byte offset `at`.
     fn after(self, at: usize, line: LineFacts) -> CutSearch
-        ensures cut { result.cut ≡ (if line.begins && (self.is_resolved && (line.is_decided && (line.is_outside || not self.after_item))) then at else self.cut) }
-        ensures resolved { result.is_resolved ≡ (line.is_blind && (line.is_blank || self.is_resolved)) }
-        ensures after_item { result.after_item ≡ (if line.begins then not line.is_outside else self.after_item) }
+        ensures cut { result.cut
+            ≡
+            (if line.begins &&
+            (self.is_resolved && (line.is_decided && (line.is_outside || not self.after_item))) then
+            at else self.cut) }
+        ensures resolved { result.is_resolved
+            ≡ (line.is_blind && (line.is_blank || self.is_resolved)) }
+        ensures after_item { result.after_item
+            ≡ (if line.begins then not line.is_outside else self.after_item) }
     {
         let cut = self.cut_after(at, line);
         let is_resolved = self.resolved_after(line);
@@ -207,7 +226,8 @@ impl<'a, E: EntityLookup> Pass<'a, E> {
     /// Whether the line, which lacks no prefix, is no text of an open paragraph.
     fn ends_text(&self, line: LineRest<'a>) -> bool
         requires { IsRead self.now.text.now line }
-        ensures { Tells E.replacement self.now line.entry result (λ text options lookup m r ahead. not (texts options r ahead)) }
+        ensures { Tells E.replacement self.now line.entry result
+            (λ text options lookup m r ahead. not (texts options r ahead)) }
     {
         interrupts(line, true, self.options) || self.block_interrupts(0, line, true)
     }
@@ -215,7 +235,8 @@ impl<'a, E: EntityLookup> Pass<'a, E> {
     /// Whether the line, which lacks no prefix, ends an open paragraph.
     fn ends_paragraph(&self, line: LineRest<'a>) -> bool
         requires { IsRead self.now.text.now line }
-        ensures { Tells E.replacement self.now line.entry result (λ text options lookup m r ahead. ends_paragraph text options lookup r ahead) }
+        ensures { Tells E.replacement self.now line.entry result
+            (λ text options lookup m r ahead. ends_paragraph text options lookup r ahead) }
     {
         match underlines(line) {
             Some(_) => false,
@@ -248,7 +269,9 @@ impl<'a, E: EntityLookup> Pass<'a, E> {
     /// Whether the whole line is not blank, and begins a block after all open ones.
     fn begins_apart(&self, line: LineRest<'a>) -> bool
         requires { IsRead self.now.text.now line }
-        ensures { Tells E.replacement self.now line.entry result (λ text options lookup m r ahead. not (is_blank_line r) && ends_all text options lookup m r ahead) }
+        ensures { Tells E.replacement self.now line.entry result
+            (λ text options lookup m r ahead. not (is_blank_line r) && ends_all text options lookup
+            m r ahead) }
     {
         if line.is_blank() {
             return false;
@@ -258,8 +281,12 @@ impl<'a, E: EntityLookup> Pass<'a, E> {
 
     /// Whether the line is complete, as a byte follows it, and is no head of a table that interrupts a paragraph, whatever follows it.
     fn is_decided(&self, line: LineRest<'a>) -> bool
-        ensures { result ≡ (not (nat_le (indent_of (row_of line.entry)) 3 && begins_with_pipe (words_of (row_of line.entry)))
-            && nat_lt (row_of line.entry).line_end (length self.now.text.now)) }
+        ensures { result
+            ≡
+            (not
+            (nat_le (indent_of (row_of line.entry)) 3 && begins_with_pipe
+            (words_of (row_of line.entry))) && nat_lt (row_of line.entry).line_end
+            (length self.now.text.now)) }
     {
         if begins_with_pipe(line) {
             return false;
@@ -270,13 +297,22 @@ impl<'a, E: EntityLookup> Pass<'a, E> {
     /// What the next line, a whole one, says about cuts.
     fn facts_of(&self, line: LineRest<'a>) -> LineFacts
         requires { IsRead self.now.text.now line }
-        ensures begins { Tells E.replacement self.now line.entry result.begins (λ text options lookup m r ahead. not (is_blank_line r) && ends_all text options lookup m r ahead) }
+        ensures begins { Tells E.replacement self.now line.entry result.begins
+            (λ text options lookup m r ahead. not (is_blank_line r) && ends_all text options lookup
+            m r ahead) }
         ensures is_outside { HasNoMetadata (shown_options self.now.options) → (ahead : List Row)
-            → result.is_outside ≡ is_outside_of_lists (opens_at (shown_options self.now.options) Apart (row_of line.entry) ahead) }
-        ensures is_decided { result.is_decided ≡ (not (nat_le (indent_of (row_of line.entry)) 3 && begins_with_pipe (words_of (row_of line.entry)))
-            && nat_lt (row_of line.entry).line_end (length self.now.text.now)) }
+            → result.is_outside
+            ≡ is_outside_of_lists
+            (opens_at (shown_options self.now.options) Apart (row_of line.entry) ahead) }
+        ensures is_decided { result.is_decided
+            ≡
+            (not
+            (nat_le (indent_of (row_of line.entry)) 3 && begins_with_pipe
+            (words_of (row_of line.entry))) && nat_lt (row_of line.entry).line_end
+            (length self.now.text.now)) }
         ensures is_blank { result.is_blank ≡ is_blank_line (row_of line.entry) }
-        ensures is_blind { result.is_blind ≡ list_all (λ b. not (looks_ahead b)) (bytes_of (row_of line.entry).columns) }
+        ensures is_blind { result.is_blind
+            ≡ list_all (λ b. not (looks_ahead b)) (bytes_of (row_of line.entry).columns) }
     {
         let begins = self.begins_apart(line);
         let is_outside = begins_outside_of_lists(line, self.options);

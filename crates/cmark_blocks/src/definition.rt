@@ -91,7 +91,10 @@ impl<'a, E: EntityLookup> Pass<'a, E> {
     ) -> Result<(), AllocError>
         requires { IsGood self.old }
         ensures good { IsGood self.new }
-        ensures runs { OnOk result (StepsOver E.replacement self.old self.new (λ text options lookup. definition_kept lookup (written definition.now) span.start span.end)) }
+        ensures runs { OnOk result
+            (StepsOver E.replacement self.old self.new
+            (λ text options lookup. definition_kept lookup (written definition.now) span.start
+            span.end)) }
         ensures text { self.new.text ≡ self.old.text }
         ensures blank_lines { self.new.blank_lines ≡ self.old.blank_lines }
     {
@@ -113,7 +116,10 @@ impl<'a, E: EntityLookup> Pass<'a, E> {
         requires good { IsGood self.old }
         requires closed { self.old.leaf ≡ leaf.Closed }
         ensures good { IsGood self.new }
-        ensures runs { OnOk result (StepsOver E.replacement self.old self.new (λ text options lookup. definition_begun lookup (written definition.now) span.start span.end more)) }
+        ensures runs { OnOk result
+            (StepsOver E.replacement self.old self.new
+            (λ text options lookup. definition_begun lookup (written definition.now) span.start
+            span.end more)) }
         ensures text { self.new.text ≡ self.old.text }
     {
         self.begin_block();

@@ -73,7 +73,8 @@ pub fn run_first_pass<'a, E: EntityLookup>(
     options: Options,
     entities: &'a E,
 ) -> Result<FirstPass<'a>, AllocError>
-    ensures document { IfOk result (Leaves text.entry.now (shown_options options) (E.replacement entities.entry.now)) }
+    ensures document { IfOk result
+        (Leaves text.entry.now (shown_options options) (E.replacement entities.entry.now)) }
 {
     let mut pass = Pass::new(alloc, text, options, entities)?;
     pass.feed_all()?;

@@ -36,7 +36,8 @@ fn keep_label(
 ) -> Result<CowIndex, AllocError>
     ensures index { IfOk result (λ index. index.0 ≡ length allocations.old.texts) }
     ensures kept { OnOk result (KeepsText (normal_form label.now) allocations.old allocations.new) }
-    ensures noted { OnOk result (Notes label.now allocations.old.footnotes allocations.new.footnotes) }
+    ensures noted { OnOk result
+        (Notes label.now allocations.old.footnotes allocations.new.footnotes) }
     ensures references { OnOk result (allocations.new.references ≡ allocations.old.references) }
 {
     let label = FootnoteLabel::new(alloc, label)?;
@@ -62,8 +63,12 @@ impl<'a, E: EntityLookup> Pass<'a, E> {
         requires line { IsRead self.old.text.now rest }
         requires closed { IsClosed (words_of (row_of rest)) footnote.label_size }
         ensures good { IsGood self.new }
-        ensures runs { OnOk result (Steps E.replacement self.old self.new (container_begun (shown_footnote (row_of rest.entry) footnote.label_size footnote.old) (row_of rest.entry))) }
-        ensures noted { OnOk result (Notes (marked (words_of (row_of rest.entry)) footnote.label_size).bytes
+        ensures runs { OnOk result
+            (Steps E.replacement self.old self.new
+            (container_begun (shown_footnote (row_of rest.entry) footnote.label_size footnote.old)
+            (row_of rest.entry))) }
+        ensures noted { OnOk result
+            (Notes (marked (words_of (row_of rest.entry)) footnote.label_size).bytes
             self.old.builder.allocations.footnotes self.new.builder.allocations.footnotes) }
         ensures text { self.new.text ≡ self.old.text }
         ensures leaf { self.new.leaf ≡ self.old.leaf }

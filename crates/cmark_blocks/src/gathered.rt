@@ -77,7 +77,8 @@ impl<'a, E: EntityLookup> Pass<'a, E> {
         requires bare { self.now.bare ≡ false }
         requires gathered { IsGathered self.now.text.now gathered.old }
         ensures gathered { IfOk result (λ more. IsGathered self.now.text.now gathered.new) }
-        ensures line { IfOk result (λ more. GathersMore E.replacement self.now gathered.old more gathered.new) }
+        ensures line { IfOk result
+            (λ more. GathersMore E.replacement self.now gathered.old more gathered.new) }
     {
         let Some(rest) = self.text_ahead(gathered.last) else {
             return Ok(false);
@@ -94,8 +95,10 @@ impl<'a, E: EntityLookup> Pass<'a, E> {
         requires bare { self.now.bare ≡ false }
         requires gathered { IsGathered self.now.text.now gathered.old }
         ensures gathered { IfOk result (λ more. IsGathered self.now.text.now gathered.new) }
-        ensures lines { IfOk result (λ more. GathersMore E.replacement self.now gathered.old more gathered.new) }
-        ensures long { IfOk result (λ more. more ≡ true → size ≤ length (string_bytes gathered.new.text)) }
+        ensures lines { IfOk result
+            (λ more. GathersMore E.replacement self.now gathered.old more gathered.new) }
+        ensures long { IfOk result
+            (λ more. more ≡ true → size ≤ length (string_bytes gathered.new.text)) }
     {
         if !self.gather_line(gathered)? {
             return Ok(false);

@@ -46,8 +46,11 @@ pub(crate) fn heading_body<'a>(
     level: HeadingLevel,
     words: CowStr<'a>,
 ) -> Result<ItemBody, AllocError>
-    ensures kind { IfOk result (λ body. kind_of builder.new.allocations.texts (shape body) ≡ Some (Heading (level_number level) (attributes_of (text_bytes words.entry)))) }
-    ensures drawn { OnOk result ((text : List ℕ) (d : Drawing) → Draws text builder.old d → Draws text builder.new d) }
+    ensures kind { IfOk result
+        (λ body. kind_of builder.new.allocations.texts (shape body)
+        ≡ Some (Heading (level_number level) (attributes_of (text_bytes words.entry)))) }
+    ensures drawn { OnOk result
+        ((text : List ℕ) (d : Drawing) → Draws text builder.old d → Draws text builder.new d) }
     ensures tree { builder.new.tree ≡ builder.old.tree }
     ensures definitions { defined builder.new.allocations ≡ defined builder.old.allocations }
 {
@@ -85,10 +88,19 @@ fn setext_body(
 ) -> Result<ItemBody, AllocError>
     requires { IsPlaced builder.old.tree }
     ensures placed { IsPlaced builder.new.tree }
-    ensures kind { IfOk result (λ body. (attributes : Bool) (before : List LineRest) (last : LineRest) → FindsIf attributes before last found
-        → kind_of builder.new.allocations.texts (shape body) ≡ Some (Heading (level_number level) (setext_attributes attributes (setext_columns before last)))) }
-    ensures drawn { OnOk result ((attributes : Bool) (before : List LineRest) (last : LineRest) → FindsIf attributes before last found → (text : List ℕ) (d : Drawing) → Draws text builder.old d
-        → Draws text builder.new (unbraced text attributes (setext_columns before last) d.here d.up)) }
+    ensures kind { IfOk result
+        (λ body. (attributes : Bool) (before : List LineRest) (last : LineRest)
+        → FindsIf attributes before last found
+        → kind_of builder.new.allocations.texts (shape body)
+        ≡ Some
+        (Heading (level_number level)
+        (setext_attributes attributes (setext_columns before last)))) }
+    ensures drawn { OnOk result
+        ((attributes : Bool) (before : List LineRest) (last : LineRest)
+        → FindsIf attributes before last found → (text : List ℕ) (d : Drawing)
+        → Draws text builder.old d
+        → Draws text builder.new
+        (unbraced text attributes (setext_columns before last) d.here d.up)) }
     ensures definitions { defined builder.new.allocations ≡ defined builder.old.allocations }
 {
     let Some(SetextAttributes { words, place }) = found else {
@@ -106,7 +118,10 @@ impl<'a, E: EntityLookup> Pass<'a, E> {
     /// The words between the braces of a heading's attributes; empty if it has no attributes, or they are not read.
     fn attribute_words(&self, attributes: bool, rest: LineRest<'a>) -> &'a str
         requires { IsRead self.now.text.now rest }
-        ensures { result.now ≡ bytes_of (attribute_columns attributes (content_columns (run 35 (words_of (row_of rest.entry))) (row_of rest.entry))) }
+        ensures { result.now
+            ≡ bytes_of
+            (attribute_columns attributes
+            (content_columns (run 35 (words_of (row_of rest.entry))) (row_of rest.entry))) }
     {
         if !attributes {
             return "";
@@ -127,7 +142,9 @@ impl<'a, E: EntityLookup> Pass<'a, E> {
         requires line { IsRead self.old.text.now rest }
         requires level { level_number level ≡ run 35 (words_of (row_of rest)) }
         ensures good { IsGood self.new }
-        ensures runs { OnOk result (BeginsLeaf E.replacement (AtxHeading (level_number level)) 0 rest.entry self.old self.new) }
+        ensures runs { OnOk result
+            (BeginsLeaf E.replacement (AtxHeading (level_number level)) 0 rest.entry self.old
+            self.new) }
         ensures text { self.new.text ≡ self.old.text }
     {
         let attributes = reads_attributes(self.options);
@@ -151,7 +168,9 @@ impl<'a, E: EntityLookup> Pass<'a, E> {
         requires good { IsGood self.old }
         requires is { self.old.leaf ≡ leaf.Paragraph from last }
         ensures good { IsGood self.new }
-        ensures runs { OnOk result (MakesHeading E.replacement (level_number level) from last.entry rest.entry self.old self.new) }
+        ensures runs { OnOk result
+            (MakesHeading E.replacement (level_number level) from last.entry rest.entry self.old
+            self.new) }
         ensures text { self.new.text ≡ self.old.text }
     {
         let found = setext_attributes(

@@ -26,7 +26,10 @@ impl<'a, E: EntityLookup> Pass<'a, E> {
         requires good { IsGood self.old }
         requires closed { self.old.leaf ≡ leaf.Closed }
         ensures good { IsGood self.new }
-        ensures runs { OnOk result ((more : ℕ) → BeginsLeaf E.replacement (HtmlBlock (kind_number kind)) more rest.entry self.old self.new) }
+        ensures runs { OnOk result
+            ((more : ℕ)
+            → BeginsLeaf E.replacement (HtmlBlock (kind_number kind)) more rest.entry self.old
+            self.new) }
         ensures text { self.new.text ≡ self.old.text }
     {
         self.begin_block();

@@ -14,12 +14,16 @@ pub use cmark_block_model::block_laws::{nodes_are_few, tables_are_rectangular};
 /// They have equal events and leaves in order (`tokens`), and equal tables of link reference definitions and of footnotes (`references`,
 /// `footnotes`).
 pub fn one_blocks()
-    ensures nodes { (text : List ℕ) (options : Options) (lookup : Lookup) (first second : BlockDocument)
-        → Derives text options lookup first → Derives text options lookup second → first ≡ second }
-    ensures tokens { (text : List ℕ) (options : Options) (lookup : Lookup) (first second : BlockDocument)
-        → Derives text options lookup first → Derives text options lookup second → segments first ≡ segments second }
-    ensures references { (text : List ℕ) (options : Options) (lookup : Lookup) (first second : BlockDocument)
-        → Derives text options lookup first → Derives text options lookup second → references first ≡ references second }
-    ensures footnotes { (text : List ℕ) (options : Options) (lookup : Lookup) (first second : BlockDocument)
-        → Derives text options lookup first → Derives text options lookup second → footnote_labels first ≡ footnote_labels second }
+    ensures nodes { (text : List ℕ) (options : Options) (lookup : Lookup)
+        (first second : BlockDocument) → Derives text options lookup first
+        → Derives text options lookup second → first ≡ second }
+    ensures tokens { (text : List ℕ) (options : Options) (lookup : Lookup)
+        (first second : BlockDocument) → Derives text options lookup first
+        → Derives text options lookup second → segments first ≡ segments second }
+    ensures references { (text : List ℕ) (options : Options) (lookup : Lookup)
+        (first second : BlockDocument) → Derives text options lookup first
+        → Derives text options lookup second → references first ≡ references second }
+    ensures footnotes { (text : List ℕ) (options : Options) (lookup : Lookup)
+        (first second : BlockDocument) → Derives text options lookup first
+        → Derives text options lookup second → footnote_labels first ≡ footnote_labels second }
 {}

@@ -22,7 +22,9 @@ impl<'a, E: EntityLookup> Pass<'a, E> {
     pub(crate) fn pass_blank_line(&mut self, bare: bool)
         requires { IsGood self.old }
         ensures good { IsGood self.new }
-        ensures runs { Steps E.replacement self.old self.new (λ p. record p { inner = record p.inner { has_line = true; blank = p.inner.has_line }; bare = bare }) }
+        ensures runs { Steps E.replacement self.old self.new
+            (λ p. record p
+            { inner = record p.inner { has_line = true; blank = p.inner.has_line }; bare = bare }) }
         ensures text { self.new.text ≡ self.old.text }
     {
         self.inner.blank = self.inner.has_line;
@@ -45,7 +47,8 @@ impl<'a, E: EntityLookup> Pass<'a, E> {
         requires leaf { IsNoContainer opening }
         requires info_placed { InfoIsIn self.old.text.now opening (row_of rest) }
         ensures good { IsGood self.new }
-        ensures runs { OnOk result (BeginsAs E.replacement opening.entry bare rest.entry self.old self.new) }
+        ensures runs { OnOk result
+            (BeginsAs E.replacement opening.entry bare rest.entry self.old self.new) }
         ensures text { self.new.text ≡ self.old.text }
     {
         match opening {
@@ -77,11 +80,16 @@ impl<'a, E: EntityLookup> Pass<'a, E> {
         requires closed { self.old.leaf ≡ leaf.Closed }
         requires bare { self.old.bare ≡ false }
         ensures good { IsGood self.new }
-        ensures runs { IfOk result (λ entered. BeginsFirst E.replacement bare rest.entry entered self.old self.new) }
-        ensures line { IfOk result (λ entered. IfSome entered (λ inside. IsRead self.old.text.now inside.0)) }
-        ensures shorter { IfOk result (λ entered. IfSome entered (λ inside. length (row_of inside.0).columns < length (row_of rest.entry).columns)) }
+        ensures runs { IfOk result
+            (λ entered. BeginsFirst E.replacement bare rest.entry entered self.old self.new) }
+        ensures line { IfOk result
+            (λ entered. IfSome entered (λ inside. IsRead self.old.text.now inside.0)) }
+        ensures shorter { IfOk result
+            (λ entered. IfSome entered
+            (λ inside. length (row_of inside.0).columns < length (row_of rest.entry).columns)) }
         ensures text { self.new.text ≡ self.old.text }
-        ensures leaf { IfOk result (λ entered. IfSome entered (λ inside. self.new.leaf ≡ leaf.Closed)) }
+        ensures leaf { IfOk result
+            (λ entered. IfSome entered (λ inside. self.new.leaf ≡ leaf.Closed)) }
         ensures bare { IfOk result (λ entered. IfSome entered (λ inside. self.new.bare ≡ false)) }
     {
         if let Some((width, inside)) = self.definition_begun(rest) {

@@ -29,7 +29,9 @@ fn list_flags(loose: bool) -> ListFlags
 impl OpenList {
     /// The list as an item of the tree.
     fn body(self) -> ItemBody
-        ensures { shape result ≡ Element (list_kind self.delimiter (list_number self.delimiter self.number) (not self.loose)) }
+        ensures { shape result
+            ≡ Element
+            (list_kind self.delimiter (list_number self.delimiter self.number) (not self.loose)) }
     {
         let flags = list_flags(self.loose);
         if self.delimiter == DEFINITION_DELIMITER {
@@ -48,7 +50,8 @@ impl<'a, E: EntityLookup> Pass<'a, E> {
     pub(crate) fn release_title(&mut self)
         requires { IsGood self.old }
         ensures good { IsGood self.new }
-        ensures runs { Steps E.replacement self.old self.new (λ p. record p { drawing = title_released p.inner.title p.drawing }) }
+        ensures runs { Steps E.replacement self.old self.new
+            (λ p. record p { drawing = title_released p.inner.title p.drawing }) }
         ensures inner { self.new.inner ≡ self.old.inner }
         ensures outer { self.new.outer ≡ self.old.outer }
         ensures others { LeavesTheRest self.old self.new }
@@ -62,7 +65,8 @@ impl<'a, E: EntityLookup> Pass<'a, E> {
     pub(crate) fn close_list(&mut self)
         requires { IsGood self.old }
         ensures good { IsGood self.new }
-        ensures runs { Steps E.replacement self.old self.new (λ p. record p { drawing = ended p.inner p.drawing }) }
+        ensures runs { Steps E.replacement self.old self.new
+            (λ p. record p { drawing = ended p.inner p.drawing }) }
         ensures outer { self.new.outer ≡ self.old.outer }
         ensures others { LeavesTheRest self.old self.new }
     {
@@ -135,7 +139,8 @@ impl<'a, E: EntityLookup> Pass<'a, E> {
         requires good { IsGood self.old }
         requires number { list_number item.delimiter (unwrap_or item.number 0) ≡ item.number }
         ensures good { IsGood self.new }
-        ensures runs { OnOk result (Steps E.replacement self.old self.new (list_begun item.delimiter item.number start)) }
+        ensures runs { OnOk result
+            (Steps E.replacement self.old self.new (list_begun item.delimiter item.number start)) }
         ensures text { self.new.text ≡ self.old.text }
         ensures leaf { self.new.leaf ≡ self.old.leaf }
         ensures bare { self.new.bare ≡ self.old.bare }
@@ -165,7 +170,9 @@ impl<'a, E: EntityLookup> Pass<'a, E> {
         requires good { IsGood self.old }
         requires number { list_number item.delimiter (unwrap_or item.number 0) ≡ item.number }
         ensures good { IsGood self.new }
-        ensures runs { OnOk result (Steps E.replacement self.old self.new (λ p. item_begun item.delimiter item.number start p p.inner.list)) }
+        ensures runs { OnOk result
+            (Steps E.replacement self.old self.new
+            (λ p. item_begun item.delimiter item.number start p p.inner.list)) }
         ensures text { self.new.text ≡ self.old.text }
         ensures leaf { self.new.leaf ≡ self.old.leaf }
         ensures bare { self.new.bare ≡ self.old.bare }
@@ -184,7 +191,9 @@ impl<'a, E: EntityLookup> Pass<'a, E> {
     fn make_title(&mut self, title: Title, start: usize) -> Result<(), AllocError>
         requires { IsGood self.old }
         ensures good { IsGood self.new }
-        ensures runs { OnOk result (Steps E.replacement self.old self.new (title_made (option_map shown_list title.list) title.parted start)) }
+        ensures runs { OnOk result
+            (Steps E.replacement self.old self.new
+            (title_made (option_map shown_list title.list) title.parted start)) }
         ensures text { self.new.text ≡ self.old.text }
         ensures leaf { self.new.leaf ≡ self.old.leaf }
         ensures bare { self.new.bare ≡ self.old.bare }
@@ -204,7 +213,8 @@ impl<'a, E: EntityLookup> Pass<'a, E> {
     pub(crate) fn join_definitions(&mut self, width: usize, start: usize) -> Result<(), AllocError>
         requires { IsGood self.old }
         ensures good { IsGood self.new }
-        ensures runs { OnOk result (Steps E.replacement self.old self.new (λ p. definition_after p.inner.title start p)) }
+        ensures runs { OnOk result
+            (Steps E.replacement self.old self.new (λ p. definition_after p.inner.title start p)) }
         ensures text { self.new.text ≡ self.old.text }
         ensures leaf { self.new.leaf ≡ self.old.leaf }
         ensures bare { self.new.bare ≡ self.old.bare }

@@ -23,7 +23,8 @@ impl<'a, E: EntityLookup> Pass<'a, E> {
     fn holds_metadata(&self, kind: MetadataBlockKind, rest: LineRest<'a>) -> bool
         requires bare { self.now.bare ≡ false }
         requires within { IsIn self.now.text.now rest }
-        ensures { HoldsMetadata E.replacement self.now (shown_metadata_block_kind kind) rest.entry result }
+        ensures { HoldsMetadata E.replacement self.now (shown_metadata_block_kind kind) rest.entry
+            result }
     {
         let Some(first) = self.line_ahead(rest) else {
             return false;
@@ -46,7 +47,8 @@ impl<'a, E: EntityLookup> Pass<'a, E> {
     pub(crate) fn metadata_begun(&self, rest: LineRest<'a>) -> Option<MetadataBlockKind>
         requires bare { self.now.bare ≡ false }
         requires within { IsIn self.now.text.now rest }
-        ensures { TellsMetadata E.replacement self.now rest.entry (option_map shown_metadata_block_kind result) }
+        ensures { TellsMetadata E.replacement self.now rest.entry
+            (option_map shown_metadata_block_kind result) }
     {
         let kind = metadata_kind(rest, self.options)?;
         if self.holds_metadata(kind, rest) {
@@ -65,7 +67,10 @@ impl<'a, E: EntityLookup> Pass<'a, E> {
         requires good { IsGood self.old }
         requires closed { self.old.leaf ≡ leaf.Closed }
         ensures good { IsGood self.new }
-        ensures runs { OnOk result ((more : ℕ) → BeginsLeaf E.replacement (MetadataBlock (shown_metadata_block_kind kind)) more rest.entry self.old self.new) }
+        ensures runs { OnOk result
+            ((more : ℕ)
+            → BeginsLeaf E.replacement (MetadataBlock (shown_metadata_block_kind kind)) more
+            rest.entry self.old self.new) }
         ensures text { self.new.text ≡ self.old.text }
     {
         self.begin_block();

@@ -20,8 +20,11 @@ fn keep_line<'a>(
     attributes: bool,
     last: LineRest<'a>,
 ) -> Result<(), AllocError>
-    ensures kept { OnOk result (map row_of lines.new.items ≡ kept_lines attributes (map row_of lines.old.items) (row_of last.entry)) }
-    ensures read { (text : List ℕ) → AreRead text lines.old.items → IsRead text last.entry → AreRead text lines.new.items }
+    ensures kept { OnOk result
+        (map row_of lines.new.items
+        ≡ kept_lines attributes (map row_of lines.old.items) (row_of last.entry)) }
+    ensures read { (text : List ℕ) → AreRead text lines.old.items → IsRead text last.entry
+        → AreRead text lines.new.items }
 {
     if !attributes {
         return Ok(());
@@ -64,7 +67,8 @@ impl<'a, E: EntityLookup> Pass<'a, E> {
         requires line { IsRead self.old.text.now rest }
         requires is { self.old.leaf ≡ leaf.Paragraph from last }
         ensures good { IsGood self.new }
-        ensures runs { OnOk result (AddsLine E.replacement from last.entry rest.entry self.old self.new) }
+        ensures runs { OnOk result
+            (AddsLine E.replacement from last.entry rest.entry self.old self.new) }
         ensures text { self.new.text ≡ self.old.text }
     {
         let attributes = reads_attributes(self.options);

@@ -40,7 +40,9 @@ fn container_of(body: ItemBody, options: Options) -> Option<Container>
 
 /// The line after a block quote's prefix, if it has one (CommonMark 5.1).
 fn after_block_quote<'a>(line: LineStart<'a>) -> Option<LineStart<'a>>
-    ensures { (at line_end : ℕ) → option_map (row_from at line_end) result ≡ keeps (BlockQuote None) false (row_from at line_end line.entry) }
+    ensures { (at line_end : ℕ)
+        → option_map (row_from at line_end) result
+        ≡ keeps (BlockQuote None) false (row_from at line_end line.entry) }
 {
     let mut following = line;
     following.scan_space_upto(3);
@@ -53,7 +55,9 @@ fn after_block_quote<'a>(line: LineStart<'a>) -> Option<LineStart<'a>>
 
 /// The line after `width` columns of spaces and tabs, or after fewer if nothing follows them (CommonMark 5.2).
 fn after_width<'a>(line: LineStart<'a>, width: usize) -> Option<LineStart<'a>>
-    ensures { (at line_end delimiter : ℕ) (number : Option ℕ) (task : Option Bool) → option_map (row_from at line_end) result ≡ keeps (ListItem delimiter number width task) false (row_from at line_end line.entry) }
+    ensures { (at line_end delimiter : ℕ) (number : Option ℕ) (task : Option Bool)
+        → option_map (row_from at line_end) result
+        ≡ keeps (ListItem delimiter number width task) false (row_from at line_end line.entry) }
 {
     let mut following = line;
     if !following.scan_space(width) && !following.is_at_eol() {
@@ -65,7 +69,9 @@ fn after_width<'a>(line: LineStart<'a>, width: usize) -> Option<LineStart<'a>>
 /// The line after a footnote definition's prefix, if it keeps the line. In the old style it is the whole line, marked as held (this
 /// profile's own).
 fn after_footnote<'a>(line: LineStart<'a>, old: bool) -> Option<LineStart<'a>>
-    ensures { (at line_end : ℕ) → option_map (row_from at line_end) result ≡ keeps (Footnote [] old 0) false (row_from at line_end line.entry) }
+    ensures { (at line_end : ℕ)
+        → option_map (row_from at line_end) result
+        ≡ keeps (Footnote [] old 0) false (row_from at line_end line.entry) }
 {
     if !old {
         return after_width(line, 4);
@@ -82,7 +88,9 @@ fn after_footnote<'a>(line: LineStart<'a>, old: bool) -> Option<LineStart<'a>>
 
 /// The line after this container's prefix, if the container keeps the line.
 fn after_prefix<'a>(container: Container, line: LineStart<'a>) -> Option<LineStart<'a>>
-    ensures { (at line_end : ℕ) → option_map (row_from at line_end) result ≡ keeps (shown_container container) false (row_from at line_end line.entry) }
+    ensures { (at line_end : ℕ)
+        → option_map (row_from at line_end) result
+        ≡ keeps (shown_container container) false (row_from at line_end line.entry) }
 {
     match container {
         Container::BlockQuote => after_block_quote(line),
@@ -101,8 +109,13 @@ fn after_prefix<'a>(container: Container, line: LineStart<'a>) -> Option<LineSta
 /// lines an item has. `options` decide how footnote definitions are read.
 pub fn scan_containers(tree: &Tree<Item>, line: &mut LineStart<'_>, options: Options) -> usize
     requires { IsTree tree.now }
-    ensures count { (z : Zip Item) → Holds tree.now z → (at line_end : ℕ) → result ≡ (kept (containers_of (shown_options options) z.up) (row_from at line_end line.old)).count }
-    ensures rest { (z : Zip Item) → Holds tree.now z → (at line_end : ℕ) → row_from at line_end line.new ≡ (kept (containers_of (shown_options options) z.up) (row_from at line_end line.old)).rest }
+    ensures count { (z : Zip Item) → Holds tree.now z → (at line_end : ℕ)
+        → result
+        ≡
+        (kept (containers_of (shown_options options) z.up) (row_from at line_end line.old)).count }
+    ensures rest { (z : Zip Item) → Holds tree.now z → (at line_end : ℕ)
+        → row_from at line_end line.new
+        ≡ (kept (containers_of (shown_options options) z.up) (row_from at line_end line.old)).rest }
 {
     let mut count = 0;
     for ix in tree.walk_spine() {
@@ -122,7 +135,10 @@ pub fn scan_containers(tree: &Tree<Item>, line: &mut LineStart<'_>, options: Opt
 /// `scan_containers` passes these bytes. A tab that belongs to a prefix in part is counted.
 pub fn skip_container_prefixes(tree: &Tree<Item>, bytes: &[u8], options: Options) -> usize
     requires { IsTree tree.now }
-    ensures { (z : Zip Item) → Holds tree.now z → (at line_end : ℕ) → begin_of (kept (containers_of (shown_options options) z.up) (line_of at line_end bytes.now)).rest ≡ at + result }
+    ensures { (z : Zip Item) → Holds tree.now z → (at line_end : ℕ)
+        → begin_of
+        (kept (containers_of (shown_options options) z.up) (line_of at line_end bytes.now)).rest
+        ≡ at + result }
 {
     let mut line = LineStart::new(bytes);
     scan_containers(tree, &mut line, options);

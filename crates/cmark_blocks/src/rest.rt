@@ -30,9 +30,11 @@ impl<'a, E: EntityLookup> Pass<'a, E> {
     ) -> Result<Pass<'a, E>, AllocError>
         requires begins { IsCharBoundary text.now from }
         ensures good { IfOk result IsGood }
-        ensures runs { IfOk result (λ pass. (earlier : List Reference) (labels : List (List ℕ))
+        ensures runs { IfOk result
+            (λ pass. (earlier : List Reference) (labels : List (List ℕ))
             → HasDefinitions earlier definitions.entry → HasLabels labels footnotes
-            → Runs E.replacement text.entry.now (shown_options options) (E.replacement entities.entry.now) (starting_at from earlier labels) pass) }
+            → Runs E.replacement text.entry.now (shown_options options)
+            (E.replacement entities.entry.now) (starting_at from earlier labels) pass) }
     {
         let builder = Builder::with_definitions(alloc, definitions, footnotes)?;
         Ok(Pass {
@@ -65,9 +67,11 @@ pub fn run_first_pass_from<'a, E: EntityLookup>(
     entities: &'a E,
 ) -> Result<FirstPass<'a>, AllocError>
     requires begins { IsCharBoundary text.now from }
-    ensures document { IfOk result (λ pass. (earlier : List Reference) (labels : List (List ℕ))
+    ensures document { IfOk result
+        (λ pass. (earlier : List Reference) (labels : List (List ℕ))
         → HasDefinitions earlier definitions.entry → HasLabels labels footnotes
-        → LeavesRest text.entry.now from (shown_options options) (E.replacement entities.entry.now) earlier labels pass) }
+        → LeavesRest text.entry.now from (shown_options options) (E.replacement entities.entry.now)
+        earlier labels pass) }
 {
     let mut pass = Pass::starting_at(alloc, text, from, definitions, footnotes, options, entities)?;
     pass.feed_all()?;

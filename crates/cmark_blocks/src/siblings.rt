@@ -127,7 +127,10 @@ impl Siblings {
     /// Whether a list is open, or a paragraph is drawn in a definition list.
     #[inline(always)]
     pub(crate) fn has_list(&self) -> bool
-        ensures { result ≡ (is_some (shown_siblings self.now).list || is_some (list_around (shown_siblings self.now).title)) }
+        ensures { result
+            ≡
+            (is_some (shown_siblings self.now).list || is_some
+            (list_around (shown_siblings self.now).title)) }
     {
         self.list.is_some()
     }
@@ -193,7 +196,9 @@ impl Siblings {
     /// With the last block, a paragraph, as the title of a definition that begins at this byte offset. It continues the definition list
     /// that was open before it, or begins one.
     pub(crate) fn after_title(self, title: Title, start: usize) -> Siblings
-        ensures { shown_siblings result ≡ with_title (option_map shown_list title.list) title.parted start (shown_siblings self) }
+        ensures { shown_siblings result
+            ≡ with_title (option_map shown_list title.list) title.parted start
+            (shown_siblings self) }
     {
         let (open, parted) = match title.list {
             Some(list) => (list, title.parted),
@@ -244,7 +249,8 @@ impl Siblings {
     /// With another item of this list, which is the open one.
     pub(crate) fn with_item_of(self, list: OpenList) -> Siblings
         requires { is_some (shown_siblings self).list ≡ true }
-        ensures { shown_siblings result ≡ siblings_with_item (shown_list list) (shown_siblings self) }
+        ensures { shown_siblings result
+            ≡ siblings_with_item (shown_list list) (shown_siblings self) }
     {
         Siblings {
             blank: false,
@@ -258,7 +264,8 @@ impl Siblings {
 
     /// With the last item, which ended at this byte offset with these blocks in it.
     pub(crate) fn after_item(self, inside: Siblings, end: usize) -> Siblings
-        ensures { shown_siblings result ≡ siblings_after_item end (shown_siblings inside) (shown_siblings self) }
+        ensures { shown_siblings result
+            ≡ siblings_after_item end (shown_siblings inside) (shown_siblings self) }
     {
         let list = match self.open_list() {
             Some(list) => Some(OpenList {

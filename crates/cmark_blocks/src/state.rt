@@ -82,7 +82,9 @@ impl<'a, E: EntityLookup> Pass<'a, E> {
         entities: &'a E,
     ) -> Result<Pass<'a, E>, AllocError>
         ensures good { IfOk result IsGood }
-        ensures runs { IfOk result (Runs E.replacement text.entry.now (shown_options options) (E.replacement entities.entry.now) at_start) }
+        ensures runs { IfOk result
+            (Runs E.replacement text.entry.now (shown_options options)
+            (E.replacement entities.entry.now) at_start) }
     {
         let builder = Builder::new(alloc)?;
         Ok(Pass {

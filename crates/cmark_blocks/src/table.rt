@@ -46,8 +46,11 @@ fn misses_too_many(row: LineRest<'_>, columns: usize, left: usize) -> bool
 
 /// The body of a table with this delimiter row, which is kept in the table of texts.
 fn table_body<'a>(builder: &mut Builder<'a>, row: &'a str) -> Result<ItemBody, AllocError>
-    ensures kind { IfOk result (λ body. kind_of builder.new.allocations.texts (shape body) ≡ Some (Table (columns_of (delimiter_row row.entry.now)))) }
-    ensures drawn { OnOk result ((text : List ℕ) (d : Drawing) → Draws text builder.old d → Draws text builder.new d) }
+    ensures kind { IfOk result
+        (λ body. kind_of builder.new.allocations.texts (shape body)
+        ≡ Some (Table (columns_of (delimiter_row row.entry.now)))) }
+    ensures drawn { OnOk result
+        ((text : List ℕ) (d : Drawing) → Draws text builder.old d → Draws text builder.new d) }
     ensures tree { builder.new.tree ≡ builder.old.tree }
     ensures definitions { defined builder.new.allocations ≡ defined builder.old.allocations }
 {
@@ -121,7 +124,8 @@ impl<'a, E: EntityLookup> Pass<'a, E> {
         ensures next { GoesOnWithRow E.replacement self.now columns left last.entry result }
         ensures placed { IfSome result (IsIn self.now.text.now) }
         ensures fits { IfSome result (λ row. count_missing columns (row_of row) ≤ left) }
-        ensures further { IfSome result (λ row. (row_of last.entry).line_end < (row_of row).line_end) }
+        ensures further { IfSome result
+            (λ row. (row_of last.entry).line_end < (row_of row).line_end) }
     {
         let row = self.line_ahead(last)?;
         if interrupts(row, false, self.options) || misses_too_many(row, columns, left) {
@@ -142,7 +146,9 @@ impl<'a, E: EntityLookup> Pass<'a, E> {
         requires line { IsIn self.old.text.now delimiter }
         requires bare { self.old.bare ≡ false }
         ensures good { IsGood self.new }
-        ensures runs { IfOk result (λ taken. DrawsRows E.replacement columns delimiter.entry taken.0 taken.1 self.old self.new) }
+        ensures runs { IfOk result
+            (λ taken. DrawsRows E.replacement columns delimiter.entry taken.0 taken.1 self.old
+            self.new) }
         ensures few { IfOk result (λ taken. taken.0 < 18446744073709551615) }
         ensures text { self.new.text ≡ self.old.text }
         ensures leaf { self.new.leaf ≡ self.old.leaf }
@@ -171,7 +177,8 @@ impl<'a, E: EntityLookup> Pass<'a, E> {
         requires closed { self.old.leaf ≡ leaf.Closed }
         requires bare { self.old.bare ≡ false }
         ensures good { IsGood self.new }
-        ensures runs { OnOk result (BeginsTable E.replacement columns delimiter.entry rest.entry self.old self.new) }
+        ensures runs { OnOk result
+            (BeginsTable E.replacement columns delimiter.entry rest.entry self.old self.new) }
         ensures text { self.new.text ≡ self.old.text }
     {
         let row = words_in(self.text, delimiter);

@@ -17,7 +17,8 @@ impl<'a, E: EntityLookup> Pass<'a, E> {
     pub(crate) fn begin_thematic_break(&mut self, rest: LineRest<'a>) -> Result<(), AllocError>
         requires { IsGood self.old }
         ensures good { IsGood self.new }
-        ensures runs { OnOk result (BeginsLeaf E.replacement ThematicBreak 0 rest.entry self.old self.new) }
+        ensures runs { OnOk result
+            (BeginsLeaf E.replacement ThematicBreak 0 rest.entry self.old self.new) }
         ensures text { self.new.text ≡ self.old.text }
     {
         self.begin_block();

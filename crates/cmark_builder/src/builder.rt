@@ -75,7 +75,8 @@ impl<'a> Builder<'a> {
     pub fn open(&mut self, start: usize, body: ItemBody) -> Result<(), AllocError>
         requires { IsPlaced self.old.tree }
         ensures placed { IsPlaced self.new.tree }
-        ensures ok { OnOk result ((here : Forest Item) (up : List (Opened Item)) → Is self.old.tree here up
+        ensures ok { OnOk result
+            ((here : Forest Item) (up : List (Opened Item)) → Is self.old.tree here up
             → Is self.new.tree Nil (record { left = here; item = item_at start start body } ∷ up)) }
         ensures tables { self.new.allocations ≡ self.old.allocations }
     {
@@ -92,7 +93,8 @@ impl<'a> Builder<'a> {
     pub fn add(&mut self, start: usize, end: usize, body: ItemBody) -> Result<(), AllocError>
         requires { IsPlaced self.old.tree }
         ensures placed { IsPlaced self.new.tree }
-        ensures ok { OnOk result ((here : Forest Item) (up : List (Opened Item)) → Is self.old.tree here up
+        ensures ok { OnOk result
+            ((here : Forest Item) (up : List (Opened Item)) → Is self.old.tree here up
             → Is self.new.tree (join here (one (item_at start end body) Nil)) up) }
         ensures tables { self.new.allocations ≡ self.old.allocations }
     {
@@ -104,9 +106,11 @@ impl<'a> Builder<'a> {
     pub fn close(&mut self, end: usize)
         requires { IsPlaced self.old.tree }
         ensures placed { IsPlaced self.new.tree }
-        ensures closed { (here : Forest Item) (v : Opened Item) (up : List (Opened Item)) → Is self.old.tree here (v ∷ up)
+        ensures closed { (here : Forest Item) (v : Opened Item) (up : List (Opened Item))
+            → Is self.old.tree here (v ∷ up)
             → Is self.new.tree (closed (ended end v.item.body v) here) up }
-        ensures none { (here : Forest Item) → Is self.old.tree here [] → self.new.tree ≡ self.old.tree }
+        ensures none { (here : Forest Item) → Is self.old.tree here []
+            → self.new.tree ≡ self.old.tree }
         ensures tables { self.new.allocations ≡ self.old.allocations }
     {
         if let Some(parent) = self.tree.peek_up() {
@@ -119,9 +123,11 @@ impl<'a> Builder<'a> {
     pub fn close_as(&mut self, end: usize, body: ItemBody)
         requires { IsPlaced self.old.tree }
         ensures placed { IsPlaced self.new.tree }
-        ensures closed { (here : Forest Item) (v : Opened Item) (up : List (Opened Item)) → Is self.old.tree here (v ∷ up)
+        ensures closed { (here : Forest Item) (v : Opened Item) (up : List (Opened Item))
+            → Is self.old.tree here (v ∷ up)
             → Is self.new.tree (closed (ended end body v) here) up }
-        ensures none { (here : Forest Item) → Is self.old.tree here [] → self.new.tree ≡ self.old.tree }
+        ensures none { (here : Forest Item) → Is self.old.tree here []
+            → self.new.tree ≡ self.old.tree }
         ensures tables { self.new.allocations ≡ self.old.allocations }
     {
         if let Some(parent) = self.tree.peek_up() {
@@ -138,8 +144,11 @@ impl<'a> Builder<'a> {
     pub fn close_whole(&mut self, start: usize, text_end: usize, end: usize) -> bool
         requires { IsPlaced self.old.tree }
         ensures placed { IsPlaced self.new.tree }
-        ensures answer { (here : Forest Item) (up : List (Opened Item)) → Is self.old.tree here up → result ≡ is_empty_paragraph start here up }
-        ensures closed { result ≡ true → (here : Forest Item) (v : Opened Item) (up : List (Opened Item)) → Is self.old.tree here (v ∷ up)
+        ensures answer { (here : Forest Item) (up : List (Opened Item)) → Is self.old.tree here up
+            → result ≡ is_empty_paragraph start here up }
+        ensures closed { result ≡ true
+            → (here : Forest Item) (v : Opened Item) (up : List (Opened Item))
+            → Is self.old.tree here (v ∷ up)
             → Is self.new.tree (closed (ended end (body.ParagraphOf text_end) v) here) up }
         ensures unchanged { result ≡ false → self.new.tree ≡ self.old.tree }
         ensures tables { self.new.allocations ≡ self.old.allocations }
@@ -164,9 +173,12 @@ impl<'a> Builder<'a> {
     pub fn title_last(&mut self)
         requires { IsPlaced self.old.tree }
         ensures placed { IsPlaced self.new.tree }
-        ensures turned { (here : Forest Item) (item : Item) (inside : Forest Item) (up : List (Opened Item)) → Is self.old.tree (join here (one item inside)) up
-            → Is self.new.tree (join here (one (item_at item.start item.end (titled item.body)) inside)) up }
-        ensures none { (up : List (Opened Item)) → Is self.old.tree Nil up → self.new.tree ≡ self.old.tree }
+        ensures turned { (here : Forest Item) (item : Item) (inside : Forest Item)
+            (up : List (Opened Item)) → Is self.old.tree (join here (one item inside)) up
+            → Is self.new.tree
+            (join here (one (item_at item.start item.end (titled item.body)) inside)) up }
+        ensures none { (up : List (Opened Item)) → Is self.old.tree Nil up
+            → self.new.tree ≡ self.old.tree }
         ensures tables { self.new.allocations ≡ self.old.allocations }
     {
         if let Some(last) = self.tree.cur() {
@@ -180,9 +192,14 @@ impl<'a> Builder<'a> {
     pub fn enclose_title(&mut self, around: ItemBody) -> Result<(), AllocError>
         requires { IsPlaced self.old.tree }
         ensures placed { IsPlaced self.new.tree }
-        ensures ok { OnOk result ((here : Forest Item) (item : Item) (inside : Forest Item) (up : List (Opened Item)) → Is self.old.tree (join here (one item inside)) up
-            → Is self.new.tree (one (item_at item.start item.end (titled item.body)) inside) (record { left = here; item = item_at item.start item.start around } ∷ up)) }
-        ensures none { OnOk result ((up : List (Opened Item)) → Is self.old.tree Nil up → Is self.new.tree Nil (record { left = Nil; item = item_at 0 0 around } ∷ up)) }
+        ensures ok { OnOk result
+            ((here : Forest Item) (item : Item) (inside : Forest Item) (up : List (Opened Item))
+            → Is self.old.tree (join here (one item inside)) up
+            → Is self.new.tree (one (item_at item.start item.end (titled item.body)) inside)
+            (record { left = here; item = item_at item.start item.start around } ∷ up)) }
+        ensures none { OnOk result
+            ((up : List (Opened Item)) → Is self.old.tree Nil up
+            → Is self.new.tree Nil (record { left = Nil; item = item_at 0 0 around } ∷ up)) }
         ensures tables { self.new.allocations ≡ self.old.allocations }
     {
         let Some(last) = self.tree.cur() else {
@@ -202,10 +219,14 @@ impl<'a> Builder<'a> {
     pub fn release_last(&mut self, end: usize, body: ItemBody)
         requires { IsPlaced self.old.tree }
         ensures placed { IsPlaced self.new.tree }
-        ensures released { (here : Forest Item) (item : Item) (inside : Forest Item) (v : Opened Item) (up : List (Opened Item)) → Is self.old.tree (join here (one item inside)) (v ∷ up)
+        ensures released { (here : Forest Item) (item : Item) (inside : Forest Item)
+            (v : Opened Item) (up : List (Opened Item))
+            → Is self.old.tree (join here (one item inside)) (v ∷ up)
             → Is self.new.tree (join (closed (ended end body v) here) (one item inside)) up }
-        ensures childless { (v : Opened Item) (up : List (Opened Item)) → Is self.old.tree Nil (v ∷ up) → Is self.new.tree (closed (ended end body v) Nil) up }
-        ensures none { (here : Forest Item) → Is self.old.tree here [] → self.new.tree ≡ self.old.tree }
+        ensures childless { (v : Opened Item) (up : List (Opened Item))
+            → Is self.old.tree Nil (v ∷ up) → Is self.new.tree (closed (ended end body v) Nil) up }
+        ensures none { (here : Forest Item) → Is self.old.tree here []
+            → self.new.tree ≡ self.old.tree }
         ensures tables { self.new.allocations ≡ self.old.allocations }
     {
         if let Some(parent) = self.tree.peek_up() {
@@ -222,9 +243,13 @@ impl<'a> Builder<'a> {
     pub fn cut(&mut self, at: usize) -> Option<usize>
         requires { IsPlaced self.old.tree }
         ensures placed { IsPlaced self.new.tree }
-        ensures kept { (here : Forest Item) (v : Opened Item) (up : List (Opened Item)) → Is self.old.tree here (v ∷ up) → Is self.new.tree (ending_before spans at here) (v ∷ up) }
-        ensures start { (here : Forest Item) (v : Opened Item) (up : List (Opened Item)) → Is self.old.tree here (v ∷ up) → result ≡ reaching_start spans at here }
-        ensures none { (here : Forest Item) → Is self.old.tree here [] → (self.new.tree ≡ self.old.tree) × (result ≡ None) }
+        ensures kept { (here : Forest Item) (v : Opened Item) (up : List (Opened Item))
+            → Is self.old.tree here (v ∷ up)
+            → Is self.new.tree (ending_before spans at here) (v ∷ up) }
+        ensures start { (here : Forest Item) (v : Opened Item) (up : List (Opened Item))
+            → Is self.old.tree here (v ∷ up) → result ≡ reaching_start spans at here }
+        ensures none { (here : Forest Item) → Is self.old.tree here []
+            → (self.new.tree ≡ self.old.tree) × (result ≡ None) }
         ensures tables { self.new.allocations ≡ self.old.allocations }
     {
         self.tree.cut_siblings(at)

@@ -77,9 +77,13 @@ impl OpenersBottom {
     pub fn lower(&mut self, height: usize)
         ensures lows { (other : grammar.Run) → bottom_of self.new other ≤ bottom_of self.old other }
         ensures inactive { self.new.inactive_below ≡ min self.old.inactive_below height }
-        ensures falls { (stack : List Run) → AreBottoms self.old stack → total_of self.old ≤ total_of self.new + 14 * (length stack - height) }
-        ensures bottoms { (stack : List Run) → AreBottoms self.old stack → AreBottoms self.new (take height stack) }
-        ensures opens { (stack : List Run) → active_runs self.new.inactive_below (take height stack) ≡ active_runs self.old.inactive_below (take height stack) }
+        ensures falls { (stack : List Run) → AreBottoms self.old stack
+            → total_of self.old ≤ total_of self.new + 14 * (length stack - height) }
+        ensures bottoms { (stack : List Run) → AreBottoms self.old stack
+            → AreBottoms self.new (take height stack) }
+        ensures opens { (stack : List Run)
+            → active_runs self.new.inactive_below (take height stack)
+            ≡ active_runs self.old.inactive_below (take height stack) }
     {
         for class in 0..13 {
             self.heights[class] = self.heights[class].min(height);
@@ -91,13 +95,22 @@ impl OpenersBottom {
     /// ones inactive.
     pub fn note(&mut self, closer: Run, stack: &[Run])
         requires bottoms { AreBottoms self.old stack.now }
-        requires none { NoneAgree (shown_run closer) (open_runs (active_runs self.old.inactive_below stack.now)) }
-        ensures rises { IsKnown closer → searches (shown_run closer) ≡ true → total_of self.new + bottom_of self.old (shown_run closer) ≡ total_of self.old + length stack.now }
-        ensures kinds { (other : grammar.Run) (k : ℕ) → k < bottom_of self.new other → (k < bottom_of self.old other) ⊎ IsOfKind (shown_run closer) other }
-        ensures inactive { self.new.inactive_below ≡ (if grammar.deactivates (shown_run closer) then length stack.now else self.old.inactive_below) }
+        requires none { NoneAgree (shown_run closer)
+            (open_runs (active_runs self.old.inactive_below stack.now)) }
+        ensures rises { IsKnown closer → searches (shown_run closer) ≡ true
+            → total_of self.new + bottom_of self.old (shown_run closer)
+            ≡ total_of self.old + length stack.now }
+        ensures kinds { (other : grammar.Run) (k : ℕ) → k < bottom_of self.new other
+            → (k < bottom_of self.old other) ⊎ IsOfKind (shown_run closer) other }
+        ensures inactive { self.new.inactive_below
+            ≡
+            (if grammar.deactivates (shown_run closer) then length stack.now else
+            self.old.inactive_below) }
         ensures rests { searches (shown_run closer) ≡ false → self.new ≡ self.old }
         ensures bottoms { AreBottoms self.new stack.now }
-        ensures opens { open_runs (active_runs self.new.inactive_below stack.now) ≡ still_open (shown_run closer) (open_runs (active_runs self.old.inactive_below stack.now)) }
+        ensures opens { open_runs (active_runs self.new.inactive_below stack.now)
+            ≡ still_open (shown_run closer)
+            (open_runs (active_runs self.old.inactive_below stack.now)) }
     {
         if deactivates(closer) {
             self.inactive_below = stack.len();

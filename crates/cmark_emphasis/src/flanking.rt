@@ -79,7 +79,9 @@ fn is_punctuation(c: char) -> bool
 /// The properties of a character beside a run; `None` is an edge.
 #[inline(always)]
 pub fn side_of(neighbor: Option<char>) -> Side
-    ensures { result ≡ record { white_space = is_white_space_there neighbor; punctuation = is_punctuation_there neighbor } }
+    ensures { result
+        ≡
+        record { white_space = is_white_space_there neighbor; punctuation = is_punctuation_there neighbor } }
 {
     match neighbor {
         None => Side {
@@ -95,7 +97,10 @@ pub fn side_of(neighbor: Option<char>) -> Side
 
 /// Whether the side `inner` has no white space, and has punctuation only if the side `outer` has white space or punctuation.
 fn flanks(inner: Side, outer: Side) -> bool
-    ensures { result ≡ (not inner.white_space && (not inner.punctuation || (outer.white_space || outer.punctuation))) }
+    ensures { result
+        ≡
+        (not inner.white_space &&
+        (not inner.punctuation || (outer.white_space || outer.punctuation))) }
 {
     !inner.white_space && (!inner.punctuation || outer.white_space || outer.punctuation)
 }
@@ -135,7 +140,8 @@ pub fn flanking_of(
     before: Option<char>,
     after: Option<char>,
 ) -> Flanking
-    ensures { shown_flanking result ≡ grammar.flanking (shown_options options) delimiter run_length before after }
+    ensures { shown_flanking result
+        ≡ grammar.flanking (shown_options options) delimiter run_length before after }
 {
     if !is_delimiter_run(options, delimiter, run_length) {
         return Flanking {

@@ -9,25 +9,29 @@ ghost use Rattle.cmark_emphasis.specs.Slots.{AreBalanced, read_slots, slots_of};
 
 /// The model's pairs and spans are the emphasis of the siblings.
 pub fn emphasis_is_derived()
-    ensures { (siblings : List Sibling) → IsEmphasis siblings (pairs_of siblings) (spans_of siblings) }
+    ensures { (siblings : List Sibling)
+        → IsEmphasis siblings (pairs_of siblings) (spans_of siblings) }
 {}
 
 /// Siblings have exactly one emphasis, the one of the model.
 pub fn one_emphasis()
     ensures { (siblings : List Sibling) (pairs : List Pair) (spans : Spans)
-        → IsEmphasis siblings pairs spans → (pairs ≡ pairs_of siblings) × (spans ≡ spans_of siblings) }
+        → IsEmphasis siblings pairs spans → (pairs ≡ pairs_of siblings)
+        × (spans ≡ spans_of siblings) }
 {}
 
 /// The spans of siblings cover the siblings. Each sibling keeps its index, on its own or as one of the bytes that open and close a span. A
 /// span reaches from the first byte that opens it to the last byte that closes it.
 pub fn spans_take_the_places()
-    ensures { (siblings : List Sibling) → StandFrom 0 siblings → TakePlaces 0 (spans_of siblings) (places_taken siblings) }
+    ensures { (siblings : List Sibling) → StandFrom 0 siblings
+        → TakePlaces 0 (spans_of siblings) (places_taken siblings) }
 {}
 
 /// The slots of the spans of siblings, read from left to right, describe these spans. `Begin` opens a span at its index. `End` ends the
 /// span that was opened last, after its own index.
 pub fn slots_say_the_spans()
-    ensures { (siblings : List Sibling) → StandFrom 0 siblings → read_slots (slots_of (spans_of siblings)) ≡ spans_of siblings }
+    ensures { (siblings : List Sibling) → StandFrom 0 siblings
+        → read_slots (slots_of (spans_of siblings)) ≡ spans_of siblings }
 {}
 
 /// The slots of spans are balanced.

@@ -16,7 +16,8 @@ use std::alloc::AllocError;
 /// The innermost span of a pair with `left` bytes `*` or `_` on each side.
 fn innermost_emphasis(left: usize) -> SpanKind
     requires { 0 < left }
-    ensures kinds { emphasis_kinds left ≡ shown_kind result ∷ emphasis_kinds (left - span_width (shown_kind result)) }
+    ensures kinds { emphasis_kinds left
+        ≡ shown_kind result ∷ emphasis_kinds (left - span_width (shown_kind result)) }
     ensures fits { span_width (shown_kind result) ≤ left }
 {
     if left == 1 {
@@ -28,7 +29,8 @@ fn innermost_emphasis(left: usize) -> SpanKind
 /// The innermost span of a pair with `left` bytes `~` on each side.
 fn innermost_tilde(left: usize) -> SpanKind
     requires { 0 < left }
-    ensures kinds { tilde_kinds left ≡ shown_kind result ∷ tilde_kinds (left - span_width (shown_kind result)) }
+    ensures kinds { tilde_kinds left
+        ≡ shown_kind result ∷ tilde_kinds (left - span_width (shown_kind result)) }
     ensures fits { span_width (shown_kind result) ≤ left }
 {
     if left == 1 {
@@ -40,7 +42,8 @@ fn innermost_tilde(left: usize) -> SpanKind
 /// The innermost span of a pair with `left` bytes `=` on each side; `left` is 2.
 fn innermost_equals(left: usize) -> SpanKind
     requires { 0 < left }
-    ensures kinds { equals_kinds left ≡ shown_kind result ∷ equals_kinds (left - span_width (shown_kind result)) }
+    ensures kinds { equals_kinds left
+        ≡ shown_kind result ∷ equals_kinds (left - span_width (shown_kind result)) }
     ensures fits { span_width (shown_kind result) ≤ left }
 {
     if left == 1 {
@@ -52,7 +55,8 @@ fn innermost_equals(left: usize) -> SpanKind
 /// The innermost span of a pair with `left` bytes `delimiter` on each side.
 pub(crate) fn innermost(delimiter: u8, left: usize) -> SpanKind
     requires { 0 < left }
-    ensures kinds { kinds_of delimiter left ≡ shown_kind result ∷ kinds_of delimiter (left - span_width (shown_kind result)) }
+    ensures kinds { kinds_of delimiter left
+        ≡ shown_kind result ∷ kinds_of delimiter (left - span_width (shown_kind result)) }
     ensures fits { span_width (shown_kind result) ≤ left }
 {
     if delimiter == b'~' {
@@ -118,8 +122,10 @@ fn mark_pair(slots: &mut [Slot], pair: Pair)
 /// The old content of `slots` is dropped. If memory is refused, their content is unspecified.
 pub fn write_slots(count: usize, pairs: &[Pair], slots: &mut Vec<Slot>) -> Result<(), AllocError>
     requires { ArePairs count (map shown_pair pairs.now) }
-    ensures spans { OnOk result ((siblings : List Sibling) → StandFrom 0 siblings → places_taken siblings ≡ count
-        → pairs_of siblings ≡ map shown_pair pairs.now → slots.new.items ≡ slots_of (spans_of siblings)) }
+    ensures spans { OnOk result
+        ((siblings : List Sibling) → StandFrom 0 siblings → places_taken siblings ≡ count
+        → pairs_of siblings ≡ map shown_pair pairs.now
+        → slots.new.items ≡ slots_of (spans_of siblings)) }
     ensures balanced { OnOk result (AreBalanced [] slots.new.items) }
 {
     slots.clear();

@@ -62,8 +62,15 @@ fn nearest(
 ) -> Option<usize>
     requires bottoms { AreBottoms bottoms.now stack.now }
     requires room { examined.old + length stack.now < 2 ^ 128 }
-    ensures counts { MatchOption result (examined.new ≡ examined.old + (if searches (shown_run closer) then length stack.now - bottom_of bottoms.now (shown_run closer) else 0)) (λ i. examined.new ≡ examined.old + (length stack.now - i)) }
-    ensures value { MatchOption result (NoneAgree (shown_run closer) (open_runs (active_runs bottoms.now.inactive_below stack.now))) (IsNearest (shown_run closer) bottoms.now.inactive_below stack.now) }
+    ensures counts { MatchOption result
+        (examined.new
+        ≡ examined.old +
+        (if searches (shown_run closer) then length stack.now - bottom_of bottoms.now
+        (shown_run closer) else 0)) (λ i. examined.new ≡ examined.old + (length stack.now - i)) }
+    ensures value { MatchOption result
+        (NoneAgree (shown_run closer)
+        (open_runs (active_runs bottoms.now.inactive_below stack.now)))
+        (IsNearest (shown_run closer) bottoms.now.inactive_below stack.now) }
 {
     if !closer.closes {
         return None;
@@ -103,7 +110,8 @@ fn pair_up(opener: Run, closer: Run) -> Pair
 #[tactic(auto, unfolding(cmark_grammar::specs::Emphasis::rest_of_opener))]
 fn rest_of_opener(opener: Run, closer: Run) -> Run
     requires opener { IsPlaced opener }
-    ensures value { shown_run result ≡ grammar.rest_of_opener (shown_run opener) (shown_run closer) }
+    ensures value { shown_run result
+        ≡ grammar.rest_of_opener (shown_run opener) (shown_run closer) }
     ensures placed { IsPlaced result }
 {
     Run {
@@ -116,7 +124,8 @@ fn rest_of_opener(opener: Run, closer: Run) -> Run
 #[tactic(auto, unfolding(cmark_grammar::specs::Emphasis::rest_of_closer))]
 fn rest_of_closer(opener: Run, closer: Run) -> Run
     requires closer { IsPlaced closer }
-    ensures value { shown_run result ≡ grammar.rest_of_closer (shown_run opener) (shown_run closer) }
+    ensures value { shown_run result
+        ≡ grammar.rest_of_closer (shown_run opener) (shown_run closer) }
     ensures placed { IsPlaced result }
 {
     let count = opener.left.min(closer.left);
@@ -168,15 +177,24 @@ fn close(
     requires stack { All IsPlaced stack.old.items }
     requires bottoms { AreBottoms bottoms.old stack.old.items }
     requires room { examined.old + 15 * length stack.old.items + 15 < 2 ^ 128 }
-    ensures counts { examined.new + total_of bottoms.old ≤ examined.old + 15 * length stack.old.items + 15 }
-    ensures pays { IfOk result (λ rest. examined.new + 15 * length stack.new.items + total_of bottoms.old
-        ≤ examined.old + 15 * length stack.old.items + total_of bottoms.new + put_back rest.left) }
-    ensures least { IfOk result (λ rest. (standing : List Standing) → AreStanding bottoms.old stack.old.items standing → HasSought (shown_run run) standing examined.old examined.new bottoms.new stack.new.items (shown_run rest)) }
+    ensures counts { examined.new + total_of bottoms.old ≤ examined.old + 15 * length
+        stack.old.items + 15 }
+    ensures pays { IfOk result
+        (λ rest. examined.new + 15 * length stack.new.items + total_of
+        bottoms.old ≤ examined.old + 15 * length stack.old.items + total_of bottoms.new + put_back
+        rest.left) }
+    ensures least { IfOk result
+        (λ rest. (standing : List Standing) → AreStanding bottoms.old stack.old.items standing
+        → HasSought (shown_run run) standing examined.old examined.new bottoms.new stack.new.items
+        (shown_run rest)) }
     ensures placed { OnOk result (All IsPlaced stack.new.items) }
     ensures bottoms { OnOk result (AreBottoms bottoms.new stack.new.items) }
     ensures rest { IfOk result IsPlaced }
-    ensures value { IfOk result (λ rest. course_from (shown_run run) (active_runs bottoms.old.inactive_below stack.old.items) pairs.old.items
-        ≡ record { rest = shown_run rest; opens = open_runs (active_runs bottoms.new.inactive_below stack.new.items); pairs = map shown_pair pairs.new.items }) }
+    ensures value { IfOk result
+        (λ rest. course_from (shown_run run)
+        (active_runs bottoms.old.inactive_below stack.old.items) pairs.old.items
+        ≡
+        record { rest = shown_run rest; opens = open_runs (active_runs bottoms.new.inactive_below stack.new.items); pairs = map shown_pair pairs.new.items }) }
 {
     let mut closer = run;
     while let Some(found) = nearest(closer, stack, bottoms, examined) {
@@ -193,7 +211,8 @@ fn close(
 
 /// Whether two runs that are the only ones of a list make a pair.
 pub(crate) fn makes_a_pair(first: Run, second: Run) -> bool
-    ensures { result ≡ (first.opens && (nat_lt 0 first.left && agrees (shown_run first) (shown_run second))) }
+    ensures { result
+        ≡ (first.opens && (nat_lt 0 first.left && agrees (shown_run first) (shown_run second))) }
 {
     first.opens && first.left > 0 && can_close(first, second)
 }
@@ -219,9 +238,13 @@ fn pair_two(
 ) -> Result<(), AllocError>
     requires placed { IsPlaced first }
     requires room { examined.old < 2 ^ 127 }
-    ensures counts { examined.new ≡ examined.old + examined_of_two (shown_run first) (shown_run second) }
-    ensures least { OnOk result (examined.old + least_examined (shown_run first ∷ (shown_run second ∷ [])) ≤ examined.new) }
-    ensures value { OnOk result (map shown_pair pairs.new.items ≡ map shown_pair pairs.old.items ++ run_pairs (shown_run first ∷ (shown_run second ∷ []))) }
+    ensures counts { examined.new
+        ≡ examined.old + examined_of_two (shown_run first) (shown_run second) }
+    ensures least { OnOk result
+        (examined.old + least_examined (shown_run first ∷ (shown_run second ∷ [])) ≤ examined.new) }
+    ensures value { OnOk result
+        (map shown_pair pairs.new.items
+        ≡ map shown_pair pairs.old.items ++ run_pairs (shown_run first ∷ (shown_run second ∷ []))) }
 {
     count(examined, examined_of_two(first, second));
     if !makes_a_pair(first, second) {
@@ -247,8 +270,10 @@ pub fn pair_runs(
     requires known { All IsKnown runs.now }
     requires room { examined.old < 2 ^ 127 }
     ensures few { examined.new ≤ examined.old + 15 * length runs.now }
-    ensures least { OnOk result (examined.old + least_examined (map shown_run runs.now) ≤ examined.new) }
-    ensures value { OnOk result ((siblings : List Sibling) → runs_of siblings ≡ map shown_run runs.now
+    ensures least { OnOk result
+        (examined.old + least_examined (map shown_run runs.now) ≤ examined.new) }
+    ensures value { OnOk result
+        ((siblings : List Sibling) → runs_of siblings ≡ map shown_run runs.now
         → map shown_pair pairs.new.items ≡ map shown_pair pairs.old.items ++ pairs_of siblings) }
 {
     // Most lists have one or two runs, which need no stack.

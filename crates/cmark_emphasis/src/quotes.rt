@@ -61,8 +61,10 @@ fn add_single(
     characters: &mut Vec<char>,
 ) -> Result<Option<usize>, AllocError>
     requires { IfSome opened (λ i. i < length characters.old.items) }
-    ensures characters { OnOk result (characters.new.items ≡ turned quote.closes opened characters.old.items ++ 8217 ∷ []) }
-    ensures single { IfOk result (λ next. next ≡ single_after (shown_quote quote) (length characters.old.items) opened) }
+    ensures characters { OnOk result
+        (characters.new.items ≡ turned quote.closes opened characters.old.items ++ 8217 ∷ []) }
+    ensures single { IfOk result
+        (λ next. next ≡ single_after (shown_quote quote) (length characters.old.items) opened) }
 {
     let at = characters.len();
     characters.push('\u{2019}')?;
@@ -80,7 +82,9 @@ fn add_single(
 
 /// Adds U+201D if the double quote closes an open one, and otherwise U+201C. Returns whether a double quote is open then.
 fn add_double(quote: Quote, opened: bool, characters: &mut Vec<char>) -> Result<bool, AllocError>
-    ensures characters { OnOk result (characters.new.items ≡ characters.old.items ++ double_character_after (shown_quote quote) opened ∷ []) }
+    ensures characters { OnOk result
+        (characters.new.items
+        ≡ characters.old.items ++ double_character_after (shown_quote quote) opened ∷ []) }
     ensures double { IfOk result (λ next. next ≡ double_after (shown_quote quote) opened) }
 {
     if quote.closes && opened {
@@ -97,8 +101,11 @@ fn add_quote(
     opened: OpenQuotes,
     characters: &mut Vec<char>,
 ) -> Result<OpenQuotes, AllocError>
-    requires { (before : List grammar.Quote) × IsAfter before opened.single opened.double characters.old.items }
-    ensures { IfOk result (λ next. (before : List grammar.Quote) → IsAfter before opened.single opened.double characters.old.items
+    requires { (before : List grammar.Quote)
+        × IsAfter before opened.single opened.double characters.old.items }
+    ensures { IfOk result
+        (λ next. (before : List grammar.Quote)
+        → IsAfter before opened.single opened.double characters.old.items
         → IsAfter (shown_quote quote ∷ before) next.single next.double characters.new.items) }
 {
     if quote.double {
@@ -114,7 +121,8 @@ fn add_quote(
 ///
 /// The old content of `characters` is dropped. If memory is refused, their content is unspecified.
 pub fn quote_characters(quotes: &[Quote], characters: &mut Vec<char>) -> Result<(), AllocError>
-    ensures { OnOk result (characters.new.items ≡ grammar.quote_characters [] (map shown_quote quotes.now)) }
+    ensures { OnOk result
+        (characters.new.items ≡ grammar.quote_characters [] (map shown_quote quotes.now)) }
 {
     characters.clear();
     let mut opened = OpenQuotes {

@@ -46,11 +46,16 @@ pub fn slots_of_runs(
     requires room { examined.old < 2 ^ 127 }
     requires runs { AreRuns count (map shown_run runs.now) }
     ensures few { examined.new ≤ examined.old + 15 * length runs.now }
-    ensures least { OnOk result (examined.old + least_examined (map shown_run runs.now) ≤ examined.new) }
-    ensures spans { OnOk result ((siblings : List Sibling) → StandFrom 0 siblings → places_taken siblings ≡ count
-        → runs_of siblings ≡ map shown_run runs.now → slots.new.items ≡ slots_of (spans_of siblings)) }
-    ensures says { OnOk result ((siblings : List Sibling) → StandFrom 0 siblings → places_taken siblings ≡ count
-        → runs_of siblings ≡ map shown_run runs.now → read_slots slots.new.items ≡ spans_of siblings) }
+    ensures least { OnOk result
+        (examined.old + least_examined (map shown_run runs.now) ≤ examined.new) }
+    ensures spans { OnOk result
+        ((siblings : List Sibling) → StandFrom 0 siblings → places_taken siblings ≡ count
+        → runs_of siblings ≡ map shown_run runs.now
+        → slots.new.items ≡ slots_of (spans_of siblings)) }
+    ensures says { OnOk result
+        ((siblings : List Sibling) → StandFrom 0 siblings → places_taken siblings ≡ count
+        → runs_of siblings ≡ map shown_run runs.now
+        → read_slots slots.new.items ≡ spans_of siblings) }
     ensures balanced { OnOk result (AreBalanced [] slots.new.items) }
 {
     room.pairs.clear();

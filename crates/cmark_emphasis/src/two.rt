@@ -17,8 +17,10 @@ use std::alloc::AllocError;
 /// The kind of the span if two runs, which are the only ones of a list, make exactly one span and leave no byte over; otherwise `None`.
 fn span_of_two(first: Run, second: Run) -> Option<SpanKind>
     ensures says { is_some result ≡ make_one_span (shown_run first) (shown_run second) }
-    ensures spans { IfSome result (λ kind. StandFrom 0 (two_siblings (shown_run first) (shown_run second))
-        → slots_of (spans_of (two_siblings (shown_run first) (shown_run second))) ≡ opening (shown_kind kind) ++ closing (shown_kind kind)) }
+    ensures spans { IfSome result
+        (λ kind. StandFrom 0 (two_siblings (shown_run first) (shown_run second))
+        → slots_of (spans_of (two_siblings (shown_run first) (shown_run second)))
+        ≡ opening (shown_kind kind) ++ closing (shown_kind kind)) }
 {
     if !makes_a_pair(first, second) {
         return None;
@@ -83,10 +85,15 @@ pub fn slots_of_two(
     requires { examined.old < 2 ^ 127 }
     ensures counts { IfOk result (λ made. examined.new ≡ examined.old + (if made then 1 else 0)) }
     ensures few { examined.new ≤ examined.old + 1 }
-    ensures least { IfOk result (λ made. made ≡ true → examined.old + least_examined (shown_run first ∷ (shown_run second ∷ [])) ≤ examined.new) }
+    ensures least { IfOk result
+        (λ made. made ≡ true
+        → examined.old + least_examined
+        (shown_run first ∷ (shown_run second ∷ [])) ≤ examined.new) }
     ensures says { IfOk result (λ made. made ≡ make_one_span (shown_run first) (shown_run second)) }
-    ensures spans { IfOk result (λ made. made ≡ true → StandFrom 0 (two_siblings (shown_run first) (shown_run second))
-        → slots.new.items ≡ slots_of (spans_of (two_siblings (shown_run first) (shown_run second)))) }
+    ensures spans { IfOk result
+        (λ made. made ≡ true → StandFrom 0 (two_siblings (shown_run first) (shown_run second))
+        → slots.new.items
+        ≡ slots_of (spans_of (two_siblings (shown_run first) (shown_run second)))) }
     ensures balanced { IfOk result (λ made. made ≡ true → AreBalanced [] slots.new.items) }
     ensures others { IfOk result (λ made. made ≡ false → slots.new ≡ slots.old) }
 {

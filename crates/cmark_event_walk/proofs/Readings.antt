@@ -24,10 +24,11 @@ use Rattle.cmark_inline.specs.declared.callback.BrokenLink.{BrokenLink}
 use Rattle.cmark_slot_events.specs.declared.leaf_events.LeafEvents.{LeafEvents}
 use Rattle.cmark_inline_model.specs.FirstEvents.{BeginWithEnd}
 use Rattle.cmark_inline_model.specs.PlacedLeaves.{StandWhole}
+use Rattle.cmark_inline_model.specs.PlainLines.{ArePlainLines, line_events}
 use Rattle.cmark_inline_model.proofs.Backwards.{left-given, left-leaf}
 use Rattle.cmark_inline_model.proofs.DecisionLaws.{decide-recorded}
 use Rattle.cmark_inline_model.proofs.DecisionShifted.{decide-shifted}
-use Rattle.cmark_inline_model.proofs.PlainLeaves.{plain-leaf}
+use Rattle.cmark_inline_model.proofs.PlainLines.{joined-lines, last-some, plain-leaf, plain-lines}
 use Rattle.cmark_references.specs.Definitions.{definition}
 use Rattle.cmark_references.specs.Links.{shown_link}
 use Rattle.cmark_references.specs.declared.link.Link.{Link}
@@ -38,7 +39,7 @@ use Rattle.cmark_block_walk.specs.declared.walk.Walk.{Walk}
 use Rattle.cmark_block_walk.specs.Walking as walking
 use Rattle.cmark_block_walk.specs.Walking.{lines_of}
 use Rattle.cmark_event_walk.specs.declared.span_walk.SpanWalk.{SpanWalk}
-use Rattle.cmark_event_walk.specs.Walking.{ArePlaced, Ends, EntersLeaf, GivesStart, HasAsked, HasRange, IsOnlyLine, IsReadBy, Passes, ReadsLeaf, ReadsSame, Remains, StandsAt, callback_of, definitions_of, expansion_left_of, link_in, link_to_come, opened_of, source_of, spans_to_come}
+use Rattle.cmark_event_walk.specs.Walking.{ArePlaced, Ends, EntersLeaf, GivesLines, GivesStart, HasAsked, HasRange, IsOnlyLine, IsReadBy, Passes, ReadsLeaf, ReadsSame, Remains, StandsAt, callback_of, definitions_of, expansion_left_of, link_in, link_to_come, opened_of, source_of, spans_to_come}
 use Rattle.cmark_event_walk.proofs.Walks.{Lasts, following-at, closed, closed-at, met-by, one-left, same-at}
 
 -- a text in which each byte stands for itself
@@ -292,11 +293,10 @@ module _ {E F : Type 0} (Says : F → BrokenLink → Option (CowStr × CowStr) �
               subst (Remains replacement reader mid (taken ++ rest)) (sym (m.are ∙ ap (λ b. spans_to_come b new ++ m.later) enters.inside))
               (following-leaf leaf others r is taken rest (events_to_come new.leaf new.events) m.later between leaf-read refl (remains-left replacement reader new read rest events m))
 
-      -- a leaf is one plain text
-      pub plain-passes : (budget : ℕ) (leaf : Leaf) (others : List Segment) (text : List ℕ) (start end : ℕ) (r : IsReadBy replacement reader mid) → r.left ≡ Content leaf ∷ others → walking.Remains walk others → budget ≡ mid.budget - 1
-          → (only : IsOnlyLine (source_of mid) lines.items text start end) → lines.items ≡ lines_of leaf.stretches → StandUpTo reader.options reader.lookup leaf.is_cell text 0 (length text)
-          → Passes Says replacement reader (record { event = Text text; start = only.line.start; end = only.line.content_end } ∷ []) mid (met-by mid walk lines out same-text budget)
-      plain-passes budget leaf others text start end r is remains less only are plain = record { taken = []; answered = refl; read_by = read; back = back }
+      -- the walk passes a leaf that the grammar reads without a question
+      read-passes : (budget : ℕ) (leaf : Leaf) (others : List Segment) (spans : List Ranged) (r : IsReadBy replacement reader mid) → r.left ≡ Content leaf ∷ others → walking.Remains walk others → budget ≡ mid.budget - 1
+          → (let between : Between = record { expansion_left = expansion_left_of mid; asked = [] } in ReadsGrammarLeaf reader (IsNext []) leaf between spans between) → Passes Says replacement reader spans mid (met-by mid walk lines out same-text budget)
+      read-passes budget leaf others spans r is remains less leaf-read = record { taken = []; answered = refl; read_by = read; back = back }
         where
           new : SpanWalk E F
           new = met-by mid walk lines out same-text budget
@@ -307,23 +307,40 @@ module _ {E F : Type 0} (Says : F → BrokenLink → Option (CowStr × CowStr) �
           read : IsReadBy replacement reader new
           read = record { left = others; stands = following-at mid walk lines out same-text budget r.left (Content leaf) others r.stands is remains less; placed = placed.1; same = met-same budget r.same }
 
-          spans : List Ranged
-          spans = record { event = Text text; start = only.line.start; end = only.line.content_end } ∷ []
-
-          between : Between
-          between = record { expansion_left = expansion_left_of mid; asked = [] }
-
-          text-is : text ≡ slice reader.source only.line.start only.line.content_end
-          text-is = only.is ∙ ap (λ (t : List ℕ). slice t only.line.start only.line.content_end) (sym r.same.source)
-
-          leaf-read : ReadsGrammarLeaf reader (IsNext []) leaf between spans between
-          leaf-read =
-              let some = only.part.some in
-              let whole = stand-whole reader.options reader.lookup leaf.is_cell text plain in
-              subst (λ (t : List ℕ). ReadsGrammarLeaf reader (IsNext []) leaf between (record { event = Text t; start = only.line.start; end = only.line.content_end } ∷ []) between) (sym text-is)
-              (plain-leaf reader [] leaf between only.line.start only.line.content_end (one-line leaf.stretches only.line (sym are ∙ only.alone)) some
-              (subst (λ (t : List ℕ). only.line.content_end ≤ length t) (sym r.same.source) only.part.within)
-              (subst (StandWhole reader.options reader.lookup leaf.is_cell) text-is whole))
-
           back : (rest : List Exchange) (events : List Ranged) → Remains replacement reader new rest events → Remains replacement reader mid rest (spans ++ events)
-          back rest events m = following-leaf leaf others r is [] rest spans events between leaf-read refl (remains-outside replacement reader new read out rest events m)
+          back rest events m = following-leaf leaf others r is [] rest spans events (record { expansion_left = expansion_left_of mid; asked = [] }) leaf-read refl (remains-outside replacement reader new read out rest events m)
+
+      -- a leaf consists of adjacent lines: its text is in the source
+      module _ (budget : ℕ) (leaf : Leaf) (others : List Segment) (text : List ℕ) (start end : ℕ) (r : IsReadBy replacement reader mid) (is : r.left ≡ Content leaf ∷ others) (remains : walking.Remains walk others) (less : budget ≡ mid.budget - 1) (only : IsOnlyLine (source_of mid) lines.items text start end) (are : lines.items ≡ lines_of leaf.stretches) where
+        text-is : text ≡ slice reader.source only.line.start only.line.content_end
+        text-is = only.is ∙ ap (λ (t : List ℕ). slice t only.line.start only.line.content_end) (sym r.same.source)
+
+        text-within : only.line.content_end ≤ length reader.source
+        text-within = subst (λ (t : List ℕ). only.line.content_end ≤ length t) (sym r.same.source) only.part.within
+
+        -- the leaf is one plain text
+        pub plain-passes : StandUpTo reader.options reader.lookup leaf.is_cell text 0 (length text)
+            → Passes Says replacement reader (record { event = Text text; start = only.line.start; end = only.line.content_end } ∷ []) mid (met-by mid walk lines out same-text budget)
+        plain-passes plain =
+            let between : Between = record { expansion_left = expansion_left_of mid; asked = [] } in
+            let some = only.part.some in
+            let whole = stand-whole reader.options reader.lookup leaf.is_cell text plain in
+            read-passes budget leaf others (record { event = Text text; start = only.line.start; end = only.line.content_end } ∷ []) r is remains less
+            (subst (λ (t : List ℕ). ReadsGrammarLeaf reader (IsNext []) leaf between (record { event = Text t; start = only.line.start; end = only.line.content_end } ∷ []) between) (sym text-is)
+            (plain-leaf reader [] leaf between only.line.start only.line.content_end (one-line leaf.stretches only.line (sym are ∙ only.alone)) some text-within (subst (StandWhole reader.options reader.lookup leaf.is_cell) text-is whole)))
+
+        -- the leaf is several plain lines
+        pub lines-given : (plain : List (List ℕ)) (last : List ℕ) → ArePlainLines reader.options reader.lookup leaf.is_cell text 0 plain last → GivesLines Says replacement reader mid text (met-by mid walk lines out same-text budget)
+        lines-given plain last h =
+            let between : Between = record { expansion_left = expansion_left_of mid; asked = [] } in
+            record {
+              start = only.line.start;
+              lines = plain;
+              last = last;
+              text_is = joined-lines reader.options reader.lookup leaf.is_cell text 0 plain last h;
+              some = last-some reader.options reader.lookup leaf.is_cell text 0 plain last h;
+              passes =
+                  read-passes budget leaf others (line_events only.line.start plain last) r is remains less
+                  (plain-lines reader [] leaf between only.line.start only.line.content_end plain last (one-line leaf.stretches only.line (sym are ∙ only.alone)) text-within
+                  (subst (λ (t : List ℕ). ArePlainLines reader.options reader.lookup leaf.is_cell t 0 plain last) text-is h));
+            }

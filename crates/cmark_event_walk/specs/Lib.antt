@@ -1,2 +1,3 @@
 pub mod Callback
+pub mod Plain
 pub mod Walking

@@ -16,6 +16,7 @@ use Rattle.cmark_inline_model.specs.FirstEvents.{BeginWithEnd}
 use Rattle.cmark_inline_model.specs.LeafExtents.{extents}
 use Rattle.cmark_inline_model.specs.LeafGaps.{HasNoPipesBetween}
 use Rattle.cmark_inline_model.specs.PlacedLeaves.{IsPlaced}
+use Rattle.cmark_inline_model.specs.PlainLines.{joined_lines, line_events}
 use Rattle.cmark_inline_model.specs.PlannedAnswers.{AreByPlan}
 use Rattle.cmark_references.specs.Definitions.{definition}
 use Rattle.cmark_references.specs.Footnotes.{footnote}
@@ -39,6 +40,7 @@ use Rattle.cmark_slot_events.specs.declared.leaf_events.Opened.{Opened}
 use Rattle.cmark_leaf_text.specs.Reads as reads
 use Rattle.cmark_leaf_text.specs.Reads.{IsPart, IsRead, text_of}
 use Rattle.cmark_leaf_text.specs.declared.stretch.LeafLine.{LeafLine}
+use Rattle.cmark_text.specs.Excerpt.{excerpt_bytes}
 use Rattle.cmark_text.specs.Ranged.{shown_ranged}
 use Rattle.cmark_text.specs.Short.{IsShortZeroCopy, ranged_short}
 use Rattle.cmark_values.specs.Shown.{shown_options}
@@ -46,6 +48,7 @@ use Rattle.cmark_text.specs.declared.ranged.Ranged.{Ranged as Given}
 use Rattle.cmark_text.specs.declared.short.Next.{Next}
 use Rattle.cmark_text.specs.declared.short.Next.TheVariants as next
 use Rattle.cmark_text.specs.declared.short.Short.{Short}
+use Rattle.cmark_text.specs.declared.short.Short.TheVariants as short
 use Rattle.cmark_values.specs.declared.text.CowStr.{CowStr}
 use Rattle.cmark_block_walk.specs.Walking as walking
 use Rattle.cmark_block_walk.specs.Walking.{AreLinesOf}
@@ -184,6 +187,14 @@ module _ {E F : Type 0} where
   LeavesFewer old next.Long new = events_left new ≤ events_left old
   LeavesFewer old next.Over new = Unit {0}
 
+  -- fewer events are left after one or more events were returned
+  abbrev pub LeavesFewerAfter : SpanWalk E F → Coming → SpanWalk E F → Type 0
+  LeavesFewerAfter old (coming.Span short start end) new = LeavesFewer old (next.Short short start end) new
+  LeavesFewerAfter old (coming.Block short start end) new = LeavesFewer old (next.Short short start end) new
+  LeavesFewerAfter old (coming.Lines short start end) new = events_left new < events_left old
+  LeavesFewerAfter old coming.Long new = LeavesFewer old next.Long new
+  LeavesFewerAfter old coming.Over new = LeavesFewer old next.Over new
+
   -- if the leaf has no more events, the walk is in no leaf afterwards
   abbrev pub LeavesLeaf : Next → SpanWalk E F → Type 0
   LeavesLeaf (next.Short short start end) new = Unit {0}
@@ -248,12 +259,13 @@ module _ {E F : Type 0} (replacement : E → Lookup) (reader : Reader) where
 
 -- ## The result of a call
 
--- the next event, whether it is a span's or a block's
-abbrev pub as_next : Coming → Next
-as_next (coming.Span short start end) = next.Short short start end
-as_next (coming.Block short start end) = next.Short short start end
-as_next coming.Long = next.Long
-as_next coming.Over = next.Over
+-- the call returned the events of several lines at once
+abbrev pub are_lines : Coming → Bool
+are_lines (coming.Span short start end) = false
+are_lines (coming.Block short start end) = false
+are_lines (coming.Lines short start end) = true
+are_lines coming.Long = false
+are_lines coming.Over = false
 
 -- the callback was asked some questions, one after the other
 abbrev pub HasAsked : {F : Type 0} → (F → BrokenLink → Option (CowStr × CowStr) → F → Type 0) → (before after : F) → Type 0
@@ -306,6 +318,29 @@ module _ {E F : Type 0} (Says : F → BrokenLink → Option (CowStr × CowStr) �
   GivesNext old (next.Short short start end) new = GivesShort old short start end new
   GivesNext old next.Long new = Passes [] old new
   GivesNext old next.Over new = Ends old new
+
+  -- the texts of several lines, with a soft break between two lines, are the first of the events that were left. This text is the lines
+  -- with a line feed between two of them; the last line is not empty
+  pub record GivesLines (old : SpanWalk E F) (text : List ℕ) (new : SpanWalk E F) : Type 0 where
+    pub start : ℕ
+    pub lines : List (List ℕ)
+    pub last : List ℕ
+    pub text_is : text ≡ joined_lines lines last
+    pub some : 0 < length last
+    pub passes : Passes (line_events start lines last) old new
+
+  -- the lines are given as a text
+  abbrev pub GivesAsText : SpanWalk E F → Short → SpanWalk E F → Type 0
+  GivesAsText old (short.Text text) new = GivesLines old (excerpt_bytes text) new
+  GivesAsText old _ new = ⊥
+
+  -- what a call returns of the spans and of the blocks: one event, or the events of several lines
+  abbrev pub GivesComing : SpanWalk E F → Coming → SpanWalk E F → Type 0
+  GivesComing old (coming.Span short start end) new = GivesNext old (next.Short short start end) new
+  GivesComing old (coming.Block short start end) new = GivesNext old (next.Short short start end) new
+  GivesComing old (coming.Lines short start end) new = GivesAsText old short new
+  GivesComing old coming.Long new = GivesNext old next.Long new
+  GivesComing old coming.Over new = GivesNext old next.Over new
 
   -- the result of a call for the current leaf. After Over, all events are still left
   abbrev pub GivesInLeaf : SpanWalk E F → Next → SpanWalk E F → Type 0

@@ -3,6 +3,7 @@
 
 mod callback;
 mod coming;
+mod plain;
 mod span_walk;
 
 pub use callback::OptionalCallback;

@@ -1,27 +1,27 @@
 //! The walk over a document's events with the spans of its leaves.
 
-ghost use Rattle.std.specs.Prelude.{◌≡◌, ◌≢◌, ◌<◌, ◌≤◌, Bool, true, false, List, [], is_some, length, option_map, IfOk, IfSome, OnErr, OnOk, OnSome};
-ghost use Rattle.cmark_grammar.specs.Answers.{Lookup};
+ghost use Rattle.std.specs.Prelude.{◌≡◌, ◌≢◌, ◌<◌, ◌≤◌, true, false, List, [], is_some, length, option_map, IfOk, IfSome, OnErr, OnOk, OnSome};
 ghost use Rattle.cmark_grammar.specs.Event.{Ranged as Shown};
 ghost use Rattle.cmark_grammar.specs.Questions.{Exchange};
 ghost use Rattle.cmark_grammar.specs.Readers.{Reader as GrammarReader};
 ghost use Rattle.cmark_grammar.specs.LeafText.{Leaf};
-ghost use Rattle.cmark_grammar.specs.Options.{Options as Extensions};
 ghost use Rattle.cmark_grammar.specs.SpanDocuments.{Left, Segment};
 ghost use Rattle.cmark_inline.specs.Counted.{total};
 ghost use Rattle.cmark_inline.specs.Footnoted.{SameFootnotes};
 ghost use Rattle.cmark_inline_model.specs.LeafExtents.{extents};
 ghost use Rattle.cmark_references.specs.Links.{shown_link};
-ghost use Rattle.cmark_inline.specs.PlainStretches.{IsSetOf, StandUpTo};
 ghost use Rattle.cmark_inline.specs.Resolved.{StopsAs};
 ghost use Rattle.cmark_leaf_text.specs.Stretches.{AreLines};
 ghost use Rattle.cmark_block_walk.specs.Walking.{Remains as BlocksRemain, definitions_of as block_definitions, text_of};
 ghost use Rattle.cmark_text.specs.Excerpt.{excerpt_bytes};
 ghost use Rattle.cmark_text.specs.Ranged.{IsRangedZeroCopy};
 ghost use Rattle.cmark_values.specs.Shown.{shown_options};
+ghost use Rattle.cmark_event_walk.specs.Plain.{ArePlain};
+ghost use Rattle.cmark_event_walk.specs.declared.plain.Lines.TheVariants.{One};
 ghost use Rattle.cmark_event_walk.specs.Walking.{ArePlaced, HasAsked, HasPlaces, IsOnlyLine};
 
 use crate::coming::Coming;
+use crate::plain::{Lines, plain_lines};
 use cmark_block_walk::{Brief, Met, Walk};
 use cmark_inline::{BrokenLinkCallback, InlineState, Reader, SpecialBytes, Steps, special_bytes};
 use cmark_leaf_text::{LeafLine, LeafText};
@@ -30,8 +30,8 @@ use cmark_slot_events::LeafEvents;
 use cmark_text::{EntityLookup, Excerpt, Next, Options, Ranged, Short};
 use std::alloc::{AllocError, Global};
 
-/// The length in bytes of the longest line that `plain_text` searches for a special byte. A longer line mostly has one, and would be
-/// searched twice: here and by the inline pass.
+/// The length in bytes of the longest text that `plain_text` searches for a special byte, if the text has to be one line. A longer line
+/// mostly has one, and would be searched twice: here and by the inline pass.
 const LONGEST: usize = 128;
 
 /// A walk over the events of a document, with the spans of each leaf instead of its lines.
@@ -54,7 +54,7 @@ pub struct SpanWalk<'input, 'e, E, F> {
 }
 
 impl<'input, 'e, E: EntityLookup, F: BrokenLinkCallback<'input> + Drop> SpanWalk<'input, 'e, E, F> {
-    ghost use Rattle.cmark_event_walk.specs.Walking.{BeforeLeaf, KeepsAround, EntersLeaf, Gives, GivesInLeaf, GivesNext, GivesSpan, GivesStart, IsCounted, IsReadBy, KeepsAfterLeaf, KeepsLeft, LeavesFewer, LeavesLeaf, NoEndIsNext, ReadsLeaf, ReadsSame, Remains, Stands, Stops, as_next, callback_of, definitions_of, events_left, expansion_left_of, footnotes_of, link_to_come, options_of, source_of, steps_of};
+    ghost use Rattle.cmark_event_walk.specs.Walking.{BeforeLeaf, KeepsAround, EntersLeaf, Gives, GivesComing, GivesInLeaf, GivesSpan, GivesStart, IsCounted, IsReadBy, KeepsAfterLeaf, KeepsLeft, LeavesFewer, LeavesFewerAfter, LeavesLeaf, NoEndIsNext, ReadsLeaf, ReadsSame, Remains, Stands, Stops, are_lines, callback_of, definitions_of, events_left, expansion_left_of, footnotes_of, link_to_come, options_of, source_of, steps_of};
 
     /// Returns a walk over the rest of `walk`, which is a walk over the blocks of `text`. `budget` is more than the number of events and
     /// leaves that `walk` still returns. `entities` maps entity names to their characters. `footnotes` are the footnotes that the text
@@ -71,18 +71,20 @@ impl<'input, 'e, E: EntityLookup, F: BrokenLinkCallback<'input> + Drop> SpanWalk
         callback: F,
         expansion_limit: usize,
     ) -> SpanWalk<'input, 'e, E, F>
-        ensures stands { (left : List Segment) → BlocksRemain walk.entry left → text_of walk.entry ≡ text.entry.now → length left < budget → extents left ≤ length text.entry.now → Stands result }
+        ensures stands { (left : List Segment) → BlocksRemain walk.entry left
+            → text_of walk.entry ≡ text.entry.now → length left < budget
+            → extents left ≤ length text.entry.now → Stands result }
         ensures begins { (reader : GrammarReader) (left : List Segment)
-            → BlocksRemain walk.entry left
-            → text_of walk.entry ≡ text.entry.now
-            → length left < budget
-            → extents left ≤ length text.entry.now
-            → ArePlaced reader left
+            → BlocksRemain walk.entry left → text_of walk.entry ≡ text.entry.now
+            → length left < budget → extents left ≤ length text.entry.now → ArePlaced reader left
             → ReadsSame E.replacement reader result
             → IsReadBy E.replacement reader result
-            × ((exchanges : List Exchange) (events : List Shown) → Left reader left (expansion_left_of result) exchanges events → Remains E.replacement reader result exchanges events) }
-        ensures reads { (reader : GrammarReader) (left : List Segment) (exchanges : List Exchange) (events : List Shown)
-            → BlocksRemain walk.entry left
+            ×
+            ((exchanges : List Exchange) (events : List Shown)
+            → Left reader left (expansion_left_of result) exchanges events
+            → Remains E.replacement reader result exchanges events) }
+        ensures reads { (reader : GrammarReader) (left : List Segment) (exchanges : List Exchange)
+            (events : List Shown) → BlocksRemain walk.entry left
             → Remains E.replacement reader result exchanges events
             → Left reader left (expansion_left_of result) exchanges events }
         ensures expansion_left { expansion_left_of result ≡ expansion_limit }
@@ -131,12 +133,17 @@ impl<'input, 'e, E: EntityLookup, F: BrokenLinkCallback<'input> + Drop> SpanWalk
         requires ready { F.ready (callback_of self.old) }
         ensures ready { F.ready (callback_of self.new) }
         ensures stands { OnOk result (Stands self.new) }
-        ensures given { (reader : GrammarReader) → IsReadBy E.replacement reader self.old → IfOk result (λ given. Gives F.answers E.replacement reader self.old given self.new) }
+        ensures given { (reader : GrammarReader) → IsReadBy E.replacement reader self.old
+            → IfOk result (λ given. Gives F.answers E.replacement reader self.old given self.new) }
         ensures lent { IfOk result (λ given. IfSome given (IsRangedZeroCopy (source_of self.old))) }
-        ensures fewer { IfOk result (λ given. OnSome given (events_left self.new < events_left self.old)) }
-        ensures ends { OnErr result ((reader : GrammarReader) → NoEndIsNext E.replacement reader self.old) }
-        ensures asked { OnErr result (HasAsked F.answers (callback_of self.old) (callback_of self.new)) }
-        ensures stops { (reader : GrammarReader) → IsReadBy E.replacement reader self.old → OnErr result (Stops F.answers E.replacement reader self.old self.new) }
+        ensures fewer { IfOk result
+            (λ given. OnSome given (events_left self.new < events_left self.old)) }
+        ensures ends { OnErr result
+            ((reader : GrammarReader) → NoEndIsNext E.replacement reader self.old) }
+        ensures asked { OnErr result
+            (HasAsked F.answers (callback_of self.old) (callback_of self.new)) }
+        ensures stops { (reader : GrammarReader) → IsReadBy E.replacement reader self.old
+            → OnErr result (Stops F.answers E.replacement reader self.old self.new) }
         ensures counted { IsCounted self.new }
         ensures definitions { definitions_of self.new ≡ definitions_of self.old }
         ensures footnotes { SameFootnotes (footnotes_of self.old) (footnotes_of self.new) }
@@ -167,18 +174,25 @@ impl<'input, 'e, E: EntityLookup, F: BrokenLinkCallback<'input> + Drop> SpanWalk
     }
 
     /// Like [`next`](SpanWalk::next), but builds no `Event`. An event that owns nothing is returned and consumed. Any other is reported as
-    /// `Coming::Long` and left for `next`. After an error (out of memory) the walk cannot be continued.
+    /// `Coming::Long` and left for `next`. `joins` says whether the events of several plain lines may be returned at once, as
+    /// `Coming::Lines`. After an error (out of memory) the walk cannot be continued.
     #[inline(always)]
-    pub fn next_short(&mut self) -> Result<Coming<'input>, AllocError>
+    pub fn next_short(&mut self, joins: bool) -> Result<Coming<'input>, AllocError>
         requires stands { Stands self.old }
         requires ready { F.ready (callback_of self.old) }
         ensures ready { F.ready (callback_of self.new) }
         ensures stands { OnOk result (Stands self.new) }
-        ensures given { (reader : GrammarReader) → IsReadBy E.replacement reader self.old → IfOk result (λ coming. GivesNext F.answers E.replacement reader self.old (as_next coming) self.new) }
-        ensures fewer { IfOk result (λ coming. LeavesFewer self.old (as_next coming) self.new) }
-        ensures ends { OnErr result ((reader : GrammarReader) → NoEndIsNext E.replacement reader self.old) }
-        ensures asked { OnErr result (HasAsked F.answers (callback_of self.old) (callback_of self.new)) }
-        ensures stops { (reader : GrammarReader) → IsReadBy E.replacement reader self.old → OnErr result (Stops F.answers E.replacement reader self.old self.new) }
+        ensures given { (reader : GrammarReader) → IsReadBy E.replacement reader self.old
+            → IfOk result
+            (λ coming. GivesComing F.answers E.replacement reader self.old coming self.new) }
+        ensures joins { joins ≡ false → IfOk result (λ coming. are_lines coming ≡ false) }
+        ensures fewer { IfOk result (λ coming. LeavesFewerAfter self.old coming self.new) }
+        ensures ends { OnErr result
+            ((reader : GrammarReader) → NoEndIsNext E.replacement reader self.old) }
+        ensures asked { OnErr result
+            (HasAsked F.answers (callback_of self.old) (callback_of self.new)) }
+        ensures stops { (reader : GrammarReader) → IsReadBy E.replacement reader self.old
+            → OnErr result (Stops F.answers E.replacement reader self.old self.new) }
         ensures counted { IsCounted self.new }
         ensures definitions { definitions_of self.new ≡ definitions_of self.old }
         ensures footnotes { SameFootnotes (footnotes_of self.old) (footnotes_of self.new) }
@@ -203,8 +217,11 @@ impl<'input, 'e, E: EntityLookup, F: BrokenLinkCallback<'input> + Drop> SpanWalk
                 }
                 Brief::Leaf { is_cell } => {
                     self.budget -= 1;
-                    if let Some((text, start, end)) = self.plain_text() {
-                        return Ok(Coming::Span(Short::Text(text), start, end));
+                    if let Some((text, start, end, lines)) = self.plain_text(joins) {
+                        return match lines {
+                            Lines::One => Ok(Coming::Span(Short::Text(text), start, end)),
+                            Lines::Several => Ok(Coming::Lines(Short::Text(text), start, end)),
+                        };
                     }
                     self.enter_leaf(is_cell)?;
                 }
@@ -240,9 +257,14 @@ impl<'input, 'e, E: EntityLookup, F: BrokenLinkCallback<'input> + Drop> SpanWalk
         requires stands { Stands self.old }
         requires ahead { is_some (link_to_come self.old) ≡ true }
         ensures stands { OnOk result (Stands self.new) }
-        ensures given { (reader : GrammarReader) → IsReadBy E.replacement reader self.old → OnOk result (IfSome (link_to_come self.old) (λ link. GivesStart F.answers E.replacement reader self.old (shown_link link) self.new)) }
+        ensures given { (reader : GrammarReader) → IsReadBy E.replacement reader self.old
+            → OnOk result
+            (IfSome (link_to_come self.old)
+            (λ link. GivesStart F.answers E.replacement reader self.old (shown_link link)
+            self.new)) }
         ensures fewer { OnOk result (events_left self.new < events_left self.old) }
-        ensures ends { OnErr result ((reader : GrammarReader) → NoEndIsNext E.replacement reader self.old) }
+        ensures ends { OnErr result
+            ((reader : GrammarReader) → NoEndIsNext E.replacement reader self.old) }
         ensures callback { callback_of self.new ≡ callback_of self.old }
         ensures counted { IsCounted self.new }
         ensures definitions { definitions_of self.new ≡ definitions_of self.old }
@@ -259,12 +281,17 @@ impl<'input, 'e, E: EntityLookup, F: BrokenLinkCallback<'input> + Drop> SpanWalk
         requires { Stands self.old }
         ensures stands { OnOk result (Stands self.new) }
         ensures outside { IfOk result (λ next. LeavesLeaf next self.new) }
-        ensures given { (reader : GrammarReader) → IsReadBy E.replacement reader self.old → IfOk result (λ next. GivesInLeaf F.answers E.replacement reader self.old next self.new) }
-        ensures kept { (reader : GrammarReader) → IfOk result (λ next. KeepsAfterLeaf E.replacement reader self.old next self.new) }
-        ensures ends { OnErr result ((reader : GrammarReader) → NoEndIsNext E.replacement reader self.old) }
+        ensures given { (reader : GrammarReader) → IsReadBy E.replacement reader self.old
+            → IfOk result
+            (λ next. GivesInLeaf F.answers E.replacement reader self.old next self.new) }
+        ensures kept { (reader : GrammarReader)
+            → IfOk result (λ next. KeepsAfterLeaf E.replacement reader self.old next self.new) }
+        ensures ends { OnErr result
+            ((reader : GrammarReader) → NoEndIsNext E.replacement reader self.old) }
         ensures fewer { IfOk result (λ next. LeavesFewer self.old next self.new) }
         ensures most { OnOk result (events_left self.new ≤ events_left self.old) }
-        ensures few { OnOk result (self.old.in_leaf ≡ true → length self.new.events.slots.items < 18446744073709551616) }
+        ensures few { OnOk result
+            (self.old.in_leaf ≡ true → length self.new.events.slots.items < 18446744073709551616) }
         ensures slots { OnOk result (self.new.events.slots ≡ self.old.events.slots) }
         ensures around { KeepsAround self.old self.new }
     {
@@ -288,13 +315,20 @@ impl<'input, 'e, E: EntityLookup, F: BrokenLinkCallback<'input> + Drop> SpanWalk
         requires { Stands self.old }
         ensures stands { OnOk result (Stands self.new) }
         ensures outside { IfOk result (λ given. is_some given ≡ false → self.new.in_leaf ≡ false) }
-        ensures given { (reader : GrammarReader) → IsReadBy E.replacement reader self.old → IfOk result (λ given. GivesSpan F.answers E.replacement reader self.old given self.new) }
-        ensures kept { (reader : GrammarReader) → IfOk result (λ given. is_some given ≡ false → KeepsLeft E.replacement reader self.old self.new) }
-        ensures ends { OnErr result ((reader : GrammarReader) → NoEndIsNext E.replacement reader self.old) }
+        ensures given { (reader : GrammarReader) → IsReadBy E.replacement reader self.old
+            → IfOk result
+            (λ given. GivesSpan F.answers E.replacement reader self.old given self.new) }
+        ensures kept { (reader : GrammarReader)
+            → IfOk result
+            (λ given. is_some given ≡ false → KeepsLeft E.replacement reader self.old self.new) }
+        ensures ends { OnErr result
+            ((reader : GrammarReader) → NoEndIsNext E.replacement reader self.old) }
         ensures lent { IfOk result (λ given. IfSome given (IsRangedZeroCopy (source_of self.old))) }
-        ensures fewer { IfOk result (λ given. OnSome given (events_left self.new < events_left self.old)) }
+        ensures fewer { IfOk result
+            (λ given. OnSome given (events_left self.new < events_left self.old)) }
         ensures most { OnOk result (events_left self.new ≤ events_left self.old) }
-        ensures few { OnOk result (self.old.in_leaf ≡ true → length self.new.events.slots.items < 18446744073709551616) }
+        ensures few { OnOk result
+            (self.old.in_leaf ≡ true → length self.new.events.slots.items < 18446744073709551616) }
         ensures slots { OnOk result (self.new.events.slots ≡ self.old.events.slots) }
         ensures around { KeepsAround self.old self.new }
     {
@@ -311,41 +345,61 @@ impl<'input, 'e, E: EntityLookup, F: BrokenLinkCallback<'input> + Drop> SpanWalk
         Ok(given)
     }
 
-    // Returns the text of the leaf whose lines are in `lines`, with its range in the source. It does so only if the leaf is one short line
-    // in which no byte may begin a span, as in most table cells. The leaf's only event then is a slice of the source.
+    // Returns the text of the leaf whose lines are in `lines`, with its range in the source and its number of lines. It does so only if the
+    // lines are adjacent and plain, as in most table cells and in much prose. The text then is a slice of the source. `joins` says whether it
+    // may have several lines.
     #[inline(always)]
-    fn plain_text(&self) -> Option<(Excerpt<'input>, usize, usize)>
+    fn plain_text(&self, joins: bool) -> Option<(Excerpt<'input>, usize, usize, Lines)>
         requires { AreLines (source_of self.now) 0 self.now.lines.items }
-        ensures line { IfSome result (λ found. IsOnlyLine (source_of self.now) self.now.lines.items (excerpt_bytes found.0) found.1 found.2) }
-        ensures plain { IfSome result (λ found. (options : Extensions) (lookup : Lookup) (is_cell : Bool) → IsSetOf options self.now.special
-            → StandUpTo options lookup is_cell (excerpt_bytes found.0) 0 (length (excerpt_bytes found.0))) }
+        ensures line { IfSome result
+            (λ found. IsOnlyLine (source_of self.now) self.now.lines.items (excerpt_bytes found.0)
+            found.1 found.2) }
+        ensures plain { IfSome result
+            (λ found. ArePlain self.now.special (excerpt_bytes found.0) found.3) }
+        ensures joins { joins ≡ false → IfSome result (λ found. found.3 ≡ One) }
     {
         let [line] = self.lines.as_slice() else {
             return None;
         };
-        if line.start >= line.content_end || line.content_end - line.start > LONGEST {
+        if line.start >= line.content_end {
+            return None;
+        }
+        let size = line.content_end - line.start;
+        if !joins && size > LONGEST {
             return None;
         }
         let text = self.leaf.source_at(line.start, line.content_end);
         let ahead = self.leaf.source_ahead(line.start);
-        if self.special.next(text.as_bytes(), ahead.as_bytes(), 0) < text.len() {
-            return None;
-        }
-        let excerpt = Excerpt::new(ahead, line.content_end - line.start);
-        Some((excerpt, line.start, line.content_end))
+        let lines = plain_lines(&self.special, text.as_bytes(), ahead.as_bytes(), joins)?;
+        Some((
+            Excerpt::new(ahead, size),
+            line.start,
+            line.content_end,
+            lines,
+        ))
     }
 
     // Enters the leaf whose lines are in `lines`. `is_cell` says whether it is a table cell.
     fn enter_leaf(&mut self, is_cell: bool) -> Result<(), AllocError>
-        requires before { (leaf : Leaf) × (others : List Segment) × BeforeLeaf self.old is_cell leaf others }
+        requires before { (leaf : Leaf) × (others : List Segment)
+            × BeforeLeaf self.old is_cell leaf others }
         requires ready { F.ready (callback_of self.old) }
         ensures ready { F.ready (callback_of self.new) }
-        ensures enters { OnOk result ((leaf : Leaf) (others : List Segment) → BeforeLeaf self.old is_cell leaf others → EntersLeaf others self.new) }
-        ensures reads { OnOk result ((reader : GrammarReader) (leaf : Leaf) (others : List Segment) → BeforeLeaf self.old is_cell leaf others → HasPlaces reader leaf → ReadsSame E.replacement reader self.old
+        ensures enters { OnOk result
+            ((leaf : Leaf) (others : List Segment) → BeforeLeaf self.old is_cell leaf others
+            → EntersLeaf others self.new) }
+        ensures reads { OnOk result
+            ((reader : GrammarReader) (leaf : Leaf) (others : List Segment)
+            → BeforeLeaf self.old is_cell leaf others → HasPlaces reader leaf
+            → ReadsSame E.replacement reader self.old
             → ReadsLeaf F.answers E.replacement reader leaf self.old self.new) }
         ensures lines { OnErr result (self.old.lines.items ≢ []) }
-        ensures stops { OnErr result ((reader : GrammarReader) (leaf : Leaf) (others : List Segment) → BeforeLeaf self.old is_cell leaf others → HasPlaces reader leaf → ReadsSame E.replacement reader self.old
-            → StopsAs F.answers reader leaf (expansion_left_of self.old) (callback_of self.old) (callback_of self.new)) }
+        ensures stops { OnErr result
+            ((reader : GrammarReader) (leaf : Leaf) (others : List Segment)
+            → BeforeLeaf self.old is_cell leaf others → HasPlaces reader leaf
+            → ReadsSame E.replacement reader self.old
+            → StopsAs F.answers reader leaf (expansion_left_of self.old) (callback_of self.old)
+            (callback_of self.new)) }
         ensures asked { HasAsked F.answers (callback_of self.old) (callback_of self.new) }
         ensures counted { IsCounted self.new }
         ensures source { source_of self.new ≡ source_of self.old }

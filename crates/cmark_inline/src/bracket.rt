@@ -31,7 +31,12 @@ impl<'a> InlineState<'a> {
     ) -> Result<Cursor, AllocError>
         requires byte { IsAtByte text.now here self.old }
         ensures reads_on { ReadsOn text.now here self.old self.new result }
-        ensures token { (lookup : Lookup) (is_cell : Bool) → slice_index text.now here.at ≡ 33 → IfOk result (λ next. Passes (shown_options options) lookup is_cell text.now here self.old self.new next ⊎ OpensBracket (shown_options options) lookup is_cell text.now here self.old self.new next) }
+        ensures token { (lookup : Lookup) (is_cell : Bool) → slice_index text.now here.at ≡ 33
+            → IfOk result
+            (λ next. Passes (shown_options options) lookup is_cell text.now here self.old self.new
+            next
+            ⊎ OpensBracket (shown_options options) lookup is_cell text.now here self.old self.new
+            next) }
     {
         if is_followed_by(text, here.at, b'[') {
             let inside = following(text, following(text, here.at));
@@ -57,9 +62,15 @@ impl<'a> InlineState<'a> {
         requires mark { is_image ≡ true → IsCharBoundary text.now (here.at + 1) }
         ensures reads_on { ReadsOn text.now here self.old self.new result }
         ensures at { IfOk result (λ next. (next.pending ≡ inside) × (next.at ≡ inside)) }
-        ensures doubles { OnOk result (self.new.doubled.standing.items ≡ doubles (shown_options options) self.old.brackets is_image here.at inside self.old.doubled.standing.items) }
-        ensures puts { OnOk result (PutsBracket is_image here.pending here.at inside self.old self.new) }
-        ensures opens { OnOk result (OpensAs (shown_options options).wikilinks is_image text.now here.at inside self.old self.new) }
+        ensures doubles { OnOk result
+            (self.new.doubled.standing.items
+            ≡ doubles (shown_options options) self.old.brackets is_image here.at inside
+            self.old.doubled.standing.items) }
+        ensures puts { OnOk result
+            (PutsBracket is_image here.pending here.at inside self.old self.new) }
+        ensures opens { OnOk result
+            (OpensAs (shown_options options).wikilinks is_image text.now here.at inside self.old
+            self.new) }
     {
         self.flush(text, here, here.at)?;
         let bracket = Bracket {

@@ -27,7 +27,9 @@ pub struct BrokenLink<'a> {
 impl<'a> BrokenLink<'a> {
     /// Copies the borrowed text, so that the value borrows nothing. Fails only if memory is refused.
     pub fn into_static(self, alloc: Global) -> Result<BrokenLink<'static>, AllocError>
-        ensures { IfOk result (λ made. IsQuestion self.entry.link_type (text_bytes self.entry.reference) self.entry.span.start self.entry.span.end made) }
+        ensures { IfOk result
+            (λ made. IsQuestion self.entry.link_type (text_bytes self.entry.reference)
+            self.entry.span.start self.entry.span.end made) }
     {
         let BrokenLink {
             span,

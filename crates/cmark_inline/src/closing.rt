@@ -60,17 +60,26 @@ impl<'a> InlineState<'a> {
         requires sound { IsSound self.old }
         requires ready { F.ready callback.old }
         ensures sound { OnOk result (IsSound self.new) }
-        ensures ends { OnOk result (AreEnded leaf.now self.old.slots.items → AreEnded leaf.now self.new.slots.items) }
+        ensures ends { OnOk result
+            (AreEnded leaf.now self.old.slots.items → AreEnded leaf.now self.new.slots.items) }
         ensures ready { F.ready callback.new }
         ensures asks { AsksOnce F.answers callback.old callback.new }
-        ensures spent { self.old.expansion_left ≡ 0 → (callback.new ≡ callback.old) × (self.new.expansion_left ≡ 0) }
+        ensures spent { self.old.expansion_left ≡ 0
+            → (callback.new ≡ callback.old) × (self.new.expansion_left ≡ 0) }
         ensures steps { self.new.steps ≡ self.old.steps }
         ensures moves { IfOk result (Moves text.now here.at self.new) }
         ensures footnotes { SameFootnotes footnotes.old footnotes.new }
         ensures rise { RiseUpTo 1 footnotes.old footnotes.new }
         ensures flushes { OnOk result (Flushes here.pending here.at self.old) }
-        ensures closes { IfOk result (λ next. Closes F.answers (shown_options reader.now.options) (E.replacement reader.now.entities.now) reader.now.references.now footnotes.old footnotes.new leaf.now text.now here.pending here.at self.old self.new next callback.old callback.new) }
-        ensures stops { OnErr result (AsksOfCloser F.answers (shown_options reader.now.options) (E.replacement reader.now.entities.now) reader.now.references.now footnotes.old leaf.now text.now here.at self.old callback.old callback.new) }
+        ensures closes { IfOk result
+            (λ next. Closes F.answers (shown_options reader.now.options)
+            (E.replacement reader.now.entities.now) reader.now.references.now footnotes.old
+            footnotes.new leaf.now text.now here.pending here.at self.old self.new next callback.old
+            callback.new) }
+        ensures stops { OnErr result
+            (AsksOfCloser F.answers (shown_options reader.now.options)
+            (E.replacement reader.now.entities.now) reader.now.references.now footnotes.old leaf.now
+            text.now here.at self.old callback.old callback.new) }
     {
         self.flush(text, here, here.at)?;
         let following_it = following(text, here.at);
@@ -109,7 +118,8 @@ impl<'a> InlineState<'a> {
     ) -> Result<Option<Cursor>, AllocError>
         requires stands { Stands text.now close self.old }
         requires bracket { IfSome taken (IsBracket text.now close) }
-        requires free { IfSome taken (λ bracket. bracket.is_image ≡ false → HoldNoLink self.old.slots.items bracket.slot) }
+        requires free { IfSome taken
+            (λ bracket. bracket.is_image ≡ false → HoldNoLink self.old.slots.items bracket.slot) }
         requires close { IsPart text.now close (close + 1) }
         requires read { IsRead leaf.now }
         requires same { text.now ≡ text_of leaf.now }
@@ -117,15 +127,24 @@ impl<'a> InlineState<'a> {
         requires taken { IfSome taken (IsTakenFrom self.old) }
         requires ready { F.ready callback.old }
         ensures sound { OnOk result (IsSound self.new) }
-        ensures ends { OnOk result ((leaf : LeafTexts) → AreEnded leaf self.old.slots.items → AreEnded leaf self.new.slots.items) }
+        ensures ends { OnOk result
+            ((leaf : LeafTexts) → AreEnded leaf self.old.slots.items
+            → AreEnded leaf self.new.slots.items) }
         ensures ready { F.ready callback.new }
         ensures asks { AsksOnce F.answers callback.old callback.new }
-        ensures spent { self.old.expansion_left ≡ 0 → (callback.new ≡ callback.old) × (self.new.expansion_left ≡ 0) }
+        ensures spent { self.old.expansion_left ≡ 0
+            → (callback.new ≡ callback.old) × (self.new.expansion_left ≡ 0) }
         ensures steps { self.new.steps ≡ self.old.steps }
         ensures stands { IfOk result (λ next. next ≡ None → Stands text.now close self.new) }
         ensures moves { IfOk result (λ next. IfSome next (Moves text.now close self.new)) }
-        ensures links { IfOk result (λ next. LinksTaken F.answers (shown_options reader.now.options) (E.replacement reader.now.entities.now) reader.now.references.now leaf.now text.now taken close self.old self.new next callback.old callback.new) }
-        ensures stops { OnErr result (AsksOfLink F.answers (shown_options reader.now.options) (E.replacement reader.now.entities.now) reader.now.references.now leaf.now text.now taken close self.old callback.old callback.new) }
+        ensures links { IfOk result
+            (λ next. LinksTaken F.answers (shown_options reader.now.options)
+            (E.replacement reader.now.entities.now) reader.now.references.now leaf.now text.now
+            taken close self.old self.new next callback.old callback.new) }
+        ensures stops { OnErr result
+            (AsksOfLink F.answers (shown_options reader.now.options)
+            (E.replacement reader.now.entities.now) reader.now.references.now leaf.now text.now
+            taken close self.old callback.old callback.new) }
     {
         let Some(bracket) = taken else {
             return Ok(None);
@@ -150,9 +169,14 @@ impl<'a> InlineState<'a> {
         ensures stands { Stands text.now at self.new }
         ensures expansion_left { self.new.expansion_left ≡ self.old.expansion_left }
         ensures bracket { IfSome result (IsBracket text.now at) }
-        ensures link { IfSome result (λ bracket. bracket.is_image ≡ false → HoldNoLink self.new.slots.items bracket.slot) }
+        ensures link { IfSome result
+            (λ bracket. bracket.is_image ≡ false → HoldNoLink self.new.slots.items bracket.slot) }
         ensures others { self.new ≡ record self.old { brackets = self.new.brackets } }
-        ensures takes { (wikilinks : Bool) (place : ℕ → ℕ) (openers : List Opener) (bs : List Opening) → StandFor wikilinks place at openers bs self.old.brackets self.old.doubled → StandFor wikilinks place at (used_up openers) bs self.new.brackets self.new.doubled × TakenAs place bs (nearest openers) result }
+        ensures takes { (wikilinks : Bool) (place : ℕ → ℕ) (openers : List Opener)
+            (bs : List Opening)
+            → StandFor wikilinks place at openers bs self.old.brackets self.old.doubled
+            → StandFor wikilinks place at (used_up openers) bs self.new.brackets self.new.doubled
+            × TakenAs place bs (nearest openers) result }
     {
         let (bracket, forms) = self.brackets.take()?;
         if forms { Some(bracket) } else { None }
@@ -176,12 +200,22 @@ impl<'a> InlineState<'a> {
         requires ready { F.ready callback.old }
         ensures ready { F.ready callback.new }
         ensures asks { AsksOnce F.answers callback.old callback.new }
-        ensures spent { self.old.expansion_left ≡ 0 → (callback.new ≡ callback.old) × (self.new.expansion_left ≡ 0) }
-        ensures others { self.new ≡ record self.old { expansion_left = self.new.expansion_left; label_close = self.new.label_close } }
+        ensures spent { self.old.expansion_left ≡ 0
+            → (callback.new ≡ callback.old) × (self.new.expansion_left ≡ 0) }
+        ensures others { self.new
+            ≡ record self.old
+            { expansion_left = self.new.expansion_left; label_close = self.new.label_close } }
         ensures target { IfOk result (λ found. IfSome found (IsTarget text.now close)) }
-        ensures decides { IfOk result (λ found. TargetDecides F.answers (shown_options reader.now.options) (E.replacement reader.now.entities.now) reader.now.references.now leaf.now text.now bracket close self.old self.new found callback.old callback.new) }
-        ensures stops { OnErr result (AsksOfTarget F.answers (shown_options reader.now.options) (E.replacement reader.now.entities.now) reader.now.references.now leaf.now text.now bracket close self.old callback.old callback.new) }
-        ensures label { OnOk result (EndsWithin text.now self.old.label_close → EndsWithin text.now self.new.label_close) }
+        ensures decides { IfOk result
+            (λ found. TargetDecides F.answers (shown_options reader.now.options)
+            (E.replacement reader.now.entities.now) reader.now.references.now leaf.now text.now
+            bracket close self.old self.new found callback.old callback.new) }
+        ensures stops { OnErr result
+            (AsksOfTarget F.answers (shown_options reader.now.options)
+            (E.replacement reader.now.entities.now) reader.now.references.now leaf.now text.now
+            bracket close self.old callback.old callback.new) }
+        ensures label { OnOk result
+            (EndsWithin text.now self.old.label_close → EndsWithin text.now self.new.label_close) }
     {
         if let Some(target) = inline_target(self.alloc, leaf, text, close + 1, reader.entities)? {
             return Ok(Some(target));
@@ -220,15 +254,21 @@ impl<'a> InlineState<'a> {
         requires sound { IsSound self.old }
         requires taken { IsTakenFrom self.old bracket }
         ensures sound { OnOk result (IsSound self.new) }
-        ensures ends { OnOk result ((leaf : LeafTexts) → AreEnded leaf self.old.slots.items → AreEnded leaf self.new.slots.items) }
+        ensures ends { OnOk result
+            ((leaf : LeafTexts) → AreEnded leaf self.old.slots.items
+            → AreEnded leaf self.new.slots.items) }
         ensures expansion_left { self.new.expansion_left ≡ self.old.expansion_left }
         ensures steps { self.new.steps ≡ self.old.steps }
         ensures stands { OnOk result (Stands text.now target.entry.resume self.new) }
-        ensures kept { OnOk result (self.new.links.items ≡ self.old.links.items ++ (target.entry.link ∷ [])) }
-        ensures link { OnOk result (bracket.is_image ≡ false → HoldNoLink self.new.slots.items (bracket.slot + 1)) }
-        ensures leaves { OnOk result (LeavesElement bracket.is_image bracket.start self.old self.new) }
+        ensures kept { OnOk result
+            (self.new.links.items ≡ self.old.links.items ++ (target.entry.link ∷ [])) }
+        ensures link { OnOk result
+            (bracket.is_image ≡ false → HoldNoLink self.new.slots.items (bracket.slot + 1)) }
+        ensures leaves { OnOk result
+            (LeavesElement bracket.is_image bracket.start self.old self.new) }
         ensures label { self.new.label_close ≡ self.old.label_close }
-        ensures writes { OnOk result (WritesElement (shown_options options) bracket target.entry self.old self.new) }
+        ensures writes { OnOk result
+            (WritesElement (shown_options options) bracket target.entry self.old self.new) }
     {
         let Target { link, end, .. } = target;
         let element = linked_element(bracket.is_image, self.links.len());
@@ -244,7 +284,8 @@ impl<'a> InlineState<'a> {
     fn deactivate_after(&mut self, is_image: bool)
         ensures brackets { DeactivatesAfter is_image self.old.brackets self.new.brackets }
         ensures doubled { DeactivatesAfter is_image self.old.doubled self.new.doubled }
-        ensures others { self.new ≡ record self.old { brackets = self.new.brackets; doubled = self.new.doubled } }
+        ensures others { self.new
+            ≡ record self.old { brackets = self.new.brackets; doubled = self.new.doubled } }
     {
         if !is_image {
             self.brackets.deactivate_all();
@@ -264,26 +305,50 @@ impl<'a> InlineState<'a> {
         requires there { bracket.slot < length self.old.slots.items }
         requires runs_there { bracket.runs ≤ length self.old.delimiters.placed.items }
         requires quotes_there { bracket.quotes ≤ length self.old.quotes.placed.items }
-        requires settles { CanSettle (bracket.slot + 1) self.old.slots.items (drop bracket.runs self.old.delimiters.placed.items) (drop bracket.quotes self.old.quotes.placed.items) }
+        requires settles { CanSettle (bracket.slot + 1) self.old.slots.items
+            (drop bracket.runs self.old.delimiters.placed.items)
+            (drop bracket.quotes self.old.quotes.placed.items) }
         requires room { self.old.delimiters.examined < 2 ^ 127 }
-        ensures examined { OnOk result (self.new.delimiters.examined + 15 * length self.new.delimiters.placed.items ≤ self.old.delimiters.examined + 15 * length self.old.delimiters.placed.items) }
-        ensures least { OnOk result (self.old.delimiters.examined + least_examined (runs_of (siblings_from 0 (drop bracket.runs self.old.delimiters.placed.items))) ≤ self.new.delimiters.examined) }
+        ensures examined { OnOk result
+            (self.new.delimiters.examined + 15 * length
+            self.new.delimiters.placed.items ≤ self.old.delimiters.examined + 15 * length
+            self.old.delimiters.placed.items) }
+        ensures least { OnOk result
+            (self.old.delimiters.examined + least_examined
+            (runs_of (siblings_from 0 (drop bracket.runs self.old.delimiters.placed.items)))
+            ≤ self.new.delimiters.examined) }
         ensures table { self.new.links ≡ self.old.links }
         ensures texts { self.new.texts ≡ self.old.texts }
-        ensures settled { OnOk result (IsSettled (bracket.slot + 1) self.old.slots.items self.new.slots.items) }
-        ensures placed { OnOk result (self.new.delimiters.placed.items ≡ take bracket.runs self.old.delimiters.placed.items) }
-        ensures quotes { OnOk result (self.new.quotes.placed.items ≡ take bracket.quotes self.old.quotes.placed.items) }
+        ensures settled { OnOk result
+            (IsSettled (bracket.slot + 1) self.old.slots.items self.new.slots.items) }
+        ensures placed { OnOk result
+            (self.new.delimiters.placed.items
+            ≡ take bracket.runs self.old.delimiters.placed.items) }
+        ensures quotes { OnOk result
+            (self.new.quotes.placed.items ≡ take bracket.quotes self.old.quotes.placed.items) }
         ensures expansion_left { self.new.expansion_left ≡ self.old.expansion_left }
         ensures steps { self.new.steps ≡ self.old.steps }
         ensures label { self.new.label_close ≡ self.old.label_close }
         ensures brackets { self.new.brackets ≡ self.old.brackets }
         ensures doubled { self.new.doubled ≡ self.old.doubled }
-        ensures slots { OnOk result ((text : List ℕ) (place : ℕ) → AreSlots text place self.old.slots.items → IsEnd text place close end → AreSlots text place self.new.slots.items) }
-        ensures length { OnOk result (length self.new.slots.items ≡ length self.old.slots.items + 1) }
+        ensures slots { OnOk result
+            ((text : List ℕ) (place : ℕ) → AreSlots text place self.old.slots.items
+            → IsEnd text place close end → AreSlots text place self.new.slots.items) }
+        ensures length { OnOk result
+            (length self.new.slots.items ≡ length self.old.slots.items + 1) }
         ensures links { OnOk result (NoNewLink self.old.slots.items self.new.slots.items) }
-        ensures runs { OnOk result (bytes_of self.new.delimiters.placed.items ≤ bytes_of self.old.delimiters.placed.items) }
-        ensures dressed { OnOk result ((leaf : LeafTexts) (texts : List Texts) (links : List Links) (pairs : List Pair) (spans : Spans) → IsEmphasis (siblings_from 0 (drop bracket.runs self.old.delimiters.placed.items)) pairs spans
-            → shown_slots leaf texts links self.new.slots.items ≡ dressed_after (shown_options options) bracket pairs self.old.delimiters.placed.items self.old.quotes.placed.items (shown_slots leaf texts links (self.old.slots.items ++ (end_slot close end ∷ [])))) }
+        ensures runs { OnOk result
+            (bytes_of self.new.delimiters.placed.items ≤ bytes_of
+            self.old.delimiters.placed.items) }
+        ensures dressed { OnOk result
+            ((leaf : LeafTexts) (texts : List Texts) (links : List Links) (pairs : List Pair)
+            (spans : Spans)
+            → IsEmphasis (siblings_from 0 (drop bracket.runs self.old.delimiters.placed.items))
+            pairs spans
+            → shown_slots leaf texts links self.new.slots.items
+            ≡ dressed_after (shown_options options) bracket pairs self.old.delimiters.placed.items
+            self.old.quotes.placed.items
+            (shown_slots leaf texts links (self.old.slots.items ++ (end_slot close end ∷ [])))) }
     {
         push_slot(&mut self.slots, SlotKind::End, close, end)?;
         self.quotes.resolve(bracket.quotes, &mut self.slots)?;

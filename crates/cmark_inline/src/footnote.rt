@@ -36,7 +36,8 @@ use std::alloc::{AllocError, Global};
 /// The label of a footnote without its `^`, if `between`, the text between two brackets, is one. The label is on one line, unless old
 /// footnotes are read. Returns `None` without the option for footnotes.
 pub fn footnote_label(options: Options, between: &str) -> Option<&str>
-    ensures value { option_copied result ≡ footnote_label (shown_options options) between.entry.now }
+    ensures value { option_copied result
+        ≡ footnote_label (shown_options options) between.entry.now }
 {
     if options.contains(Options::ENABLE_FOOTNOTES) {
         let label = after_byte(b'^', between)?;
@@ -65,7 +66,8 @@ pub fn is_footnote_label(options: Options, between: &str) -> bool
 /// The label of a full reference, if it begins at the offset `at`, directly after a closing bracket. A footnote's label is not one.
 pub fn full_label(options: Options, text: &str, at: usize) -> Option<ReferenceLabel<'_>>
     requires { IsCharBoundary text.now at }
-    ensures value { option_map (shown_label text.entry.now) result ≡ unless_footnote (shown_options options) (reference_label_in (drop at text.entry.now)) }
+    ensures value { option_map (shown_label text.entry.now) result
+        ≡ unless_footnote (shown_options options) (reference_label_in (drop at text.entry.now)) }
     ensures further { IfSome result (λ label. at < label.end) }
     ensures ends { IfSome result (λ label. IsCharBoundary text.entry.now label.end) }
 {
@@ -87,7 +89,9 @@ fn footnote_at<'t>(
 ) -> Option<&'t str>
     requires bracket { IsBracket text.now close bracket }
     requires close { IsPart text.now close (close + 1) }
-    ensures value { option_copied result ≡ footnote_after (shown_options options) closes_label (slice text.entry.now bracket.inside close) (drop (close + 1) text.entry.now) }
+    ensures value { option_copied result
+        ≡ footnote_after (shown_options options) closes_label
+        (slice text.entry.now bracket.inside close) (drop (close + 1) text.entry.now) }
 {
     let label = footnote_label(options, &text[bracket.inside..close])?;
     if closes_label
@@ -102,7 +106,8 @@ fn footnote_at<'t>(
 /// Counts a use of the footnote with this label, and returns whether the label forms a reference. It does if a footnote has the label, or
 /// if old footnotes are read. If memory is refused, no count changes.
 fn count(options: Options, footnotes: &mut FootnoteDefs, label: &str) -> Result<bool, AllocError>
-    ensures value { IfOk result (λ accepted. accepted ≡ is_accepted (shown_options options) footnotes.old label.now) }
+    ensures value { IfOk result
+        (λ accepted. accepted ≡ is_accepted (shown_options options) footnotes.old label.now) }
     ensures counts { OnOk result (Counts (fold label.now) footnotes.old footnotes.new) }
     ensures same { SameFootnotes footnotes.old footnotes.new }
     ensures refused { OnErr result (Keeps footnotes.old footnotes.new) }
@@ -132,10 +137,22 @@ fn referred_footnote<'a>(
 ) -> Result<Option<CowStr<'a>>, AllocError>
     requires bracket { IsBracket text.now close bracket }
     requires close { IsPart text.now close (close + 1) }
-    ensures forms { IfOk result (λ name. is_some name ≡ forms_footnote (shown_options options) footnotes.old (footnote_of (shown_options options) (is_cell_of leaf.now) closes_label text.now close (Some bracket))) }
-    ensures name { IfOk result (λ name. IfSome name (λ name. IfSome (footnote_of (shown_options options) (is_cell_of leaf.now) closes_label text.now close (Some bracket)) (λ label. text_bytes name ≡ normal_form label))) }
-    ensures off { (shown_options options).footnotes ≡ false → (footnotes.new ≡ footnotes.old) × IfOk result (λ name. name ≡ None) }
-    ensures counts { OnOk result (CountsOf (footnote_of (shown_options options) (is_cell_of leaf.now) closes_label text.now close (Some bracket)) footnotes.old footnotes.new) }
+    ensures forms { IfOk result
+        (λ name. is_some name
+        ≡ forms_footnote (shown_options options) footnotes.old
+        (footnote_of (shown_options options) (is_cell_of leaf.now) closes_label text.now close
+        (Some bracket))) }
+    ensures name { IfOk result
+        (λ name. IfSome name
+        (λ name. IfSome
+        (footnote_of (shown_options options) (is_cell_of leaf.now) closes_label text.now close
+        (Some bracket)) (λ label. text_bytes name ≡ normal_form label))) }
+    ensures off { (shown_options options).footnotes ≡ false
+        → (footnotes.new ≡ footnotes.old) × IfOk result (λ name. name ≡ None) }
+    ensures counts { OnOk result
+        (CountsOf
+        (footnote_of (shown_options options) (is_cell_of leaf.now) closes_label text.now close
+        (Some bracket)) footnotes.old footnotes.new) }
     ensures same { SameFootnotes footnotes.old footnotes.new }
     ensures rise { RiseUpTo 1 footnotes.old footnotes.new }
 {
@@ -182,7 +199,8 @@ fn put_mark(slots: &mut Vec<Slot>, bracket: Bracket)
     requires there { bracket.slot < length slots.old.items }
     requires start { bracket.start < bracket.inside }
     ensures value { slots.new.items ≡ with_mark bracket slots.old.items }
-    ensures slots { (text : List ℕ) (place : ℕ) → AreSlots text place slots.old.items → IsBracket text place bracket → AreSlots text place slots.new.items }
+    ensures slots { (text : List ℕ) (place : ℕ) → AreSlots text place slots.old.items
+        → IsBracket text place bracket → AreSlots text place slots.new.items }
     ensures length { length slots.new.items ≡ length slots.old.items }
     ensures links { NoNewLink slots.old.items slots.new.items }
 {
@@ -214,21 +232,47 @@ impl<'a> InlineState<'a> {
         requires sound { IsSound self.old }
         requires taken { IfSome taken (IsTakenFrom self.old) }
         ensures sound { OnOk result (IsSound self.new) }
-        ensures ends { OnOk result ((leaf : LeafTexts) → AreEnded leaf self.old.slots.items → AreEnded leaf self.new.slots.items) }
-        ensures forms { IfOk result (λ next. is_some next ≡ forms_footnote (shown_options options) footnotes.old (footnote_of (shown_options options) (is_cell_of leaf.now) (is_there close self.old.label_close) text.now close taken)) }
-        ensures next { IfOk result (λ next. IfSome next (λ next. (next.pending ≡ close + 1) × (next.at ≡ close + 1))) }
+        ensures ends { OnOk result
+            ((leaf : LeafTexts) → AreEnded leaf self.old.slots.items
+            → AreEnded leaf self.new.slots.items) }
+        ensures forms { IfOk result
+            (λ next. is_some next
+            ≡ forms_footnote (shown_options options) footnotes.old
+            (footnote_of (shown_options options) (is_cell_of leaf.now)
+            (is_there close self.old.label_close) text.now close taken)) }
+        ensures next { IfOk result
+            (λ next. IfSome next (λ next. (next.pending ≡ close + 1) × (next.at ≡ close + 1))) }
         ensures moves { IfOk result (λ next. IfSome next (Moves text.now close self.new)) }
         ensures others { IfOk result (λ next. next ≡ None → self.new ≡ self.old) }
-        ensures off { (shown_options options).footnotes ≡ false → (self.new ≡ self.old) × (footnotes.new ≡ footnotes.old) }
-        ensures counts { OnOk result (CountsOf (footnote_of (shown_options options) (is_cell_of leaf.now) (is_there close self.old.label_close) text.now close taken) footnotes.old footnotes.new) }
+        ensures off { (shown_options options).footnotes ≡ false
+            → (self.new ≡ self.old) × (footnotes.new ≡ footnotes.old) }
+        ensures counts { OnOk result
+            (CountsOf
+            (footnote_of (shown_options options) (is_cell_of leaf.now)
+            (is_there close self.old.label_close) text.now close taken) footnotes.old
+            footnotes.new) }
         ensures same { SameFootnotes footnotes.old footnotes.new }
         ensures rise { RiseUpTo 1 footnotes.old footnotes.new }
-        ensures leaves { IfOk result (λ next. IfSome next (λ next. IfSome taken (λ bracket. LeavesFootnote bracket.start self.old self.new))) }
+        ensures leaves { IfOk result
+            (λ next. IfSome next
+            (λ next. IfSome taken (λ bracket. LeavesFootnote bracket.start self.old self.new))) }
         ensures label_close { self.new.label_close ≡ self.old.label_close }
         ensures expansion_left { self.new.expansion_left ≡ self.old.expansion_left }
         ensures steps { self.new.steps ≡ self.old.steps }
-        ensures label { IfOk result (λ next. IfSome next (λ next. IfSome (footnote_of (shown_options options) (is_cell_of leaf.now) (is_there close self.old.label_close) text.now close taken) (λ label. KeepsLabel label self.old.texts.items self.new.texts.items))) }
-        ensures writes { IfOk result (λ next. IfSome next (λ next. IfSome taken (λ bracket. IfSome (footnote_of (shown_options options) (is_cell_of leaf.now) (is_there close self.old.label_close) text.now close taken) (λ label. WritesReference bracket (normal_form label) (close + 1) self.old self.new)))) }
+        ensures label { IfOk result
+            (λ next. IfSome next
+            (λ next. IfSome
+            (footnote_of (shown_options options) (is_cell_of leaf.now)
+            (is_there close self.old.label_close) text.now close taken)
+            (λ label. KeepsLabel label self.old.texts.items self.new.texts.items))) }
+        ensures writes { IfOk result
+            (λ next. IfSome next
+            (λ next. IfSome taken
+            (λ bracket. IfSome
+            (footnote_of (shown_options options) (is_cell_of leaf.now)
+            (is_there close self.old.label_close) text.now close taken)
+            (λ label. WritesReference bracket (normal_form label) (close + 1) self.old
+            self.new)))) }
     {
         let Some(bracket) = taken else {
             return Ok(None);
@@ -279,15 +323,21 @@ impl<'a> InlineState<'a> {
         requires sound { IsSound self.old }
         requires taken { IsTakenFrom self.old bracket }
         ensures sound { OnOk result (IsSound self.new) }
-        ensures ends { OnOk result ((leaf : LeafTexts) → AreEnded leaf self.old.slots.items → AreEnded leaf self.new.slots.items) }
+        ensures ends { OnOk result
+            ((leaf : LeafTexts) → AreEnded leaf self.old.slots.items
+            → AreEnded leaf self.new.slots.items) }
         ensures expansion_left { self.new.expansion_left ≡ self.old.expansion_left }
         ensures steps { self.new.steps ≡ self.old.steps }
         ensures leaves { OnOk result (LeavesFootnote bracket.start self.old self.new) }
         ensures label_close { self.new.label_close ≡ self.old.label_close }
         ensures stands { OnOk result (Stands text.now (close + 1) self.new) }
-        ensures texts { OnOk result (self.new.texts.items ≡ self.old.texts.items ++ (name.entry ∷ [])) }
-        ensures slots { OnOk result (PutsReference bracket (reference_as bracket (length self.old.texts.items) (close + 1)) self.old.slots.items self.new.slots.items) }
-        ensures writes { OnOk result (WritesReference bracket (text_bytes name.entry) (close + 1) self.old self.new) }
+        ensures texts { OnOk result
+            (self.new.texts.items ≡ self.old.texts.items ++ (name.entry ∷ [])) }
+        ensures slots { OnOk result
+            (PutsReference bracket (reference_as bracket (length self.old.texts.items) (close + 1))
+            self.old.slots.items self.new.slots.items) }
+        ensures writes { OnOk result
+            (WritesReference bracket (text_bytes name.entry) (close + 1) self.old self.new) }
     {
         let kind = SlotKind::FootnoteReference(self.texts.len());
         self.texts.push(name)?;
@@ -310,11 +360,16 @@ impl<'a> InlineState<'a> {
         requires there { bracket.slot < length self.old.slots.items }
         requires start { bracket.start < bracket.inside }
         requires kind { begins_link reference.kind ≡ false }
-        ensures slots { OnOk result ((text : List ℕ) (place : ℕ) → AreSlots text place self.old.slots.items → IsBracket text place bracket → IsSlot text place reference → AreSlots text place self.new.slots.items) }
-        ensures length { OnOk result (length self.new.slots.items ≤ length self.old.slots.items + 1) }
+        ensures slots { OnOk result
+            ((text : List ℕ) (place : ℕ) → AreSlots text place self.old.slots.items
+            → IsBracket text place bracket → IsSlot text place reference
+            → AreSlots text place self.new.slots.items) }
+        ensures length { OnOk result
+            (length self.new.slots.items ≤ length self.old.slots.items + 1) }
         ensures longer { OnOk result (length self.old.slots.items ≤ length self.new.slots.items) }
         ensures links { OnOk result (NoNewLink self.old.slots.items self.new.slots.items) }
-        ensures puts { OnOk result (PutsReference bracket reference self.old.slots.items self.new.slots.items) }
+        ensures puts { OnOk result
+            (PutsReference bracket reference self.old.slots.items self.new.slots.items) }
         ensures others { self.new ≡ record self.old { slots = self.new.slots } }
     {
         let count = self.slots.len();

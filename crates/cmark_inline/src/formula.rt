@@ -35,9 +35,12 @@ impl<'a> InlineState<'a> {
         ensures dollars { AreDollarsOf text.now dollars.new }
         ensures paid { IfOk result (λ next. DollarsPaid text.now next.at dollars.new) }
         ensures grows { dollars.old.visited ≤ dollars.new.visited }
-        ensures least { OnOk result (is_some (formula_at text.now here.at) ≡ true → dollars.old.visited < dollars.new.visited) }
+        ensures least { OnOk result
+            (is_some (formula_at text.now here.at) ≡ true
+            → dollars.old.visited < dollars.new.visited) }
         ensures reads_on { ReadsOn text.now here self.old self.new result }
-        ensures token { (options : Options) (lookup : Lookup) (is_cell : Bool) → options.math ≡ true → IfOk result (Appends options lookup is_cell text.now here self.old self.new) }
+        ensures token { (options : Options) (lookup : Lookup) (is_cell : Bool) → options.math ≡ true
+            → IfOk result (Appends options lookup is_cell text.now here self.old self.new) }
     {
         if let Some(formula) = dollars.formula(text, here.at)? {
             let slot = Slot {
@@ -58,7 +61,10 @@ impl<'a> InlineState<'a> {
 
 /// The kind of a formula's slot.
 fn kind_of(formula: Formula) -> SlotKind
-    ensures value { result ≡ (if formula.is_display then slot_kind.DisplayMath formula.content_start formula.content_end else slot_kind.InlineMath formula.content_start formula.content_end) }
+    ensures value { result
+        ≡
+        (if formula.is_display then slot_kind.DisplayMath formula.content_start formula.content_end
+        else slot_kind.InlineMath formula.content_start formula.content_end) }
     ensures link { begins_link result ≡ false }
 {
     if formula.is_display {

@@ -61,7 +61,9 @@ fn resolved_title<'t, E: EntityLookup>(
     is_cell: bool,
     entities: &E,
 ) -> Result<CowStr<'t>, AllocError>
-    ensures { IfOk result (λ made. text_bytes made ≡ resolved_title (E.replacement entities.now) is_cell (option_copied title.entry)) }
+    ensures { IfOk result
+        (λ made. text_bytes made
+        ≡ resolved_title (E.replacement entities.now) is_cell (option_copied title.entry)) }
 {
     match title {
         Some(title) => title_text(alloc, title, is_cell, entities),
@@ -71,8 +73,10 @@ fn resolved_title<'t, E: EntityLookup>(
 
 /// Copies the borrowed texts of a target, so that it borrows nothing. Fails only if memory is refused.
 fn own_target(alloc: Global, target: Target<'_>) -> Result<Target<'static>, AllocError>
-    ensures value { IfOk result (λ made. (text : List ℕ) → shown_target text made ≡ shown_target text target.entry) }
-    ensures ends { IfOk result (λ made. (made.end ≡ target.entry.end) × (made.resume ≡ target.entry.resume)) }
+    ensures value { IfOk result
+        (λ made. (text : List ℕ) → shown_target text made ≡ shown_target text target.entry) }
+    ensures ends { IfOk result
+        (λ made. (made.end ≡ target.entry.end) × (made.resume ≡ target.entry.resume)) }
 {
     let Target { link, end, resume } = target;
     let Link {
@@ -121,7 +125,8 @@ pub fn inline_target<'a, E: EntityLookup>(
     requires read { IsRead leaf.now }
     requires same { text.now ≡ text_of leaf.now }
     requires place { IsCharBoundary text.now at }
-    ensures { IfOk result (FindsInline (E.replacement entities.now) (is_cell_of leaf.now) text.now at) }
+    ensures { IfOk result
+        (FindsInline (E.replacement entities.now) (is_cell_of leaf.now) text.now at) }
 {
     if !opens_tail(text, at) {
         return Ok(None);
@@ -142,7 +147,8 @@ fn tail_target<'a, E: EntityLookup>(
     requires read { IsRead leaf.now }
     requires same { text.now ≡ text_of leaf.now }
     requires place { IsCharBoundary text.now at }
-    ensures { IfOk result (FindsInline (E.replacement entities.now) (is_cell_of leaf.now) text.now at) }
+    ensures { IfOk result
+        (FindsInline (E.replacement entities.now) (is_cell_of leaf.now) text.now at) }
 {
     let is_cell = leaf.is_cell();
     if let Some(source) = leaf.as_source() {

@@ -42,7 +42,8 @@ impl Unclosed {
     /// The memory before the first search.
     pub fn none() -> Unclosed
         ensures kept { (leaf : Leaf) (at : ℕ) → AreUnclosed leaf at result }
-        ensures paid { (leaf : Leaf) → length (text_of leaf) ≤ extent_of leaf → MarkupPaid leaf 0 result }
+        ensures paid { (leaf : Leaf) → length (text_of leaf) ≤ extent_of leaf
+            → MarkupPaid leaf 0 result }
     {
         Unclosed {
             guard: HtmlScanGuard::default(),
@@ -62,13 +63,17 @@ impl Unclosed {
         ensures part { IfSome result (λ found. IsPart text.now at found.end) }
         ensures content { IfSome result (λ found. IsContent text.now found.kind) }
         ensures kind { IfSome result (λ found. begins_link found.kind ≡ false) }
-        ensures edge { IfSome result (λ found. (end : ℕ) → found.kind ≡ slot_kind.SourceHtml end → IsCharBoundary (source_of leaf.now) end) }
+        ensures edge { IfSome result
+            (λ found. (end : ℕ) → found.kind ≡ slot_kind.SourceHtml end
+            → IsCharBoundary (source_of leaf.now) end) }
         ensures is { IfSome result (IsFound leaf.now at) }
         ensures none { result ≡ None → FindsNone leaf.now at }
         ensures kept { AreUnclosed leaf.now at self.new }
-        ensures paid { MatchOption result (MarkupPaid leaf.now (at + 1) self.new) (λ found. MarkupPaid leaf.now found.end self.new) }
+        ensures paid { MatchOption result (MarkupPaid leaf.now (at + 1) self.new)
+            (λ found. MarkupPaid leaf.now found.end self.new) }
         ensures grows { self.old.passed ≤ self.new.passed }
-        ensures passes { opens_markup (drop (at + 1) text.now) ≡ true → PassesFound (source_from leaf.now at) self.old self.new }
+        ensures passes { opens_markup (drop (at + 1) text.now) ≡ true
+            → PassesFound (source_from leaf.now at) self.old self.new }
     {
         if !opens_in_source(text, at) {
             return tag(text, at);
@@ -87,11 +92,14 @@ impl Unclosed {
         ensures part { IfSome result (λ found. IsPart text.now at found.end) }
         ensures content { IfSome result (λ found. IsContent text.now found.kind) }
         ensures kind { IfSome result (λ found. begins_link found.kind ≡ false) }
-        ensures edge { IfSome result (λ found. (end : ℕ) → found.kind ≡ slot_kind.SourceHtml end → IsCharBoundary (source_of leaf.now) end) }
+        ensures edge { IfSome result
+            (λ found. (end : ℕ) → found.kind ≡ slot_kind.SourceHtml end
+            → IsCharBoundary (source_of leaf.now) end) }
         ensures is { IfSome result (IsInSource leaf.now at) }
         ensures none { result ≡ None → after_markup (source_from leaf.now at) ≡ None }
         ensures kept { AreUnclosed leaf.now at self.new }
-        ensures paid { MatchOption result (MarkupPaid leaf.now (at + 1) self.new) (λ found. MarkupPaid leaf.now found.end self.new) }
+        ensures paid { MatchOption result (MarkupPaid leaf.now (at + 1) self.new)
+            (λ found. MarkupPaid leaf.now found.end self.new) }
         ensures grows { self.old.passed ≤ self.new.passed }
         ensures passes { PassesFound (source_from leaf.now at) self.old self.new }
     {
@@ -111,13 +119,18 @@ impl Unclosed {
         requires part { IsPart text.now at (at + 1) }
         requires kept { AreUnclosed leaf.now at self.old }
         requires room { self.old.passed < 2 ^ 127 }
-        ensures value { option_map (λ size. drop size (source_from leaf.now at)) result ≡ after_markup (source_from leaf.now at) }
+        ensures value { option_map (λ size. drop size (source_from leaf.now at)) result
+            ≡ after_markup (source_from leaf.now at) }
         ensures some { IfSome result (λ size. 0 < size) }
         ensures within { IfSome result (λ size. size ≤ length (source_from leaf.now at)) }
         ensures ends { IfSome result (IsCharBoundary (source_from leaf.now at)) }
         ensures kept { AreUnclosed leaf.now at self.new }
-        ensures pays { MatchOption result (self.new.passed + may_pass (extent_of leaf.now) (extent_of leaf.now) self.new.guard ≤ self.old.passed + 7 + may_pass (extent_of leaf.now) (extent_of leaf.now) self.old.guard)
-            (λ size. (self.new.passed ≤ self.old.passed + size) × (self.new.guard ≡ self.old.guard)) }
+        ensures pays { MatchOption result
+            (self.new.passed + may_pass (extent_of leaf.now) (extent_of leaf.now)
+            self.new.guard ≤ self.old.passed + 7 + may_pass (extent_of leaf.now)
+            (extent_of leaf.now) self.old.guard)
+            (λ size. (self.new.passed ≤ self.old.passed + size)
+            × (self.new.guard ≡ self.old.guard)) }
         ensures least { IfSome result (λ size. self.new.passed + 2 ≡ self.old.passed + size) }
         ensures grows { self.old.passed ≤ self.new.passed }
     {
@@ -145,7 +158,9 @@ fn tag(text: &str, at: usize) -> Option<FoundHtml>
     ensures content { IfSome result (λ found. IsContent text.now found.kind) }
     ensures kind { IfSome result (λ found. begins_link found.kind ≡ false) }
     ensures edge { IfSome result (λ found. (end : ℕ) → found.kind ≡ slot_kind.SourceHtml end → ⊥) }
-    ensures is { IfSome result (λ found. (found.kind ≡ slot_kind.InlineHtml) × (after_inline_html (drop at text.now) ≡ Some (drop found.end text.now))) }
+    ensures is { IfSome result
+        (λ found. (found.kind ≡ slot_kind.InlineHtml)
+        × (after_inline_html (drop at text.now) ≡ Some (drop found.end text.now))) }
     ensures none { result ≡ None → after_inline_html (drop at text.now) ≡ None }
 {
     let end = inline_html(text, at)?;

@@ -27,7 +27,8 @@ use cmark_text::Options;
 pub(crate) fn run_end(text: &str, at: usize) -> usize
     requires within { at < length text.now }
     requires ascii { slice_index text.now at < 128 }
-    ensures value { result ≡ at + prefix_len (λ b. b == slice_index text.now at) (drop at text.now) }
+    ensures value { result
+        ≡ at + prefix_len (λ b. b == slice_index text.now at) (drop at text.now) }
     ensures further { at < result }
     ensures boundary { IsCharBoundary text.now result }
     ensures ascii { (k : ℕ) → at ≤ k → k < result → slice_index text.now k < 128 }
@@ -44,8 +45,10 @@ pub(crate) fn run_end(text: &str, at: usize) -> usize
 // The offset where the pending blanks directly before the cursor begin; that of the cursor if there are none.
 pub(crate) fn before_blanks(text: &str, here: Cursor) -> usize
     requires { IsCursor text.now here }
-    ensures blanks { (k : ℕ) → result ≤ k → k < here.at → is_blank_byte (slice_index text.now k) ≡ true }
-    ensures first { here.pending < result → is_blank_byte (slice_index text.now (result - 1)) ≡ false }
+    ensures blanks { (k : ℕ) → result ≤ k → k < here.at
+        → is_blank_byte (slice_index text.now k) ≡ true }
+    ensures first { here.pending < result
+        → is_blank_byte (slice_index text.now (result - 1)) ≡ false }
     ensures following { here.pending ≤ result }
     ensures before { result ≤ here.at }
     ensures boundary { IsCharBoundary text.now result }
@@ -78,8 +81,12 @@ fn after_leading_blanks(text: &str, at: usize) -> usize
 pub(crate) fn text_start(text: &str, here: Cursor) -> usize
     requires here { here.at < length text.now }
     requires cursor { IsCursor text.now here }
-    ensures value { (result ≡ here.at) ⊎ ((result ≡ here.pending) × (here.pending + 1 ≡ here.at) × (slice_index text.now here.pending ≡ 96)) }
-    ensures escaped { here.pending + 1 ≡ here.at → slice_index text.now here.pending ≡ 96 → result ≡ here.pending }
+    ensures value { (result ≡ here.at)
+        ⊎
+        ((result ≡ here.pending) × (here.pending + 1 ≡ here.at)
+        × (slice_index text.now here.pending ≡ 96)) }
+    ensures escaped { here.pending + 1 ≡ here.at → slice_index text.now here.pending ≡ 96
+        → result ≡ here.pending }
 {
     if here.pending < here.at
         && here.at - here.pending == 1
@@ -172,7 +179,8 @@ pub(crate) fn onto_words(text: &str, next: Cursor) -> Cursor
     ensures order { next.at ≤ result.at }
     ensures pending { result.pending ≡ result.at }
     ensures at { result.at ≡ read_on text.now next.at }
-    ensures moves { (from : ℕ) (state : InlineState) → Moves text.now from state next → Moves text.now from state result }
+    ensures moves { (from : ℕ) (state : InlineState) → Moves text.now from state next
+        → Moves text.now from state result }
 {
     let words = words_from(text, next.pending);
     Cursor {
@@ -188,7 +196,8 @@ pub(crate) fn autolink_end(options: Options, text: &str, at: usize) -> Option<us
     requires place { IsCharBoundary text.now at }
     requires within { at < length text.now }
     requires ascii { slice_index text.now at < 128 }
-    ensures value { option_map (shown_autolink text.now at) result ≡ autolink_in (shown_options options).email_autolinks (drop (at + 1) text.now) }
+    ensures value { option_map (shown_autolink text.now at) result
+        ≡ autolink_in (shown_options options).email_autolinks (drop (at + 1) text.now) }
     ensures whole { IfSome result (IsPart text.now at) }
     ensures inside { IfSome result (λ end. IsPart text.now (at + 1) (end - 1)) }
 {

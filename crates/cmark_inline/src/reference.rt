@@ -49,7 +49,9 @@ pub fn link_reference_at<'t>(
 ) -> Option<LinkReference<'t>>
     requires bracket { IsBracket text.now close bracket }
     requires close { IsPart text.now close (close + 1) }
-    ensures value { option_map (shown_link_reference text.entry.now) result ≡ reference_after (shown_options options) closes_label (slice text.entry.now bracket.inside close) (drop (close + 1) text.entry.now) }
+    ensures value { option_map (shown_link_reference text.entry.now) result
+        ≡ reference_after (shown_options options) closes_label
+        (slice text.entry.now bracket.inside close) (drop (close + 1) text.entry.now) }
     ensures ends { IfSome result (IsLinkReference text.entry.now close) }
 {
     if let Some(label) = full_label(options, text, close + 1) {
@@ -75,7 +77,9 @@ fn own_label_at<'t>(
 ) -> Option<LinkReference<'t>>
     requires bracket { IsBracket text.now close bracket }
     requires close { IsPart text.now close (close + 1) }
-    ensures value { option_map (shown_link_reference text.entry.now) result ≡ by_own_label (shown_options options) (slice text.entry.now bracket.inside close) (drop (close + 1) text.entry.now) }
+    ensures value { option_map (shown_link_reference text.entry.now) result
+        ≡ by_own_label (shown_options options) (slice text.entry.now bracket.inside close)
+        (drop (close + 1) text.entry.now) }
     ensures ends { IfSome result (IsLinkReference text.entry.now close) }
 {
     let label = &text[bracket.inside..close];
@@ -127,7 +131,9 @@ pub fn defined<'a>(
     references: &RefDefs<'a>,
     label: &LinkLabel,
 ) -> Result<Option<Destination<'a>>, AllocError>
-    ensures { IfOk result (λ found. option_map shown_destination found ≡ option_map said_by (definition references.now (link_key label.now))) }
+    ensures { IfOk result
+        (λ found. option_map shown_destination found
+        ≡ option_map said_by (definition references.now (link_key label.now))) }
 {
     let Some(definition) = references.get_label(label) else {
         return Ok(None);
@@ -144,7 +150,10 @@ impl<'a> InlineState<'a> {
     // Remembers the closing bracket of a full reference's label, since that bracket forms no reference by its own label.
     pub(crate) fn remember_label(&mut self, link_reference: LinkReference<'_>)
         requires { 0 < link_reference.end }
-        ensures label { self.new.label_close ≡ (if is_full (shown_link_type link_reference.entry.link_type) then Some (link_reference.entry.end - 1) else self.old.label_close) }
+        ensures label { self.new.label_close
+            ≡
+            (if is_full (shown_link_type link_reference.entry.link_type) then Some
+            (link_reference.entry.end - 1) else self.old.label_close) }
         ensures others { self.new ≡ record self.old { label_close = self.new.label_close } }
     {
         if link_reference.link_type == LinkType::Reference {
@@ -169,13 +178,29 @@ impl<'a> InlineState<'a> {
         requires ready { F.ready callback.old }
         ensures ready { F.ready callback.new }
         ensures asks { AsksOnce F.answers callback.old callback.new }
-        ensures refers { IfOk result (λ found. Refers F.answers (definition reader.now.references.now (fold (as_label (is_cell_of leaf.now) link_reference.entry.label.now))) link_reference.entry.link_type (normal_form (as_label (is_cell_of leaf.now) link_reference.entry.label.now))
-            (place_of leaf.now start) (place_of leaf.now (link_reference.entry.end - 1) + 1) callback.old callback.new (option_map target_link found)) }
-        ensures stops { OnErr result (AsksOfReference F.answers (definition reader.now.references.now (fold (as_label (is_cell_of leaf.now) link_reference.entry.label.now))) link_reference.entry.link_type (normal_form (as_label (is_cell_of leaf.now) link_reference.entry.label.now))
-            (place_of leaf.now start) (place_of leaf.now (link_reference.entry.end - 1) + 1) callback.old callback.new) }
-        ensures expansion_left { IfOk result (λ found. self.new.expansion_left ≡ left_after self.old.expansion_left found) }
+        ensures refers { IfOk result
+            (λ found. Refers F.answers
+            (definition reader.now.references.now
+            (fold (as_label (is_cell_of leaf.now) link_reference.entry.label.now)))
+            link_reference.entry.link_type
+            (normal_form (as_label (is_cell_of leaf.now) link_reference.entry.label.now))
+            (place_of leaf.now start) (place_of leaf.now (link_reference.entry.end - 1) + 1)
+            callback.old callback.new (option_map target_link found)) }
+        ensures stops { OnErr result
+            (AsksOfReference F.answers
+            (definition reader.now.references.now
+            (fold (as_label (is_cell_of leaf.now) link_reference.entry.label.now)))
+            link_reference.entry.link_type
+            (normal_form (as_label (is_cell_of leaf.now) link_reference.entry.label.now))
+            (place_of leaf.now start) (place_of leaf.now (link_reference.entry.end - 1) + 1)
+            callback.old callback.new) }
+        ensures expansion_left { IfOk result
+            (λ found. self.new.expansion_left ≡ left_after self.old.expansion_left found) }
         ensures others { self.new ≡ record self.old { expansion_left = self.new.expansion_left } }
-        ensures target { IfOk result (λ found. IfSome found (λ target. (target.end ≡ link_reference.entry.end) × (target.resume ≡ link_reference.entry.resume))) }
+        ensures target { IfOk result
+            (λ found. IfSome found
+            (λ target. (target.end ≡ link_reference.entry.end)
+            × (target.resume ≡ link_reference.entry.resume))) }
     {
         let Some(link) = referred(
             self.alloc,
@@ -196,7 +221,8 @@ impl<'a> InlineState<'a> {
         ensures link { result.link ≡ link.entry }
         ensures end { result.end ≡ link_reference.entry.end }
         ensures resume { result.resume ≡ link_reference.entry.resume }
-        ensures expansion_left { self.new.expansion_left ≡ left_after self.old.expansion_left (Some result) }
+        ensures expansion_left { self.new.expansion_left
+            ≡ left_after self.old.expansion_left (Some result) }
         ensures others { self.new ≡ record self.old { expansion_left = self.new.expansion_left } }
     {
         self.expansion_left = self
@@ -227,10 +253,22 @@ fn referred<'a, F: BrokenLinkCallback<'a>>(
     requires ready { F.ready callback.old }
     ensures ready { F.ready callback.new }
     ensures asks { AsksOnce F.answers callback.old callback.new }
-    ensures refers { IfOk result (Refers F.answers (definition references.now (fold (as_label (is_cell_of leaf.now) link_reference.entry.label.now))) link_reference.entry.link_type (normal_form (as_label (is_cell_of leaf.now) link_reference.entry.label.now))
-        (place_of leaf.now start) (place_of leaf.now (link_reference.entry.end - 1) + 1) callback.old callback.new) }
-    ensures stops { OnErr result (AsksOfReference F.answers (definition references.now (fold (as_label (is_cell_of leaf.now) link_reference.entry.label.now))) link_reference.entry.link_type (normal_form (as_label (is_cell_of leaf.now) link_reference.entry.label.now))
-        (place_of leaf.now start) (place_of leaf.now (link_reference.entry.end - 1) + 1) callback.old callback.new) }
+    ensures refers { IfOk result
+        (Refers F.answers
+        (definition references.now
+        (fold (as_label (is_cell_of leaf.now) link_reference.entry.label.now)))
+        link_reference.entry.link_type
+        (normal_form (as_label (is_cell_of leaf.now) link_reference.entry.label.now))
+        (place_of leaf.now start) (place_of leaf.now (link_reference.entry.end - 1) + 1)
+        callback.old callback.new) }
+    ensures stops { OnErr result
+        (AsksOfReference F.answers
+        (definition references.now
+        (fold (as_label (is_cell_of leaf.now) link_reference.entry.label.now)))
+        link_reference.entry.link_type
+        (normal_form (as_label (is_cell_of leaf.now) link_reference.entry.label.now))
+        (place_of leaf.now start) (place_of leaf.now (link_reference.entry.end - 1) + 1)
+        callback.old callback.new) }
 {
     let label = label_of(alloc, leaf.is_cell(), link_reference.label)?;
     if let Some(found) = defined(alloc, references, &label)? {
@@ -287,7 +325,10 @@ fn ask<'a, F: BrokenLinkCallback<'a>>(
     requires ready { F.ready callback.old }
     ensures ready { F.ready callback.new }
     ensures asks { AsksOnce F.answers callback.old callback.new }
-    ensures answers { IfOk result (λ found. Answers F.answers link_reference.entry.link_type (link_text label.now) (place_of leaf.now start) (place_of leaf.now (link_reference.entry.end - 1) + 1) callback.old callback.new found) }
+    ensures answers { IfOk result
+        (λ found. Answers F.answers link_reference.entry.link_type (link_text label.now)
+        (place_of leaf.now start) (place_of leaf.now (link_reference.entry.end - 1) + 1)
+        callback.old callback.new found) }
     ensures unasked { OnErr result (callback.new ≡ callback.old) }
 {
     let reference = CowStr::Borrowed(label.as_str()).into_static(alloc)?;

@@ -30,8 +30,17 @@ impl<'a> InlineState<'a> {
     ) -> Result<Cursor, AllocError>
         requires byte { IsAtByte text.now here self.old }
         ensures reads_on { ReadsOn text.now here self.old self.new result }
-        ensures token { (lookup : Lookup) (is_cell : Bool) → slice_index text.now here.at ≡ delimiter → is_run_delimiter delimiter ≡ true → IfOk result (λ next. Passes (shown_options options) lookup is_cell text.now here self.old self.new next ⊎ AppendsRun (shown_options options) lookup is_cell text.now here self.old self.new next) }
-        ensures others { (lookup : Lookup) (is_cell : Bool) → slice_index text.now here.at ≡ delimiter → is_other delimiter ≡ true → IfOk result (PassesOver (shown_options options) lookup is_cell text.now here self.old self.new) }
+        ensures token { (lookup : Lookup) (is_cell : Bool)
+            → slice_index text.now here.at ≡ delimiter → is_run_delimiter delimiter ≡ true
+            → IfOk result
+            (λ next. Passes (shown_options options) lookup is_cell text.now here self.old self.new
+            next
+            ⊎ AppendsRun (shown_options options) lookup is_cell text.now here self.old self.new
+            next) }
+        ensures others { (lookup : Lookup) (is_cell : Bool)
+            → slice_index text.now here.at ≡ delimiter → is_other delimiter ≡ true
+            → IfOk result
+            (PassesOver (shown_options options) lookup is_cell text.now here self.old self.new) }
     {
         let end = run_end(text, here.at);
         let before = character_before(text, here.at);
@@ -73,9 +82,11 @@ impl<'a> InlineState<'a> {
         ensures brackets { OnOk result (self.new.brackets ≡ self.old.brackets) }
         ensures delimiters { OnOk result (self.new.delimiters ≡ self.old.delimiters) }
         ensures links { OnOk result (NoNewLink self.old.slots.items self.new.slots.items) }
-        ensures length { OnOk result (length self.new.slots.items ≡ length self.old.slots.items + (end - start)) }
+        ensures length { OnOk result
+            (length self.new.slots.items ≡ length self.old.slots.items + (end - start)) }
         ensures others { OnOk result (self.new ≡ record self.old { slots = self.new.slots }) }
-        ensures bytes { OnOk result (self.new.slots.items ≡ self.old.slots.items ++ byte_slots start (end - start)) }
+        ensures bytes { OnOk result
+            (self.new.slots.items ≡ self.old.slots.items ++ byte_slots start (end - start)) }
     {
         let mut at = start;
         while at < end {

@@ -21,7 +21,11 @@ impl<'a> InlineState<'a> {
     pub(crate) fn dots(&mut self, text: &str, here: Cursor) -> Result<Cursor, AllocError>
         requires byte { IsAtByte text.now here self.old }
         ensures reads_on { ReadsOn text.now here self.old self.new result }
-        ensures token { (options : Options) (lookup : Lookup) (is_cell : Bool) → options.smart_punctuation ≡ true → slice_index text.now here.at ≡ 46 → IfOk result (λ next. Passes options lookup is_cell text.now here self.old self.new next ⊎ Appends options lookup is_cell text.now here self.old self.new next) }
+        ensures token { (options : Options) (lookup : Lookup) (is_cell : Bool)
+            → options.smart_punctuation ≡ true → slice_index text.now here.at ≡ 46
+            → IfOk result
+            (λ next. Passes options lookup is_cell text.now here self.old self.new next
+            ⊎ Appends options lookup is_cell text.now here self.old self.new next) }
     {
         if !text[here.at..].starts_with("...") {
             return Ok(pass(text, here));
@@ -38,7 +42,11 @@ impl<'a> InlineState<'a> {
     pub(crate) fn hyphens(&mut self, text: &str, here: Cursor) -> Result<Cursor, AllocError>
         requires byte { IsAtByte text.now here self.old }
         ensures reads_on { ReadsOn text.now here self.old self.new result }
-        ensures token { (options : Options) (lookup : Lookup) (is_cell : Bool) → options.smart_punctuation ≡ true → slice_index text.now here.at ≡ 45 → IfOk result (λ next. Passes options lookup is_cell text.now here self.old self.new next ⊎ Appends options lookup is_cell text.now here self.old self.new next) }
+        ensures token { (options : Options) (lookup : Lookup) (is_cell : Bool)
+            → options.smart_punctuation ≡ true → slice_index text.now here.at ≡ 45
+            → IfOk result
+            (λ next. Passes options lookup is_cell text.now here self.old self.new next
+            ⊎ Appends options lookup is_cell text.now here self.old self.new next) }
     {
         let end = run_end(text, here.at);
         let size = end - here.at;
@@ -62,7 +70,10 @@ impl<'a> InlineState<'a> {
         ensures expansion_left { self.new.expansion_left ≡ self.old.expansion_left }
         ensures steps { self.new.steps ≡ self.old.steps }
         ensures moves { IfOk result (Moves text.now here.at self.new) }
-        ensures token { (options : Options) (lookup : Lookup) (is_cell : Bool) → options.smart_punctuation ≡ true → (slice_index text.now here.at ≡ 34) ⊎ (slice_index text.now here.at ≡ 39) → IfOk result (AppendsQuote options lookup is_cell text.now here self.old self.new) }
+        ensures token { (options : Options) (lookup : Lookup) (is_cell : Bool)
+            → options.smart_punctuation ≡ true
+            → (slice_index text.now here.at ≡ 34) ⊎ (slice_index text.now here.at ≡ 39)
+            → IfOk result (AppendsQuote options lookup is_cell text.now here self.old self.new) }
     {
         let end = following(text, here.at);
         let before = character_before(text, here.at);
@@ -134,7 +145,8 @@ fn dash_text(alloc: Global, size: usize) -> Result<String, AllocError>
 
 /// Appends `character` to `out`, `times` times.
 fn push_times(out: &mut String, character: char, times: usize) -> Result<(), AllocError>
-    ensures { OnOk result (string_bytes out.new ≡ string_bytes out.old ++ grammar.repeated character times) }
+    ensures { OnOk result
+        (string_bytes out.new ≡ string_bytes out.old ++ grammar.repeated character times) }
 {
     let mut left = times;
     while left > 0 {

@@ -57,9 +57,15 @@ impl<'a> InlineState<'a> {
         ensures runs { AreRunsOf text.now runs.new }
         ensures paid { IfOk result (λ next. RunsPaid text.now next.at runs.new) }
         ensures grows { runs.old.visited ≤ runs.new.visited }
-        ensures least { OnOk result (is_some (code_in (drop here.at text.now)) ≡ true → runs.old.visited < runs.new.visited) }
+        ensures least { OnOk result
+            (is_some (code_in (drop here.at text.now)) ≡ true
+            → runs.old.visited < runs.new.visited) }
         ensures reads_on { ReadsOn text.now here self.old self.new result }
-        ensures token { (options : OptionsRead) (lookup : Lookup) (is_cell : Bool) → slice_index text.now here.at ≡ 96 → IfOk result (λ next. Appends options lookup is_cell text.now here self.old self.new next ⊎ TakesEscaped options lookup is_cell text.now here self.old self.new next) }
+        ensures token { (options : OptionsRead) (lookup : Lookup) (is_cell : Bool)
+            → slice_index text.now here.at ≡ 96
+            → IfOk result
+            (λ next. Appends options lookup is_cell text.now here self.old self.new next
+            ⊎ TakesEscaped options lookup is_cell text.now here self.old self.new next) }
     {
         if let Some(span) = runs.code_span(text, here.at)? {
             let slot = Slot {
@@ -97,12 +103,17 @@ impl<'a> InlineState<'a> {
         ensures expansion_left { self.new.expansion_left ≡ self.old.expansion_left }
         ensures steps { self.new.steps ≡ self.old.steps }
         ensures sound { IsSound self.old → OnOk result (IsSound self.new) }
-        ensures ends { OnOk result (AreEnded leaf.now self.old.slots.items → AreEnded leaf.now self.new.slots.items) }
+        ensures ends { OnOk result
+            (AreEnded leaf.now self.old.slots.items → AreEnded leaf.now self.new.slots.items) }
         ensures moves { IfOk result (Moves text.now here.at self.new) }
         ensures kept { AreUnclosed leaf.now here.at unclosed.new }
         ensures paid { IfOk result (λ next. MarkupPaid leaf.now next.at unclosed.new) }
-        ensures passes { OnOk result (PassesAt (shown_options options).email_autolinks leaf.now here.at unclosed.old unclosed.new) }
-        ensures token { (lookup : Lookup) → slice_index text.now here.at ≡ 60 → IfOk result (ReadsLess (shown_options options) lookup leaf.now here self.old self.new) }
+        ensures passes { OnOk result
+            (PassesAt (shown_options options).email_autolinks leaf.now here.at unclosed.old
+            unclosed.new) }
+        ensures token { (lookup : Lookup) → slice_index text.now here.at ≡ 60
+            → IfOk result
+            (ReadsLess (shown_options options) lookup leaf.now here self.old self.new) }
     {
         if is_followed_by(text, here.at, b'\\') {
             return Ok(pass(text, here));
@@ -141,9 +152,14 @@ impl<'a> InlineState<'a> {
         requires read { IsRead leaf.now }
         requires same { text.now ≡ text_of leaf.now }
         ensures at { IfOk result (λ next. (next.pending ≡ end) × (next.at ≡ end)) }
-        ensures slots { OnOk result (PutsAutolink (length self.old.links.items) here.pending here.at end self.old.slots.items self.new.slots.items) }
-        ensures others { OnOk result (self.new ≡ record self.old { slots = self.new.slots; links = self.new.links }) }
-        ensures link { IfOk result (λ next. (parts : Links) × IsAutolink text.now here.at end parts × (self.new.links.items ≡ self.old.links.items ++ (parts ∷ []))) }
+        ensures slots { OnOk result
+            (PutsAutolink (length self.old.links.items) here.pending here.at end
+            self.old.slots.items self.new.slots.items) }
+        ensures others { OnOk result
+            (self.new ≡ record self.old { slots = self.new.slots; links = self.new.links }) }
+        ensures link { IfOk result
+            (λ next. (parts : Links) × IsAutolink text.now here.at end parts
+            × (self.new.links.items ≡ self.old.links.items ++ (parts ∷ []))) }
         ensures expansion_left { self.new.expansion_left ≡ self.old.expansion_left }
         ensures steps { self.new.steps ≡ self.old.steps }
         ensures moves { IfOk result (Moves text.now here.at self.new) }

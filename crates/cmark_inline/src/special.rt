@@ -51,7 +51,8 @@ impl Model for SpecialBytes {
 /// Joins `set` and the bytes of `rows` if these are special; otherwise returns `set`.
 #[inline(always)]
 fn with_rows(set: AsciiSet, are_special: bool, rows: [u8; 16]) -> AsciiSet
-    ensures { (byte : ℕ) → in_rows result byte ≡ ((are_special && in_rows rows byte) || in_rows set byte) }
+    ensures { (byte : ℕ)
+        → in_rows result byte ≡ ((are_special && in_rows rows byte) || in_rows set byte) }
 {
     if are_special {
         AsciiSet::of_rows(rows).union(&set)
@@ -94,7 +95,8 @@ impl SpecialBytes {
         requires from { from ≤ length bytes.now }
         requires ahead { take (length bytes.now) ahead.now ≡ bytes.now }
         ensures value { result ≡ from + position_or_len (in_rows self.now) (drop from bytes.now) }
-        ensures plain { (options : Extensions) (lookup : Lookup) (is_cell : Bool) → IsSetOf options self.now → StandUpTo options lookup is_cell bytes.now from result }
+        ensures plain { (options : Extensions) (lookup : Lookup) (is_cell : Bool)
+            → IsSetOf options self.now → StandUpTo options lookup is_cell bytes.now from result }
         ensures following { from ≤ result }
         ensures within { result ≤ length bytes.now }
         ensures ascii { result < length bytes.now → slice_index bytes.now result < 128 }

@@ -76,23 +76,45 @@ impl<'a> InlineState<'a> {
         requires counted { total self.old.steps ≤ 128 * length (source_of leaf.now) }
         requires ready { F.ready callback.old }
         ensures ready { F.ready callback.new }
-        ensures asks { AsksUpTo F.answers (closing_brackets (text_of leaf.now)) callback.old callback.new }
+        ensures asks { AsksUpTo F.answers (closing_brackets (text_of leaf.now)) callback.old
+            callback.new }
         ensures spent { self.old.expansion_left ≡ 0 → callback.new ≡ callback.old }
         ensures few { OnOk result (length self.new.slots.items ≤ length (text_of leaf.now)) }
-        ensures slots { OnOk result (AreSlots (text_of leaf.now) (length (text_of leaf.now)) self.new.slots.items) }
-        ensures left { OnOk result (CanBeGiven leaf.now self.new.texts.items self.new.links.items self.new.slots.items) }
-        ensures whole { OnOk result (AreWhole self.new.slots.items × EndWithin self.new.slots.items) }
+        ensures slots { OnOk result
+            (AreSlots (text_of leaf.now) (length (text_of leaf.now)) self.new.slots.items) }
+        ensures left { OnOk result
+            (CanBeGiven leaf.now self.new.texts.items self.new.links.items self.new.slots.items) }
+        ensures whole { OnOk result
+            (AreWhole self.new.slots.items × EndWithin self.new.slots.items) }
         ensures footnotes { SameFootnotes footnotes.old footnotes.new }
         ensures rise { RiseUpTo (closing_brackets (text_of leaf.now)) footnotes.old footnotes.new }
-        ensures uses { IsSetOf (shown_options reader.now.options) reader.now.special.now → OnOk result (CountsUses F.answers (shown_options reader.now.options) (E.replacement reader.now.entities.now) reader.now.references.now leaf.now self.old.expansion_left footnotes.old footnotes.new callback.old callback.new) }
+        ensures uses { IsSetOf (shown_options reader.now.options) reader.now.special.now
+            → OnOk result
+            (CountsUses F.answers (shown_options reader.now.options)
+            (E.replacement reader.now.entities.now) reader.now.references.now leaf.now
+            self.old.expansion_left footnotes.old footnotes.new callback.old callback.new) }
         ensures succeeds { self.old.failed ≡ false → text_of leaf.now ≡ [] → IsOk result }
         ensures counts { Counts leaf.now self.old.steps self.new.steps }
-        ensures least { IsSetOf (shown_options reader.now.options) reader.now.special.now → OnOk result (CountsLeast F.answers (shown_options reader.now.options) (E.replacement reader.now.entities.now) reader.now.references.now footnotes.old leaf.now self.old.expansion_left self.old.steps self.new.steps callback.old callback.new) }
+        ensures least { IsSetOf (shown_options reader.now.options) reader.now.special.now
+            → OnOk result
+            (CountsLeast F.answers (shown_options reader.now.options)
+            (E.replacement reader.now.entities.now) reader.now.references.now footnotes.old leaf.now
+            self.old.expansion_left self.old.steps self.new.steps callback.old callback.new) }
         ensures live { OnOk result (self.new.failed ≡ false) }
         ensures failed { OnErr result (self.new.failed ≡ true) }
-        ensures refused { self.old.failed ≡ true → (result ≡ Err alloc_error) × (self.new ≡ self.old) × (footnotes.new ≡ footnotes.old) × (callback.new ≡ callback.old) }
-        ensures reads { IsSetOf (shown_options reader.now.options) reader.now.special.now → OnOk result (Resolves F.answers (shown_options reader.now.options) (E.replacement reader.now.entities.now) reader.now.references.now footnotes.old leaf.now self.old.expansion_left self.new callback.old callback.new) }
-        ensures stops { IsSetOf (shown_options reader.now.options) reader.now.special.now → OnErr result (Stops F.answers (shown_options reader.now.options) (E.replacement reader.now.entities.now) reader.now.references.now footnotes.old leaf.now self.old.expansion_left callback.old callback.new) }
+        ensures refused { self.old.failed ≡ true
+            → (result ≡ Err alloc_error) × (self.new ≡ self.old) × (footnotes.new ≡ footnotes.old)
+            × (callback.new ≡ callback.old) }
+        ensures reads { IsSetOf (shown_options reader.now.options) reader.now.special.now
+            → OnOk result
+            (Resolves F.answers (shown_options reader.now.options)
+            (E.replacement reader.now.entities.now) reader.now.references.now footnotes.old leaf.now
+            self.old.expansion_left self.new callback.old callback.new) }
+        ensures stops { IsSetOf (shown_options reader.now.options) reader.now.special.now
+            → OnErr result
+            (Stops F.answers (shown_options reader.now.options)
+            (E.replacement reader.now.entities.now) reader.now.references.now footnotes.old leaf.now
+            self.old.expansion_left callback.old callback.new) }
     {
         if self.failed {
             return Err(AllocError);
@@ -115,21 +137,41 @@ impl<'a> InlineState<'a> {
         requires room { HasRoom self.old.steps }
         requires ready { F.ready callback.old }
         ensures counts { OnOk result (Counts leaf.now self.old.steps self.new.steps) }
-        ensures least { IsSetOf (shown_options reader.now.options) reader.now.special.now → OnOk result (CountsLeast F.answers (shown_options reader.now.options) (E.replacement reader.now.entities.now) reader.now.references.now footnotes.old leaf.now self.old.expansion_left self.old.steps self.new.steps callback.old callback.new) }
+        ensures least { IsSetOf (shown_options reader.now.options) reader.now.special.now
+            → OnOk result
+            (CountsLeast F.answers (shown_options reader.now.options)
+            (E.replacement reader.now.entities.now) reader.now.references.now footnotes.old leaf.now
+            self.old.expansion_left self.old.steps self.new.steps callback.old callback.new) }
         ensures refused { OnErr result (self.new.steps ≡ self.old.steps) }
         ensures ready { F.ready callback.new }
-        ensures asks { AsksUpTo F.answers (closing_brackets (text_of leaf.now)) callback.old callback.new }
+        ensures asks { AsksUpTo F.answers (closing_brackets (text_of leaf.now)) callback.old
+            callback.new }
         ensures spent { self.old.expansion_left ≡ 0 → callback.new ≡ callback.old }
         ensures few { OnOk result (length self.new.slots.items ≤ length (text_of leaf.now)) }
-        ensures slots { OnOk result (AreSlots (text_of leaf.now) (length (text_of leaf.now)) self.new.slots.items) }
-        ensures left { OnOk result (CanBeGiven leaf.now self.new.texts.items self.new.links.items self.new.slots.items) }
-        ensures whole { OnOk result (AreWhole self.new.slots.items × EndWithin self.new.slots.items) }
+        ensures slots { OnOk result
+            (AreSlots (text_of leaf.now) (length (text_of leaf.now)) self.new.slots.items) }
+        ensures left { OnOk result
+            (CanBeGiven leaf.now self.new.texts.items self.new.links.items self.new.slots.items) }
+        ensures whole { OnOk result
+            (AreWhole self.new.slots.items × EndWithin self.new.slots.items) }
         ensures footnotes { SameFootnotes footnotes.old footnotes.new }
         ensures rise { RiseUpTo (closing_brackets (text_of leaf.now)) footnotes.old footnotes.new }
-        ensures uses { IsSetOf (shown_options reader.now.options) reader.now.special.now → OnOk result (CountsUses F.answers (shown_options reader.now.options) (E.replacement reader.now.entities.now) reader.now.references.now leaf.now self.old.expansion_left footnotes.old footnotes.new callback.old callback.new) }
+        ensures uses { IsSetOf (shown_options reader.now.options) reader.now.special.now
+            → OnOk result
+            (CountsUses F.answers (shown_options reader.now.options)
+            (E.replacement reader.now.entities.now) reader.now.references.now leaf.now
+            self.old.expansion_left footnotes.old footnotes.new callback.old callback.new) }
         ensures succeeds { text_of leaf.now ≡ [] → IsOk result }
-        ensures reads { IsSetOf (shown_options reader.now.options) reader.now.special.now → OnOk result (Resolves F.answers (shown_options reader.now.options) (E.replacement reader.now.entities.now) reader.now.references.now footnotes.old leaf.now self.old.expansion_left self.new callback.old callback.new) }
-        ensures stops { IsSetOf (shown_options reader.now.options) reader.now.special.now → OnErr result (Stops F.answers (shown_options reader.now.options) (E.replacement reader.now.entities.now) reader.now.references.now footnotes.old leaf.now self.old.expansion_left callback.old callback.new) }
+        ensures reads { IsSetOf (shown_options reader.now.options) reader.now.special.now
+            → OnOk result
+            (Resolves F.answers (shown_options reader.now.options)
+            (E.replacement reader.now.entities.now) reader.now.references.now footnotes.old leaf.now
+            self.old.expansion_left self.new callback.old callback.new) }
+        ensures stops { IsSetOf (shown_options reader.now.options) reader.now.special.now
+            → OnErr result
+            (Stops F.answers (shown_options reader.now.options)
+            (E.replacement reader.now.entities.now) reader.now.references.now footnotes.old leaf.now
+            self.old.expansion_left callback.old callback.new) }
     {
         self.clear();
         let text = leaf.as_str();
@@ -186,24 +228,51 @@ impl<'a> InlineState<'a> {
         requires sound { IsSound self.old }
         requires ready { F.ready callback.old }
         ensures sound { OnOk result (IsSound self.new) }
-        ensures ends { OnOk result (AreEnded leaf.now self.old.slots.items → AreEnded leaf.now self.new.slots.items) }
+        ensures ends { OnOk result
+            (AreEnded leaf.now self.old.slots.items → AreEnded leaf.now self.new.slots.items) }
         ensures runs { AreRunsOf text.now sought.new.runs }
         ensures dollars { AreDollarsOf text.now sought.new.dollars }
         ensures kept { IfOk result (λ next. AreUnclosed leaf.now next.at sought.new.unclosed) }
         ensures paid { IfOk result (λ next. ArePaid leaf.now next.at sought.new) }
         ensures ready { F.ready callback.new }
-        ensures asks { AsksBetween F.answers text.now cursor.at (length text.now) callback.old callback.new }
-        ensures asks_here { IfOk result (λ next. AsksBetween F.answers text.now cursor.at next.at callback.old callback.new) }
-        ensures spent { self.old.expansion_left ≡ 0 → (callback.new ≡ callback.old) × (self.new.expansion_left ≡ 0) }
+        ensures asks { AsksBetween F.answers text.now cursor.at (length text.now) callback.old
+            callback.new }
+        ensures asks_here { IfOk result
+            (λ next. AsksBetween F.answers text.now cursor.at next.at callback.old callback.new) }
+        ensures spent { self.old.expansion_left ≡ 0
+            → (callback.new ≡ callback.old) × (self.new.expansion_left ≡ 0) }
         ensures steps { self.new.steps ≡ self.old.steps }
         ensures moves { IfOk result (Moves text.now cursor.at self.new) }
         ensures footnotes { SameFootnotes footnotes.old footnotes.new }
-        ensures rise { RiseBetween text.now cursor.at (length text.now) footnotes.old footnotes.new }
-        ensures rise_here { IfOk result (λ next. RiseBetween text.now cursor.at next.at footnotes.old footnotes.new) }
-        ensures come { IsSetOf (shown_options reader.now.options) reader.now.special.now → IfOk result (λ next. ComesOn F.answers (shown_options reader.now.options) (E.replacement reader.now.entities.now) reader.now.references.now footnotes.old footnotes.new leaf.now sought.old sought.new cursor next self.old self.new callback.old callback.new) }
-        ensures stops { IsSetOf (shown_options reader.now.options) reader.now.special.now → OnErr result (StopsOn F.answers (shown_options reader.now.options) (E.replacement reader.now.entities.now) reader.now.references.now footnotes.old leaf.now sought.old cursor self.old callback.old callback.new) }
-        ensures rest { cursor.at + position_or_len (in_rows reader.now.special.now) (drop cursor.at text.now) ≡ length text.now → IfOk result (λ next. (next.pending ≡ cursor.pending) × (next.at ≡ length text.now) × (self.new ≡ self.old)) }
-        ensures token { (at : ℕ) → at ≡ cursor.at + position_or_len (in_rows reader.now.special.now) (drop cursor.at text.now) → at < length text.now → is_special (shown_options reader.now.options) (slice_index text.now at) ≡ true → (slice_index text.now at == 93) ≡ false → IfOk result (ReadsSpecial (shown_options reader.now.options) (E.replacement reader.now.entities.now) leaf.now (record { pending = cursor.pending; at = at }) self.old self.new) }
+        ensures rise { RiseBetween text.now cursor.at (length text.now) footnotes.old
+            footnotes.new }
+        ensures rise_here { IfOk result
+            (λ next. RiseBetween text.now cursor.at next.at footnotes.old footnotes.new) }
+        ensures come { IsSetOf (shown_options reader.now.options) reader.now.special.now
+            → IfOk result
+            (λ next. ComesOn F.answers (shown_options reader.now.options)
+            (E.replacement reader.now.entities.now) reader.now.references.now footnotes.old
+            footnotes.new leaf.now sought.old sought.new cursor next self.old self.new callback.old
+            callback.new) }
+        ensures stops { IsSetOf (shown_options reader.now.options) reader.now.special.now
+            → OnErr result
+            (StopsOn F.answers (shown_options reader.now.options)
+            (E.replacement reader.now.entities.now) reader.now.references.now footnotes.old leaf.now
+            sought.old cursor self.old callback.old callback.new) }
+        ensures rest { cursor.at + position_or_len (in_rows reader.now.special.now)
+            (drop cursor.at text.now) ≡ length text.now
+            → IfOk result
+            (λ next. (next.pending ≡ cursor.pending) × (next.at ≡ length text.now)
+            × (self.new ≡ self.old)) }
+        ensures token { (at : ℕ)
+            → at
+            ≡ cursor.at + position_or_len (in_rows reader.now.special.now) (drop cursor.at text.now)
+            → at < length text.now
+            → is_special (shown_options reader.now.options) (slice_index text.now at) ≡ true
+            → (slice_index text.now at == 93) ≡ false
+            → IfOk result
+            (ReadsSpecial (shown_options reader.now.options) (E.replacement reader.now.entities.now)
+            leaf.now (record { pending = cursor.pending; at = at }) self.old self.new) }
     {
         let bytes = text.as_bytes();
         let at = reader.special.next(bytes, ahead, cursor.at);
@@ -246,11 +315,18 @@ impl<'a> InlineState<'a> {
         ensures expansion_left { self.new.expansion_left ≡ self.old.expansion_left }
         ensures steps { self.new.steps ≡ self.old.steps }
         ensures visits { OnOk result (VisitsAt text.now here.at sought.old sought.new) }
-        ensures passes { OnOk result (PassesAt (shown_options reader.now.options).email_autolinks leaf.now here.at sought.old.unclosed sought.new.unclosed) }
+        ensures passes { OnOk result
+            (PassesAt (shown_options reader.now.options).email_autolinks leaf.now here.at
+            sought.old.unclosed sought.new.unclosed) }
         ensures sound { IsSound self.old → OnOk result (IsSound self.new) }
-        ensures ends { OnOk result (AreEnded leaf.now self.old.slots.items → AreEnded leaf.now self.new.slots.items) }
+        ensures ends { OnOk result
+            (AreEnded leaf.now self.old.slots.items → AreEnded leaf.now self.new.slots.items) }
         ensures moves { IfOk result (Moves text.now here.at self.new) }
-        ensures token { is_special (shown_options reader.now.options) (slice_index text.now here.at) ≡ true → (slice_index text.now here.at == 93) ≡ false → IfOk result (ReadsSpecial (shown_options reader.now.options) (E.replacement reader.now.entities.now) leaf.now here self.old self.new) }
+        ensures token { is_special (shown_options reader.now.options) (slice_index text.now here.at)
+            ≡ true → (slice_index text.now here.at == 93) ≡ false
+            → IfOk result
+            (ReadsSpecial (shown_options reader.now.options) (E.replacement reader.now.entities.now)
+            leaf.now here self.old self.new) }
     {
         match text.as_bytes()[here.at] {
             b'\n' | b'\r' => self.line_ending(text, here),
@@ -280,7 +356,8 @@ impl<'a> InlineState<'a> {
         ensures expansion_left { self.new.expansion_left ≡ self.old.expansion_left }
         ensures table { self.new.links ≡ self.old.links }
         ensures stands { OnOk result (Stands text.now place self.new) }
-        ensures length { OnOk result (length self.new.slots.items ≡ length self.old.slots.items + 1) }
+        ensures length { OnOk result
+            (length self.new.slots.items ≡ length self.old.slots.items + 1) }
         ensures slots { OnOk result (self.new.slots.items ≡ self.old.slots.items ++ (slot ∷ [])) }
         ensures others { self.new ≡ record self.old { slots = self.new.slots } }
     {
@@ -301,7 +378,8 @@ impl<'a> InlineState<'a> {
         ensures table { self.new.links ≡ self.old.links }
         ensures expansion_left { self.new.expansion_left ≡ self.old.expansion_left }
         ensures stands { OnOk result (Stands text.now text_end self.new) }
-        ensures slots { OnOk result (PushesText here.pending text_end self.old.slots.items self.new.slots.items) }
+        ensures slots { OnOk result
+            (PushesText here.pending text_end self.old.slots.items self.new.slots.items) }
         ensures succeeds { text_end ≤ here.pending → IsOk result }
         ensures others { self.new ≡ record self.old { slots = self.new.slots } }
     {
@@ -331,7 +409,8 @@ impl<'a> InlineState<'a> {
         ensures moves { IfOk result (Moves text.now here.at self.new) }
         ensures end { IfOk result (λ next. next.pending ≡ slot.end) }
         ensures at { IfOk result (λ next. next.at ≡ slot.end) }
-        ensures slots { OnOk result (Puts here.pending text_end slot self.old.slots.items self.new.slots.items) }
+        ensures slots { OnOk result
+            (Puts here.pending text_end slot self.old.slots.items self.new.slots.items) }
         ensures others { self.new ≡ record self.old { slots = self.new.slots } }
     {
         self.flush(text, here, text_end)?;
@@ -362,8 +441,10 @@ impl<'a> InlineState<'a> {
         ensures expansion_left { self.new.expansion_left ≡ self.old.expansion_left }
         ensures moves { IfOk result (Moves text.now here.at self.new) }
         ensures order { IfOk result (λ next. slot.end ≤ next.at) }
-        ensures at { IfOk result (λ next. (next.pending ≡ next.at) × (next.at ≡ read_on text.now slot.end)) }
-        ensures slots { OnOk result (Puts here.pending text_end slot self.old.slots.items self.new.slots.items) }
+        ensures at { IfOk result
+            (λ next. (next.pending ≡ next.at) × (next.at ≡ read_on text.now slot.end)) }
+        ensures slots { OnOk result
+            (Puts here.pending text_end slot self.old.slots.items self.new.slots.items) }
         ensures others { self.new ≡ record self.old { slots = self.new.slots } }
     {
         let next = self.put(text, here, text_end, slot)?;

@@ -20,7 +20,8 @@ impl Steps {
     // Adds the steps of the searches in one leaf, in which `examined` open delimiter runs were examined.
     pub(crate) fn count(&mut self, sought: &Sought, examined: u128)
         requires room { HasRoom self.old }
-        requires few { (sought.now.unclosed.passed + sought.now.runs.visited) + (sought.now.dollars.visited + examined) < 2 ^ 127 }
+        requires few { (sought.now.unclosed.passed + sought.now.runs.visited) +
+            (sought.now.dollars.visited + examined) < 2 ^ 127 }
         ensures { self.new ≡ record {
           html = self.old.html + sought.now.unclosed.passed;
           openers = self.old.openers + examined;

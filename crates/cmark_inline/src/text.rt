@@ -26,7 +26,9 @@ impl<'a> InlineState<'a> {
     pub(crate) fn line_ending(&mut self, text: &str, here: Cursor) -> Result<Cursor, AllocError>
         requires byte { IsAtByte text.now here self.old }
         ensures reads_on { ReadsOn text.now here self.old self.new result }
-        ensures token { (options : Options) (lookup : Lookup) (is_cell : Bool) → (slice_index text.now here.at ≡ 10) ⊎ (slice_index text.now here.at ≡ 13) → IfOk result (Appends options lookup is_cell text.now here self.old self.new) }
+        ensures token { (options : Options) (lookup : Lookup) (is_cell : Bool)
+            → (slice_index text.now here.at ≡ 10) ⊎ (slice_index text.now here.at ≡ 13)
+            → IfOk result (Appends options lookup is_cell text.now here self.old self.new) }
     {
         let text_end = before_blanks(text, here);
         let Some(found) = line_break(text, here.at) else {
@@ -48,7 +50,14 @@ impl<'a> InlineState<'a> {
     ) -> Result<Cursor, AllocError>
         requires byte { IsAtByte text.now here self.old }
         ensures reads_on { ReadsOn text.now here self.old self.new result }
-        ensures token { (options : Options) (lookup : Lookup) → slice_index text.now here.at ≡ 92 → IfOk result (λ next. Passes options lookup is_cell text.now here self.old self.new next ⊎ (Appends options lookup is_cell text.now here self.old self.new next ⊎ (Escapes options lookup is_cell text.now here self.old self.new next ⊎ EscapesPipe options lookup is_cell text.now here self.old self.new next))) }
+        ensures token { (options : Options) (lookup : Lookup) → slice_index text.now here.at ≡ 92
+            → IfOk result
+            (λ next. Passes options lookup is_cell text.now here self.old self.new next
+            ⊎
+            (Appends options lookup is_cell text.now here self.old self.new next
+            ⊎
+            (Escapes options lookup is_cell text.now here self.old self.new next
+            ⊎ EscapesPipe options lookup is_cell text.now here self.old self.new next))) }
     {
         if let Some(found) = line_break(text, here.at) {
             let slot = Slot {
@@ -93,7 +102,12 @@ impl<'a> InlineState<'a> {
     ) -> Result<Cursor, AllocError>
         requires byte { IsAtByte text.now here self.old }
         ensures reads_on { ReadsOn text.now here self.old self.new result }
-        ensures token { (options : Options) (is_cell : Bool) → slice_index text.now here.at ≡ 38 → IfOk result (λ next. Passes options (E.replacement entities.now) is_cell text.now here self.old self.new next ⊎ Appends options (E.replacement entities.now) is_cell text.now here self.old self.new next) }
+        ensures token { (options : Options) (is_cell : Bool) → slice_index text.now here.at ≡ 38
+            → IfOk result
+            (λ next. Passes options (E.replacement entities.now) is_cell text.now here self.old
+            self.new next
+            ⊎ Appends options (E.replacement entities.now) is_cell text.now here self.old self.new
+            next) }
     {
         let Some(entity) = scan_entity(text[here.at..].as_bytes(), entities) else {
             return Ok(pass(text, here));
@@ -122,7 +136,9 @@ fn ends_with_two_spaces(bytes: &[u8]) -> bool
 /// The slot of a line break. The line ending begins at `at`, and the blanks before it at `text_end`. Only a hard break includes these
 /// blanks.
 fn break_slot(is_hard: bool, text_end: usize, at: usize, end: usize) -> Slot
-    ensures { result ≡ record { kind = if is_hard then slot_kind.HardBreak else slot_kind.SoftBreak; start = if is_hard then text_end else at; end = end } }
+    ensures { result
+        ≡
+        record { kind = if is_hard then slot_kind.HardBreak else slot_kind.SoftBreak; start = if is_hard then text_end else at; end = end } }
 {
     if is_hard {
         Slot {

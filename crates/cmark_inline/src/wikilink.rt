@@ -57,8 +57,11 @@ fn wikilink_at<'a>(
     requires doubled { IsBracket text.now close doubled }
     requires close { IsPart text.now close (close + 1) }
     ensures is { IfSome result (IsWikilink leaf.now doubled close) }
-    ensures none { result ≡ None → (close ≤ doubled.inside) ⊎ (length (name_in (wiki_text leaf.now doubled close)) ≡ 0) }
-    ensures display { IfSome result (λ wikilink. IfSome wikilink.display (λ place. IsCharBoundary text.now place × (place ≤ close))) }
+    ensures none { result ≡ None
+        → (close ≤ doubled.inside) ⊎ (length (name_in (wiki_text leaf.now doubled close)) ≡ 0) }
+    ensures display { IfSome result
+        (λ wikilink. IfSome wikilink.display
+        (λ place. IsCharBoundary text.now place × (place ≤ close))) }
     ensures inside { IfSome result (λ wikilink. doubled.inside < close) }
 {
     if close <= doubled.inside {
@@ -129,20 +132,38 @@ impl<'a> InlineState<'a> {
         requires same { text.now ≡ text_of leaf.now }
         requires sound { IsSound self.old }
         ensures sound { OnOk result (IsSound self.new) }
-        ensures ends { OnOk result (AreEnded leaf.now self.old.slots.items → AreEnded leaf.now self.new.slots.items) }
-        ensures taken { IfOk result (λ next. next ≡ None → (bracket : Opening) → IsTakenFrom self.old bracket → IsTakenFrom self.new bracket) }
-        ensures forms { IfOk result (λ next. is_some next ≡ forms_wikilink (shown_options options) leaf.now close self.old.doubled) }
-        ensures next { IfOk result (λ next. IfSome next (λ next. (next.pending ≡ close + 2) × (next.at ≡ close + 2))) }
+        ensures ends { OnOk result
+            (AreEnded leaf.now self.old.slots.items → AreEnded leaf.now self.new.slots.items) }
+        ensures taken { IfOk result
+            (λ next. next ≡ None → (bracket : Opening) → IsTakenFrom self.old bracket
+            → IsTakenFrom self.new bracket) }
+        ensures forms { IfOk result
+            (λ next. is_some next
+            ≡ forms_wikilink (shown_options options) leaf.now close self.old.doubled) }
+        ensures next { IfOk result
+            (λ next. IfSome next (λ next. (next.pending ≡ close + 2) × (next.at ≡ close + 2))) }
         ensures moves { IfOk result (λ next. IfSome next (Moves text.now close self.new)) }
         ensures stands { IfOk result (λ next. next ≡ None → Stands text.now close self.new) }
-        ensures others { IfOk result (λ next. next ≡ None → self.new ≡ record self.old { doubled = self.new.doubled }) }
+        ensures others { IfOk result
+            (λ next. next ≡ None → self.new ≡ record self.old { doubled = self.new.doubled }) }
         ensures off { (shown_options options).wikilinks ≡ false → self.new ≡ self.old }
         ensures expansion_left { self.new.expansion_left ≡ self.old.expansion_left }
         ensures steps { self.new.steps ≡ self.old.steps }
-        ensures tries { IfOk result (λ next. next ≡ None → TriesDoubled ((shown_options options).wikilinks && first_is (λ b. b == 93) (drop (close + 1) text.now)) self.old.doubled self.new.doubled) }
-        ensures leaves { IfOk result (λ next. IfSome next (λ next. IfSome (nearest self.old.doubled) (λ tried. LeavesWikilink tried.0.start self.old self.new))) }
+        ensures tries { IfOk result
+            (λ next. next ≡ None
+            → TriesDoubled
+            ((shown_options options).wikilinks && first_is (λ b. b == 93)
+            (drop (close + 1) text.now)) self.old.doubled self.new.doubled) }
+        ensures leaves { IfOk result
+            (λ next. IfSome next
+            (λ next. IfSome (nearest self.old.doubled)
+            (λ tried. LeavesWikilink tried.0.start self.old self.new))) }
         ensures label_close { self.new.label_close ≡ self.old.label_close }
-        ensures writes { IfOk result (λ next. IfSome next (λ next. IfSome (nearest self.old.doubled) (λ tried. WritesWikilink (shown_options options) leaf.now text.now tried.0 close self.old self.new))) }
+        ensures writes { IfOk result
+            (λ next. IfSome next
+            (λ next. IfSome (nearest self.old.doubled)
+            (λ tried. WritesWikilink (shown_options options) leaf.now text.now tried.0 close
+            self.old self.new))) }
     {
         if !options.contains(Options::ENABLE_WIKILINKS) || !is_followed_by(text, close, b']') {
             return Ok(None);
@@ -177,20 +198,29 @@ impl<'a> InlineState<'a> {
         requires inside { doubled.inside < close }
         requires end { IsPart text.now close (close + 2) }
         requires middle { IsCharBoundary text.now (close + 1) }
-        requires display { IfSome wikilink.display (λ place. IsCharBoundary text.now place × (place ≤ close)) }
+        requires display { IfSome wikilink.display
+            (λ place. IsCharBoundary text.now place × (place ≤ close)) }
         requires free { doubled.is_image ≡ false → HoldNoLink self.old.slots.items doubled.slot }
         requires sound { IsSound self.old }
         requires taken { IsPairFrom self.old doubled }
         ensures sound { OnOk result (IsSound self.new) }
-        ensures ends { OnOk result ((leaf : LeafTexts) → AreEnded leaf self.old.slots.items → EndsIn leaf close (Some wikilink.entry.source_end) → AreEnded leaf self.new.slots.items) }
+        ensures ends { OnOk result
+            ((leaf : LeafTexts) → AreEnded leaf self.old.slots.items
+            → EndsIn leaf close (Some wikilink.entry.source_end)
+            → AreEnded leaf self.new.slots.items) }
         ensures expansion_left { self.new.expansion_left ≡ self.old.expansion_left }
         ensures steps { self.new.steps ≡ self.old.steps }
         ensures stands { OnOk result (Stands text.now (close + 2) self.new) }
-        ensures parts { OnOk result ((parts : Links) × IsNamed wikilink.entry parts × (self.new.links.items ≡ self.old.links.items ++ (parts ∷ []))) }
-        ensures link { OnOk result (doubled.is_image ≡ false → HoldNoLink self.new.slots.items (doubled.slot + 1)) }
+        ensures parts { OnOk result
+            ((parts : Links) × IsNamed wikilink.entry parts
+            × (self.new.links.items ≡ self.old.links.items ++ (parts ∷ []))) }
+        ensures link { OnOk result
+            (doubled.is_image ≡ false → HoldNoLink self.new.slots.items (doubled.slot + 1)) }
         ensures leaves { OnOk result (LeavesWikilink doubled.start self.old self.new) }
         ensures label_close { self.new.label_close ≡ self.old.label_close }
-        ensures writes { OnOk result (WritesShown (shown_options options) text.now doubled close wikilink.entry self.old self.new) }
+        ensures writes { OnOk result
+            (WritesShown (shown_options options) text.now doubled close wikilink.entry self.old
+            self.new) }
     {
         let end = close + 2;
         let index = self.links.len();
@@ -220,20 +250,40 @@ impl<'a> InlineState<'a> {
         requires doubled { IsBracket text.now close doubled }
         requires inside { doubled.inside < close }
         requires end { IsPart text.now close (close + 1) }
-        requires display { IfSome wikilink.display (λ place. IsCharBoundary text.now place × (place ≤ close)) }
+        requires display { IfSome wikilink.display
+            (λ place. IsCharBoundary text.now place × (place ≤ close)) }
         requires sound { IsSound self.old }
         requires taken { IsPairFrom self.old doubled }
-        ensures settles { IfOk result (λ inside. CanSettle (doubled.slot + 1) self.new.slots.items (drop inside.runs self.old.delimiters.placed.items) (drop inside.quotes self.old.quotes.placed.items)) }
+        ensures settles { IfOk result
+            (λ inside. CanSettle (doubled.slot + 1) self.new.slots.items
+            (drop inside.runs self.old.delimiters.placed.items)
+            (drop inside.quotes self.old.quotes.placed.items)) }
         ensures runs { IfOk result (λ inside. doubled.runs ≤ inside.runs) }
-        ensures runs_there { IfOk result (λ inside. inside.runs ≤ length self.old.delimiters.placed.items) }
+        ensures runs_there { IfOk result
+            (λ inside. inside.runs ≤ length self.old.delimiters.placed.items) }
         ensures quotes { IfOk result (λ inside. doubled.quotes ≤ inside.quotes) }
-        ensures quotes_there { IfOk result (λ inside. inside.quotes ≤ length self.old.quotes.placed.items) }
-        ensures names { OnOk result ((texts links : ℕ) → AreNamed texts links self.old.slots.items → AreNamed texts links self.new.slots.items) }
-        ensures ends { OnOk result ((leaf : LeafTexts) → AreEnded leaf self.old.slots.items → EndsIn leaf close (Some wikilink.entry.source_end) → AreEnded leaf self.new.slots.items) }
-        ensures before { OnOk result (SameBefore (doubled.slot + 1) self.old.slots.items self.new.slots.items) }
-        ensures shows { IfOk result (λ inside. (at : ℕ) × Shows text.now doubled close wikilink.entry self.old.slots.items self.new.slots.items at × AreLeft at self.old.delimiters.placed.items self.old.quotes.placed.items doubled inside) }
-        ensures slots { OnOk result ((end : ℕ) → AreSlots text.now close self.old.slots.items → close < end → AreSlots text.now end self.new.slots.items) }
-        ensures length { OnOk result (length self.new.slots.items ≤ length self.old.slots.items + 1) }
+        ensures quotes_there { IfOk result
+            (λ inside. inside.quotes ≤ length self.old.quotes.placed.items) }
+        ensures names { OnOk result
+            ((texts links : ℕ) → AreNamed texts links self.old.slots.items
+            → AreNamed texts links self.new.slots.items) }
+        ensures ends { OnOk result
+            ((leaf : LeafTexts) → AreEnded leaf self.old.slots.items
+            → EndsIn leaf close (Some wikilink.entry.source_end)
+            → AreEnded leaf self.new.slots.items) }
+        ensures before { OnOk result
+            (SameBefore (doubled.slot + 1) self.old.slots.items self.new.slots.items) }
+        ensures shows { IfOk result
+            (λ inside. (at : ℕ)
+            × Shows text.now doubled close wikilink.entry self.old.slots.items self.new.slots.items
+            at
+            × AreLeft at self.old.delimiters.placed.items self.old.quotes.placed.items doubled
+            inside) }
+        ensures slots { OnOk result
+            ((end : ℕ) → AreSlots text.now close self.old.slots.items → close < end
+            → AreSlots text.now end self.new.slots.items) }
+        ensures length { OnOk result
+            (length self.new.slots.items ≤ length self.old.slots.items + 1) }
         ensures longer { OnOk result (length self.old.slots.items ≤ length self.new.slots.items) }
         ensures links { OnOk result (NoNewLink self.old.slots.items self.new.slots.items) }
         ensures bracket { IfOk result (λ inside. inside.slot ≡ doubled.slot) }

@@ -18,7 +18,7 @@ all_bytes source (s ∷ more) = slice source s.start s.end ++ all_bytes source m
 pub slice-size : (source : List ℕ) (start end : ℕ) → end ≤ length source → length (slice source start end) ≡ end - start
 slice-size source start end h = let t = length-take (end - start) (drop start source) in let d = length-drop start source in omega arith
 
-slice_drop : (source : List ℕ) (start mid end : ℕ) → start ≤ mid → mid ≤ end → drop (mid - start) (slice source start end) ≡ slice source mid end
+pub slice_drop : (source : List ℕ) (start mid end : ℕ) → start ≤ mid → mid ≤ end → drop (mid - start) (slice source start end) ≡ slice source mid end
 slice_drop source start mid end h k =
     let a : end - start ≡ (mid - start) + (end - mid) = omega arith in
     let b : start + (mid - start) ≡ mid = omega arith in

@@ -58,7 +58,7 @@ pub mod PartCuts
 pub mod PartOrders
 pub mod PlaceExamples
 pub mod PlacedTokens
-pub mod PlainLeaves
+pub mod PlainLines
 pub mod PlainTokens
 pub mod PlannedReadings
 pub mod QuestionExamples

@@ -19,6 +19,7 @@ pub mod PartRanges
 pub mod PassSteps
 pub mod PlacedLeaves
 pub mod PlacedTokens
+pub mod PlainLines
 pub mod PlannedAnswers
 pub mod Progress
 pub mod ReadingLinks

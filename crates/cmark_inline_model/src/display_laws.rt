@@ -31,15 +31,32 @@ ghost use Rattle.cmark_inline_model.specs.SlotRows.{Slot};
 ///
 /// A premise is that the slot that is cut is like the rest of its item: like slots may differ after a cut.
 pub fn what_a_wikilink_shows_takes_the_place_of_its_slots()
-    ensures { (reader : Reader) (leaf : Leaf) (before : Between) → InTurn 0 leaf.stretches (length reader.source) → HaveLineEnds reader.source leaf.stretches
-        → (p : Pass) (bs : List BracketPlace) (slots : List Slot) (bytes quotes : List ℕ) (runs : List Run) (quoted : List Quote) → IsReached reader leaf before p bs slots bytes quotes runs quoted
-        → (closer : Bracket) (nearer : ℕ) (name : List ℕ) (display end : ℕ) (next : State) (place : BracketPlace) → drop nearer bs ≡ place ∷ drop (suc nearer) bs → token reader leaf p.state.at ≡ Closes closer
-        → Comes AnyAnswer p.state.asked (decide reader leaf p.state closer) (record { result = Forms nearer (Wiki name (Some display) end); after = next })
-        → (left_runs left_quotes at : ℕ) (now : List Slot) → LeavesRuns place.runs left_runs at runs bytes → LeavesQuotes place.quotes left_quotes at quotes
-        → ((row : List Slot) → AreLike reader.source slots row → IsCutThere reader.source (suc place.slot) display row → IsAfterPipe reader.options reader.source display → display ≤ closer.start
+    ensures { (reader : Reader) (leaf : Leaf) (before : Between)
+        → InTurn 0 leaf.stretches (length reader.source) → HaveLineEnds reader.source leaf.stretches
+        → (p : Pass) (bs : List BracketPlace) (slots : List Slot) (bytes quotes : List ℕ)
+        (runs : List Run) (quoted : List Quote)
+        → IsReached reader leaf before p bs slots bytes quotes runs quoted
+        → (closer : Bracket) (nearer : ℕ) (name : List ℕ) (display end : ℕ) (next : State)
+        (place : BracketPlace) → drop nearer bs ≡ place ∷ drop (suc nearer) bs
+        → token reader leaf p.state.at ≡ Closes closer
+        → Comes AnyAnswer p.state.asked (decide reader leaf p.state closer)
+        (record { result = Forms nearer (Wiki name (Some display) end); after = next })
+        → (left_runs left_quotes at : ℕ) (now : List Slot)
+        → LeavesRuns place.runs left_runs at runs bytes
+        → LeavesQuotes place.quotes left_quotes at quotes
+        →
+        ((row : List Slot) → AreLike reader.source slots row
+        → IsCutThere reader.source (suc place.slot) display row
+        → IsAfterPipe reader.options reader.source display → display ≤ closer.start
         → ShowsLike reader.source (suc place.slot) display closer.start at row now)
-        → (pairs : List Pair) (spans : Spans) → IsEmphasis (counted 0 (drop left_runs runs)) pairs spans
-        → IsReached reader leaf before (closed_by p closer (record { result = Forms nearer (Wiki name (Some display) end); after = next })) (drop (suc nearer) bs)
-        (linked_slots place (display_target name end) (display_dressed reader.options left_runs left_quotes pairs now bytes quotes runs quoted))
-        (take (bytes_before place runs) bytes) (take place.quotes quotes) (take place.runs runs) (take place.quotes quoted) }
+        → (pairs : List Pair) (spans : Spans)
+        → IsEmphasis (counted 0 (drop left_runs runs)) pairs spans
+        → IsReached reader leaf before
+        (closed_by p closer
+        (record { result = Forms nearer (Wiki name (Some display) end); after = next }))
+        (drop (suc nearer) bs)
+        (linked_slots place (display_target name end)
+        (display_dressed reader.options left_runs left_quotes pairs now bytes quotes runs quoted))
+        (take (bytes_before place runs) bytes) (take place.quotes quotes) (take place.runs runs)
+        (take place.quotes quoted) }
 {}

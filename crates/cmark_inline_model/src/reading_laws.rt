@@ -30,31 +30,41 @@ ghost use Rattle.cmark_inline_model.specs.WithoutHighlight.{IsReadingWithout, is
 
 /// No link is inside a link, at any depth, except for autolinks (CommonMark 6.3 and 6.5).
 pub fn links_stand_apart()
-    ensures { (text : List ℕ) (profile : Profile) (exchanges : List Exchange) (events : List Ranged) → IsReading text profile exchanges events → LinksApart 0 events }
+    ensures { (text : List ℕ) (profile : Profile) (exchanges : List Exchange) (events : List Ranged)
+        → IsReading text profile exchanges events → LinksApart 0 events }
 {}
 
 /// Each reference has the destination and title of the first definition of its label in the text (CommonMark 4.7). If there is no
 /// definition, it has those of the answer to a question about it. No other link has a label.
 pub fn links_lead_by_definitions_and_answers()
-    ensures { (text : List ℕ) (profile : Profile) (document : BlockDocument) (exchanges : List Exchange) (events : List Ranged)
-        → Derives text profile.options profile.lookup document → IsReading text profile exchanges events → AreLed (reader_of text profile document) exchanges events }
+    ensures { (text : List ℕ) (profile : Profile) (document : BlockDocument)
+        (exchanges : List Exchange) (events : List Ranged)
+        → Derives text profile.options profile.lookup document
+        → IsReading text profile exchanges events
+        → AreLed (reader_of text profile document) exchanges events }
 {}
 
 /// A reference is formed only while the reference expansion limit is not used up. Until then the destinations and titles of all earlier
 /// references, in all leaves of the text, have fewer bytes than the limit. Earlier references are those that end earlier. So the
 /// destinations and titles of all references but the last have fewer bytes than the limit.
 pub fn references_stay_below_the_limit()
-    ensures { (text : List ℕ) (profile : Profile) (exchanges : List Exchange) (events : List Ranged) (front following : List ℕ) (own : ℕ)
-        → IsReading text profile exchanges events → reference_costs [] events ≡ front ++ (own ∷ following) → sum front < profile.reference_expansion_limit }
+    ensures { (text : List ℕ) (profile : Profile) (exchanges : List Exchange) (events : List Ranged)
+        (front following : List ℕ) (own : ℕ) → IsReading text profile exchanges events
+        → reference_costs [] events ≡ front ++ (own ∷ following)
+        → sum front < profile.reference_expansion_limit }
 {}
 
 /// A question is put only while the reference expansion limit is not used up. Each question has a closing bracket of its own in its range,
 /// in the order of the questions. The destinations and titles of all references that end before that bracket, in all leaves, have fewer
 /// bytes than the limit.
 pub fn questions_are_put_below_the_limit()
-    ensures { (text : List ℕ) (profile : Profile) (document : BlockDocument) (exchanges : List Exchange) (events : List Ranged)
-        → Derives text profile.options profile.lookup document → IsReading text profile exchanges events
-        → PutInTurn (IsCloserBelow profile.reference_expansion_limit events (reader_of text profile document) (segments document)) 0 exchanges (length text) }
+    ensures { (text : List ℕ) (profile : Profile) (document : BlockDocument)
+        (exchanges : List Exchange) (events : List Ranged)
+        → Derives text profile.options profile.lookup document
+        → IsReading text profile exchanges events
+        → PutInTurn
+        (IsCloserBelow profile.reference_expansion_limit events (reader_of text profile document)
+        (segments document)) 0 exchanges (length text) }
 {}
 
 /// The ranges of events are inside the text (`within`) and in order, and the range of each element contains the ranges inside it (`cut`).
@@ -64,12 +74,15 @@ pub fn questions_are_put_below_the_limit()
 ///
 /// Without wikilinks, or without a `|` in the text, and without task markers, the content of each element is inside its range (`uncut`).
 pub fn ranges_stand_in_order()
-    ensures within { (text : List ℕ) (profile : Profile) (exchanges : List Exchange) (events : List Ranged)
-        → IsReading text profile exchanges events → LieWithin (length text) events }
-    ensures cut { (text : List ℕ) (profile : Profile) (exchanges : List Exchange) (events : List Ranged)
-        → IsReading text profile exchanges events → InPlaceButCut profile.options text 0 events (length text) }
-    ensures uncut { (text : List ℕ) (profile : Profile) (exchanges : List Exchange) (events : List Ranged)
-        → HasNoDisplays profile.options text → HasNoTasks events → IsReading text profile exchanges events → InPlace 0 events (length text) }
+    ensures within { (text : List ℕ) (profile : Profile) (exchanges : List Exchange)
+        (events : List Ranged) → IsReading text profile exchanges events
+        → LieWithin (length text) events }
+    ensures cut { (text : List ℕ) (profile : Profile) (exchanges : List Exchange)
+        (events : List Ranged) → IsReading text profile exchanges events
+        → InPlaceButCut profile.options text 0 events (length text) }
+    ensures uncut { (text : List ℕ) (profile : Profile) (exchanges : List Exchange)
+        (events : List Ranged) → HasNoDisplays profile.options text → HasNoTasks events
+        → IsReading text profile exchanges events → InPlace 0 events (length text) }
 {}
 
 /// Both ends of the range of each event are character boundaries of the text.
@@ -81,8 +94,11 @@ pub fn ranges_cut_no_character()
 /// A text has at most eleven events for each byte, apart from cells that are filled in. Each filled-in cell is two events, and a table has
 /// at most 262,144 of them.
 pub fn events_are_few()
-    ensures { (text : List ℕ) (profile : Profile) (document : BlockDocument) (exchanges : List Exchange) (events : List Ranged)
-        → Derives text profile.options profile.lookup document → IsReading text profile exchanges events → length events ≤ 11 * length text + 524288 * count_tables document }
+    ensures { (text : List ℕ) (profile : Profile) (document : BlockDocument)
+        (exchanges : List Exchange) (events : List Ranged)
+        → Derives text profile.options profile.lookup document
+        → IsReading text profile exchanges events
+        → length events ≤ 11 * length text + 524288 * count_tables document }
 {}
 
 /// A construct that belongs to an option is read only if the option is on.
@@ -93,42 +109,59 @@ pub fn events_are_few()
 /// - Strikethrough, subscripts, superscripts and highlights with the options of these names.
 pub fn options_that_are_off_read_nothing()
     ensures items { (reader : Reader) (leaf : Leaf) (s : State) (parts : Parts) (t : State)
-        → Reads (token reader leaf) (decide reader leaf) AnyAnswer s parts t → AllItems (IsRead reader.options) parts }
-    ensures events { (text : List ℕ) (profile : Profile) (exchanges : List Exchange) (events : List Ranged)
-        → IsReading text profile exchanges events → AreGiven profile.options events }
+        → Reads (token reader leaf) (decide reader leaf) AnyAnswer s parts t
+        → AllItems (IsRead reader.options) parts }
+    ensures events { (text : List ℕ) (profile : Profile) (exchanges : List Exchange)
+        (events : List Ranged) → IsReading text profile exchanges events
+        → AreGiven profile.options events }
 {}
 
 /// If highlight is off, it changes nothing. A text is read as the grammar without highlight reads it (`reads`) and in no other way
 /// (`other`), and no further bytes are special (`special`). In the grammar without highlight `=` is an ordinary byte: each definition that
 /// highlight changed is as it was before.
 pub fn highlight_that_is_off_changes_nothing()
-    ensures special { (options : Options) (b : ℕ) → options.highlight ≡ false → is_special options b ≡ is_special_without options b }
-    ensures reads { (text : List ℕ) (profile : Profile) (exchanges : List Exchange) (events : List Ranged)
-        → profile.options.highlight ≡ false → IsReading text profile exchanges events → IsReadingWithout text profile exchanges events }
-    ensures other { (text : List ℕ) (profile : Profile) (exchanges : List Exchange) (events : List Ranged)
-        → profile.options.highlight ≡ false → IsReadingWithout text profile exchanges events → IsReading text profile exchanges events }
+    ensures special { (options : Options) (b : ℕ) → options.highlight ≡ false
+        → is_special options b ≡ is_special_without options b }
+    ensures reads { (text : List ℕ) (profile : Profile) (exchanges : List Exchange)
+        (events : List Ranged) → profile.options.highlight ≡ false
+        → IsReading text profile exchanges events → IsReadingWithout text profile exchanges events }
+    ensures other { (text : List ℕ) (profile : Profile) (exchanges : List Exchange)
+        (events : List Ranged)
+        → profile.options.highlight ≡ false
+        → IsReadingWithout text profile exchanges events → IsReading text profile exchanges events }
 {}
 
 /// At most one question is put for each closing bracket of the text, in the order of the brackets. Each is about a label that has no
 /// definition. No question is put if the reference expansion limit is 0.
 pub fn questions_are_put_in_turn()
-    ensures turn { (text : List ℕ) (profile : Profile) (document : BlockDocument) (exchanges : List Exchange) (events : List Ranged)
-        → Derives text profile.options profile.lookup document → IsReading text profile exchanges events
-        → PutInTurn (IsCloser (reader_of text profile document) (segments document)) 0 exchanges (length text) }
-    ensures unknown { (text : List ℕ) (profile : Profile) (document : BlockDocument) (exchanges : List Exchange) (events : List Ranged)
-        → Derives text profile.options profile.lookup document → IsReading text profile exchanges events
+    ensures turn { (text : List ℕ) (profile : Profile) (document : BlockDocument)
+        (exchanges : List Exchange) (events : List Ranged)
+        → Derives text profile.options profile.lookup document
+        → IsReading text profile exchanges events
+        → PutInTurn (IsCloser (reader_of text profile document) (segments document)) 0 exchanges
+        (length text) }
+    ensures unknown { (text : List ℕ) (profile : Profile) (document : BlockDocument)
+        (exchanges : List Exchange) (events : List Ranged)
+        → Derives text profile.options profile.lookup document
+        → IsReading text profile exchanges events
         → AllQuestions (IsQuestion (reader_of text profile document)) exchanges }
-    ensures limit { (text : List ℕ) (profile : Profile) (exchanges : List Exchange) (events : List Ranged)
-        → profile.reference_expansion_limit ≡ 0 → IsReading text profile exchanges events → exchanges ≡ [] }
+    ensures limit { (text : List ℕ) (profile : Profile) (exchanges : List Exchange)
+        (events : List Ranged) → profile.reference_expansion_limit ≡ 0
+        → IsReading text profile exchanges events → exchanges ≡ [] }
 {}
 
 /// If the references so far have used up the reference expansion limit, no question is put: neither later in a leaf (`leaf`), nor in later
 /// leaves (`leaves`).
 pub fn nothing_is_asked_when_nothing_is_left()
     ensures leaf { (reader : Reader) (leaf : Leaf) (s : State) (parts : Parts) (t : State)
-        → s.expansion_left ≡ 0 → Reads (token reader leaf) (decide reader leaf) AnyAnswer s parts t → t.asked ≡ s.asked }
-    ensures leaves { (text : List ℕ) (profile : Profile) (document : BlockDocument) (exchanges : List Exchange) (first others : List Segment) (earlier later : List Ranged) (between after : Between)
-        → segments document ≡ first ++ others → ReadsAll (reader_of text profile document) (IsNext exchanges) first (at_start profile) earlier between
+        → s.expansion_left ≡ 0 → Reads (token reader leaf) (decide reader leaf) AnyAnswer s parts t
+        → t.asked ≡ s.asked }
+    ensures leaves { (text : List ℕ) (profile : Profile) (document : BlockDocument)
+        (exchanges : List Exchange) (first others : List Segment) (earlier later : List Ranged)
+        (between after : Between) → segments document ≡ first ++ others
+        → ReadsAll (reader_of text profile document) (IsNext exchanges) first (at_start profile)
+        earlier between
         → ReadsAll (reader_of text profile document) (IsNext exchanges) others between later after
-        → profile.reference_expansion_limit ≤ sum (reference_costs [] earlier) → after.asked ≡ between.asked }
+        → profile.reference_expansion_limit ≤ sum (reference_costs [] earlier)
+        → after.asked ≡ between.asked }
 {}

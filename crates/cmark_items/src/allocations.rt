@@ -84,7 +84,9 @@ impl<'a> Allocations<'a> {
         definitions: RefDefs<'a>,
         footnotes: FootnoteDefs,
     ) -> Allocations<'a>
-        ensures { result ≡ record { texts = []; links = []; alignments = []; references = definitions.entry; footnotes = footnotes } }
+        ensures { result
+            ≡
+            record { texts = []; links = []; alignments = []; references = definitions.entry; footnotes = footnotes } }
     {
         Allocations {
             refdefs: definitions,
@@ -116,8 +118,11 @@ impl<'a> Allocations<'a> {
         id: CowStr<'a>,
     ) -> Result<LinkIndex, AllocError>
         ensures index { IfOk result (λ index. index.0 ≡ length self.old.links) }
-        ensures kept { OnOk result (self.new
-            ≡ with_link (record { link_type = link_type; dest_url = dest_url.entry; title = title.entry; id = id.entry }) self.old) }
+        ensures kept { OnOk result
+            (self.new
+            ≡ with_link
+            (record { link_type = link_type; dest_url = dest_url.entry; title = title.entry; id = id.entry })
+            self.old) }
         ensures refused { OnErr result (self.new ≡ self.old) }
     {
         let index = self.links.len();

@@ -86,7 +86,8 @@ fn attribute_of<'a>(
 
 /// Appends a copy of this text to a list of texts.
 fn push_owned<'a>(texts: &mut Vec<CowStr<'a>>, alloc: Global, text: &str) -> Result<(), AllocError>
-    ensures { OnOk result (map text_bytes texts.new.items ≡ map text_bytes texts.old.items ++ (text.now ∷ [])) }
+    ensures { OnOk result
+        (map text_bytes texts.new.items ≡ map text_bytes texts.old.items ++ (text.now ∷ [])) }
 {
     texts.push(owned(alloc, text)?)?;
     Ok(())
@@ -98,7 +99,9 @@ fn push_attribute<'a>(
     alloc: Global,
     word: &str,
 ) -> Result<(), AllocError>
-    ensures { OnOk result (map shown_attribute attrs.new.items ≡ map shown_attribute attrs.old.items ++ (attribute_of word.now ∷ [])) }
+    ensures { OnOk result
+        (map shown_attribute attrs.new.items
+        ≡ map shown_attribute attrs.old.items ++ (attribute_of word.now ∷ [])) }
 {
     attrs.push(attribute_of(alloc, word)?)?;
     Ok(())
@@ -118,7 +121,8 @@ impl<'a> HeadingAttributes<'a> {
     /// Adds the attribute of another word.
     #[tactic(auto, using(std::proofs::lemmas::Str::lead_after_ascii))]
     fn add(&mut self, alloc: Global, word: &str) -> Result<(), AllocError>
-        ensures { OnOk result (shown_heading self.new ≡ with_word (shown_heading self.old) word.now) }
+        ensures { OnOk result
+            (shown_heading self.new ≡ with_word (shown_heading self.old) word.now) }
     {
         if word.len() < 2 {
             return Ok(());

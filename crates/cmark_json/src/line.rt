@@ -32,8 +32,10 @@ fn append_line(
     event: &Event<'_>,
     range: &Range<usize>,
 ) -> Result<(), AllocError>
-    ensures { OnOk result (string_bytes out.new ≡ string_bytes out.old
-        ++ line (record { event = shown event.now; start = range.now.start; end = range.now.end })) }
+    ensures { OnOk result
+        (string_bytes out.new
+        ≡ string_bytes out.old ++ line
+        (record { event = shown event.now; start = range.now.start; end = range.now.end })) }
 {
     let json = event_value(alloc, event)?.to_string(alloc)?;
     append_around(out, range, json.as_str())?;

@@ -40,9 +40,13 @@ pub fn draw_stretch(builder: &mut Builder<'_>, waits: Option<Stretch>) -> Result
 
 /// The stretch that the waiting one and the next one form, if they touch.
 fn joined(waits: Option<Stretch>, next: Stretch) -> Option<Stretch>
-    ensures { (text : List ℕ) → MatchOption result
-        (add_to [] (shown_waits text waits) (shown_stretch text next) ≡ record { done = rest_of (shown_waits text waits); waits = Some (shown_stretch text next) })
-        (λ both. add_to [] (shown_waits text waits) (shown_stretch text next) ≡ run_of text (Some both)) }
+    ensures { (text : List ℕ)
+        → MatchOption result
+        (add_to [] (shown_waits text waits) (shown_stretch text next)
+        ≡
+        record { done = rest_of (shown_waits text waits); waits = Some (shown_stretch text next) })
+        (λ both. add_to [] (shown_waits text waits) (shown_stretch text next)
+        ≡ run_of text (Some both)) }
 {
     let stretch = waits?;
     if stretch.end != next.start {
@@ -63,7 +67,9 @@ fn add_stretch(
 ) -> Result<Option<Stretch>, AllocError>
     requires { IsPlaced builder.old.tree }
     ensures placed { IsPlaced builder.new.tree }
-    ensures goes { IfOk result (λ left. (text : List ℕ) → Goes text builder.old builder.new waits left (piece_if text next.start next.end [])) }
+    ensures goes { IfOk result
+        (λ left. (text : List ℕ)
+        → Goes text builder.old builder.new waits left (piece_if text next.start next.end [])) }
     ensures definitions { defined builder.new.allocations ≡ defined builder.old.allocations }
 {
     if next.start == next.end {
@@ -84,7 +90,9 @@ fn add_left_columns(
 ) -> Result<Option<Stretch>, AllocError>
     requires { IsPlaced builder.old.tree }
     ensures placed { IsPlaced builder.new.tree }
-    ensures goes { IfOk result (λ left. (text : List ℕ) → Goes text builder.old builder.new waits left
+    ensures goes { IfOk result
+        (λ left. (text : List ℕ)
+        → Goes text builder.old builder.new waits left
         (spaces_if (left_columns (row_of rest.entry).columns) (begin_of (row_of rest.entry)) [])) }
     ensures definitions { defined builder.new.allocations ≡ defined builder.old.allocations }
 {
@@ -108,9 +116,15 @@ pub fn draw_code_line(
 ) -> Result<Option<Stretch>, AllocError>
     requires { IsPlaced builder.old.tree }
     ensures placed { IsPlaced builder.new.tree }
-    ensures drawn { OnOk result ((text : List ℕ) (d : Drawing) → Draws text builder.old d
-        → Draws text builder.new (drawn (texts_of (code_line text most (row_of rest.entry) (shown_waits text waits)).done) d)) }
-    ensures waits { IfOk result (λ left. (text : List ℕ) → shown_waits text left ≡ (code_line text most (row_of rest.entry) (shown_waits text waits)).waits) }
+    ensures drawn { OnOk result
+        ((text : List ℕ) (d : Drawing) → Draws text builder.old d
+        → Draws text builder.new
+        (drawn (texts_of (code_line text most (row_of rest.entry) (shown_waits text waits)).done)
+        d)) }
+    ensures waits { IfOk result
+        (λ left. (text : List ℕ)
+        → shown_waits text left
+        ≡ (code_line text most (row_of rest.entry) (shown_waits text waits)).waits) }
     ensures definitions { defined builder.new.allocations ≡ defined builder.old.allocations }
 {
     let rest = rest.without_indent_upto(most);

@@ -112,8 +112,12 @@ pub fn draw_heading(
 ) -> Result<(), AllocError>
     requires { IsPlaced builder.old.tree }
     ensures placed { IsPlaced builder.new.tree }
-    ensures drawn { OnOk result ((text : List ℕ) (d : Drawing) → Draws text builder.old d
-        → Draws text builder.new (drawn (heading_tokens text attributes (run 35 (words_of (row_of rest.entry))) (row_of rest.entry)) d)) }
+    ensures drawn { OnOk result
+        ((text : List ℕ) (d : Drawing) → Draws text builder.old d
+        → Draws text builder.new
+        (drawn
+        (heading_tokens text attributes (run 35 (words_of (row_of rest.entry))) (row_of rest.entry))
+        d)) }
     ensures definitions { defined builder.new.allocations ≡ defined builder.old.allocations }
 {
     let following = after_opening(rest.words());

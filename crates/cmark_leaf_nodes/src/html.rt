@@ -20,8 +20,10 @@ use std::alloc::AllocError;
 fn draw_html(builder: &mut Builder<'_>, stretch: Stretch) -> Result<(), AllocError>
     requires { IsPlaced builder.old.tree }
     ensures placed { IsPlaced builder.new.tree }
-    ensures drawn { OnOk result ((text : List ℕ) (d : Drawing) → Draws text builder.old d
-        → Draws text builder.new (drawn (html_then (piece_if text stretch.start stretch.end []) Nil) d)) }
+    ensures drawn { OnOk result
+        ((text : List ℕ) (d : Drawing) → Draws text builder.old d
+        → Draws text builder.new
+        (drawn (html_then (piece_if text stretch.start stretch.end []) Nil) d)) }
     ensures definitions { defined builder.new.allocations ≡ defined builder.old.allocations }
 {
     if stretch.start == stretch.end {
@@ -34,8 +36,13 @@ fn draw_html(builder: &mut Builder<'_>, stretch: Stretch) -> Result<(), AllocErr
 fn draw_left_columns(builder: &mut Builder<'_>, rest: LineRest<'_>) -> Result<(), AllocError>
     requires { IsPlaced builder.old.tree }
     ensures placed { IsPlaced builder.new.tree }
-    ensures drawn { OnOk result ((text : List ℕ) (d : Drawing) → Draws text builder.old d
-        → Draws text builder.new (drawn (html_then (spaces_if (left_columns (row_of rest.entry).columns) (begin_of (row_of rest.entry)) []) Nil) d)) }
+    ensures drawn { OnOk result
+        ((text : List ℕ) (d : Drawing) → Draws text builder.old d
+        → Draws text builder.new
+        (drawn
+        (html_then
+        (spaces_if (left_columns (row_of rest.entry).columns) (begin_of (row_of rest.entry)) [])
+        Nil) d)) }
     ensures definitions { defined builder.new.allocations ≡ defined builder.old.allocations }
 {
     let count = rest.remaining_space();
@@ -51,8 +58,11 @@ fn draw_left_columns(builder: &mut Builder<'_>, rest: LineRest<'_>) -> Result<()
 pub fn draw_html_line(builder: &mut Builder<'_>, rest: LineRest<'_>) -> Result<(), AllocError>
     requires { IsPlaced builder.old.tree }
     ensures placed { IsPlaced builder.new.tree }
-    ensures drawn { OnOk result ((text : List ℕ) (d : Drawing) → Draws text builder.old d
-        → Draws text builder.new (drawn (html_then (verbatim_line text (row_of rest.entry).columns (row_of rest.entry)) Nil) d)) }
+    ensures drawn { OnOk result
+        ((text : List ℕ) (d : Drawing) → Draws text builder.old d
+        → Draws text builder.new
+        (drawn (html_then (verbatim_line text (row_of rest.entry).columns (row_of rest.entry)) Nil)
+        d)) }
     ensures definitions { defined builder.new.allocations ≡ defined builder.old.allocations }
 {
     draw_left_columns(builder, rest)?;

@@ -35,8 +35,10 @@ pub fn draw_last_lines(
 ) -> Result<(), AllocError>
     requires { IsPlaced builder.old.tree }
     ensures placed { IsPlaced builder.new.tree }
-    ensures drawn { OnOk result ((text : List ℕ) (d : Drawing) → Draws text builder.old d
-        → Draws text builder.new (drawn (stretch_then text from (words_end (row_of last.entry)) Nil) d)) }
+    ensures drawn { OnOk result
+        ((text : List ℕ) (d : Drawing) → Draws text builder.old d
+        → Draws text builder.new
+        (drawn (stretch_then text from (words_end (row_of last.entry)) Nil) d)) }
     ensures definitions { defined builder.new.allocations ≡ defined builder.old.allocations }
 {
     draw_words(builder, from, words_end(last))
@@ -53,8 +55,10 @@ pub fn close_lines(
 ) -> Result<(), AllocError>
     requires { IsPlaced builder.old.tree }
     ensures placed { IsPlaced builder.new.tree }
-    ensures drawn { OnOk result ((text : List ℕ) (d : Drawing) → Draws text builder.old d
-        → Draws text builder.new (closed_at end (drawn (stretch_then text from (words_end (row_of last.entry)) Nil) d))) }
+    ensures drawn { OnOk result
+        ((text : List ℕ) (d : Drawing) → Draws text builder.old d
+        → Draws text builder.new
+        (closed_at end (drawn (stretch_then text from (words_end (row_of last.entry)) Nil) d))) }
     ensures definitions { defined builder.new.allocations ≡ defined builder.old.allocations }
 {
     let text_end = words_end(last);
@@ -75,8 +79,10 @@ pub fn draw_lines(
 ) -> Result<(), AllocError>
     requires { IsPlaced builder.old.tree }
     ensures placed { IsPlaced builder.new.tree }
-    ensures drawn { OnOk result ((text : List ℕ) (d : Drawing) → Draws text builder.old d
-        → Draws text builder.new (drawn (stretch_then text from (row_of last.entry).line_end Nil) d)) }
+    ensures drawn { OnOk result
+        ((text : List ℕ) (d : Drawing) → Draws text builder.old d
+        → Draws text builder.new
+        (drawn (stretch_then text from (row_of last.entry).line_end Nil) d)) }
     ensures definitions { defined builder.new.allocations ≡ defined builder.old.allocations }
 {
     draw_words(builder, from, last.line_end())

@@ -37,7 +37,8 @@ fn gather_lines(
 ) -> Result<(), AllocError>
     requires before { AreRead text.now before.now }
     requires last { IsRead text.now last }
-    ensures { OnOk result (string_bytes room.new ≡ gathered_bytes (map row_of before.now) (row_of last.entry)) }
+    ensures { OnOk result
+        (string_bytes room.new ≡ gathered_bytes (map row_of before.now) (row_of last.entry)) }
 {
     room.clear();
     for rest in before {

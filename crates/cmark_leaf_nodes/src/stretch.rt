@@ -28,7 +28,8 @@ pub struct Stretch {
 
 /// The bytes of a line in two stretches, either of which may be empty. If the line ends in CR LF, the CR is in neither.
 pub(crate) fn stretches_of(rest: LineRest<'_>) -> (Stretch, Stretch)
-    ensures { (text : List ℕ) → piece_if text result.0.start result.0.end (piece_if text result.1.start result.1.end [])
+    ensures { (text : List ℕ)
+        → piece_if text result.0.start result.0.end (piece_if text result.1.start result.1.end [])
         ≡ plain_line text (begin_of (row_of rest.entry)) (row_of rest.entry) }
 {
     let (start, content_end, line_end) = (rest.begin(), rest.content_end(), rest.line_end());
@@ -76,8 +77,10 @@ pub(crate) fn draw_spaces(
     requires placed { IsPlaced builder.old.tree }
     requires count { count ≤ 3 }
     ensures placed { IsPlaced builder.new.tree }
-    ensures drawn { OnOk result ((text : List ℕ) (d : Drawing) → Draws text builder.old d
-        → Draws text builder.new (drawn (Node (node (OwnedText (replicate count 32)) at at) Nil Nil) d)) }
+    ensures drawn { OnOk result
+        ((text : List ℕ) (d : Drawing) → Draws text builder.old d
+        → Draws text builder.new
+        (drawn (Node (node (OwnedText (replicate count 32)) at at) Nil Nil) d)) }
     ensures definitions { defined builder.new.allocations ≡ defined builder.old.allocations }
 {
     let spaces = builder

@@ -26,8 +26,11 @@ fn draw_cell(builder: &mut Builder<'_>, at: usize, cell: &[u8]) -> Result<(), Al
     requires placed { IsPlaced builder.old.tree }
     requires small { at + length cell.now ≤ 18446744073709551615 }
     ensures placed { IsPlaced builder.new.tree }
-    ensures drawn { OnOk result ((text : List ℕ) (d : Drawing) → Draws text builder.old d
-        → Draws text builder.new (drawn (Node (node TableCell at (at + length cell.now)) (cell_tokens text at cell.now) Nil) d)) }
+    ensures drawn { OnOk result
+        ((text : List ℕ) (d : Drawing) → Draws text builder.old d
+        → Draws text builder.new
+        (drawn (Node (node TableCell at (at + length cell.now)) (cell_tokens text at cell.now) Nil)
+        d)) }
     ensures definitions { defined builder.new.allocations ≡ defined builder.old.allocations }
 {
     builder.open(at, ItemBody::TableCell)?;
@@ -51,9 +54,20 @@ fn draw_next_cell<'a>(
     requires within { length cells.now ≤ content_end }
     ensures placed { IsPlaced builder.new.tree }
     ensures within { IfOk result (λ next. length next.0.now ≤ content_end) }
-    ensures drawn { IfOk result (λ next. (text : List ℕ) (left : ℕ) (d : Drawing) → Draws text builder.old d → (e : Drawing) × Draws text builder.new e
-        × (drawn (cells_then text (suc left) (content_end - length cells.now) line_end (cells_after cells.now)) d ≡ drawn (cells_then text left (content_end - length next.0.now) line_end (cells_after next.0.now)) e)) }
-    ensures filled { IfOk result (λ next. (left : ℕ) → next.1 + (left - length (cells_after next.0.now)) ≡ suc left - length (cells_after cells.now)) }
+    ensures drawn { IfOk result
+        (λ next. (text : List ℕ) (left : ℕ) (d : Drawing) → Draws text builder.old d
+        → (e : Drawing) × Draws text builder.new e
+        ×
+        (drawn
+        (cells_then text (suc left) (content_end - length cells.now) line_end
+        (cells_after cells.now)) d
+        ≡ drawn
+        (cells_then text left (content_end - length next.0.now) line_end (cells_after next.0.now))
+        e)) }
+    ensures filled { IfOk result
+        (λ next. (left : ℕ)
+        → next.1 + (left - length (cells_after next.0.now))
+        ≡ suc left - length (cells_after cells.now)) }
     ensures few { IfOk result (λ next. next.1 ≤ 1) }
     ensures definitions { defined builder.new.allocations ≡ defined builder.old.allocations }
 {
@@ -105,8 +119,12 @@ pub fn draw_head(
 ) -> Result<(), AllocError>
     requires { IsPlaced builder.old.tree }
     ensures placed { IsPlaced builder.new.tree }
-    ensures drawn { OnOk result ((text : List ℕ) (d : Drawing) → Draws text builder.old d
-        → Draws text builder.new (drawn (Node (node TableHead (start_of (row_of rest.entry)) (row_of rest.entry).line_end) (row_cells text columns (row_of rest.entry)) Nil) d)) }
+    ensures drawn { OnOk result
+        ((text : List ℕ) (d : Drawing) → Draws text builder.old d
+        → Draws text builder.new
+        (drawn
+        (Node (node TableHead (start_of (row_of rest.entry)) (row_of rest.entry).line_end)
+        (row_cells text columns (row_of rest.entry)) Nil) d)) }
     ensures definitions { defined builder.new.allocations ≡ defined builder.old.allocations }
 {
     builder.open(rest.words_begin(), ItemBody::TableHead)?;
@@ -123,8 +141,12 @@ pub fn draw_row(
 ) -> Result<usize, AllocError>
     requires { IsPlaced builder.old.tree }
     ensures placed { IsPlaced builder.new.tree }
-    ensures drawn { OnOk result ((text : List ℕ) (d : Drawing) → Draws text builder.old d
-        → Draws text builder.new (drawn (Node (node TableRow (start_of (row_of rest.entry)) (row_of rest.entry).line_end) (row_cells text columns (row_of rest.entry)) Nil) d)) }
+    ensures drawn { OnOk result
+        ((text : List ℕ) (d : Drawing) → Draws text builder.old d
+        → Draws text builder.new
+        (drawn
+        (Node (node TableRow (start_of (row_of rest.entry)) (row_of rest.entry).line_end)
+        (row_cells text columns (row_of rest.entry)) Nil) d)) }
     ensures filled { IfOk result (λ filled. filled ≡ count_missing columns (row_of rest.entry)) }
     ensures definitions { defined builder.new.allocations ≡ defined builder.old.allocations }
 {

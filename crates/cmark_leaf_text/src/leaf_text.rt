@@ -46,7 +46,8 @@ impl<'a> LeafText<'a> {
         requires { AreLines (source_of self.old) 0 lines.now }
         ensures read { OnOk result (IsRead self.new) }
         ensures text { OnOk result (text_of self.new ≡ leaf_bytes (source_of self.old) lines.now) }
-        ensures places { OnOk result ((k : ℕ) → k < length (text_of self.new) → place_of self.new k ≡ place_on lines.now k) }
+        ensures places { OnOk result
+            ((k : ℕ) → k < length (text_of self.new) → place_of self.new k ≡ place_on lines.now k) }
         ensures source { source_of self.new ≡ source_of self.old }
         ensures cell { OnOk result (is_cell_of self.new ≡ is_cell) }
         ensures none { lines.now ≡ [] → IsOk result }
@@ -135,9 +136,13 @@ impl<'a> LeafText<'a> {
     pub fn slice(&self, from: usize, to: usize) -> Option<&'a str>
         requires read { IsRead self.now }
         requires part { IsPart (text_of self.now) from to }
-        ensures source { IfSome result (λ part. part.now ≡ slice (source_of self.now) (place_of self.now from) (place_of self.now (to - 1) + 1)) }
+        ensures source { IfSome result
+            (λ part. part.now
+            ≡ slice (source_of self.now) (place_of self.now from)
+            (place_of self.now (to - 1) + 1)) }
         ensures text { IfSome result (λ part. part.now ≡ slice (text_of self.now) from to) }
-        ensures apart { result ≡ None → place_of self.now (to - 1) + 1 ≢ place_of self.now from + (to - from) }
+        ensures apart { result ≡ None
+            → place_of self.now (to - 1) + 1 ≢ place_of self.now from + (to - from) }
     {
         let ahead = self.slice_ahead(from, to)?;
         Some(&ahead[..to - from])
@@ -148,11 +153,17 @@ impl<'a> LeafText<'a> {
     pub fn slice_ahead(&self, from: usize, to: usize) -> Option<&'a str>
         requires read { IsRead self.now }
         requires part { IsPart (text_of self.now) from to }
-        ensures ahead { IfSome result (λ ahead. ahead.now ≡ drop (place_of self.now from) (source_of self.now)) }
-        ensures source { IfSome result (λ ahead. take (to - from) ahead.now ≡ slice (source_of self.now) (place_of self.now from) (place_of self.now (to - 1) + 1)) }
-        ensures text { IfSome result (λ ahead. take (to - from) ahead.now ≡ slice (text_of self.now) from to) }
+        ensures ahead { IfSome result
+            (λ ahead. ahead.now ≡ drop (place_of self.now from) (source_of self.now)) }
+        ensures source { IfSome result
+            (λ ahead. take (to - from) ahead.now
+            ≡ slice (source_of self.now) (place_of self.now from)
+            (place_of self.now (to - 1) + 1)) }
+        ensures text { IfSome result
+            (λ ahead. take (to - from) ahead.now ≡ slice (text_of self.now) from to) }
         ensures ends { IfSome result (λ ahead. IsCharBoundary ahead.now (to - from)) }
-        ensures apart { result ≡ None → place_of self.now (to - 1) + 1 ≢ place_of self.now from + (to - from) }
+        ensures apart { result ≡ None
+            → place_of self.now (to - 1) + 1 ≢ place_of self.now from + (to - from) }
     {
         let range = self.range(from, to);
         if range.end - range.start == to - from {
@@ -166,7 +177,8 @@ impl<'a> LeafText<'a> {
     pub fn source_between(&self, from: usize, to: usize) -> &'a str
         requires read { IsRead self.now }
         requires part { IsPart (text_of self.now) from to }
-        ensures { result.now ≡ slice (source_of self.now) (place_of self.now from) (place_of self.now (to - 1) + 1) }
+        ensures { result.now
+            ≡ slice (source_of self.now) (place_of self.now from) (place_of self.now (to - 1) + 1) }
     {
         let bytes = self.range(from, to);
         &self.source[bytes.start..bytes.end]
@@ -178,7 +190,8 @@ impl<'a> LeafText<'a> {
         requires read { IsRead self.now }
         requires part { IsPart (text_of self.now) from to }
         ensures start { result.start ≡ place_of self.now from }
-        ensures end { place_of self.now from < end → IsCharBoundary (source_of self.now) end → result.end ≡ end }
+        ensures end { place_of self.now from < end → IsCharBoundary (source_of self.now) end
+            → result.end ≡ end }
         ensures part { IsPart (source_of self.now) result.start result.end }
     {
         let bytes = self.range(from, to);
@@ -227,9 +240,13 @@ impl<'a> LeafText<'a> {
     fn push_lines(&mut self, lines: &[LeafLine]) -> Result<(), AllocError>
         requires none { self.old.stretches.items ≡ [] }
         requires lines { AreLines (source_of self.old) 0 lines.now }
-        ensures stretches { OnOk result (AreStretches (source_of self.old) 0 0 self.new.stretches.items) }
-        ensures text { OnOk result (joined (source_of self.old) self.new.stretches.items ≡ leaf_bytes (source_of self.old) lines.now) }
-        ensures places { OnOk result (StandAs (source_of self.old) lines.now self.new.stretches.items) }
+        ensures stretches { OnOk result
+            (AreStretches (source_of self.old) 0 0 self.new.stretches.items) }
+        ensures text { OnOk result
+            (joined (source_of self.old) self.new.stretches.items
+            ≡ leaf_bytes (source_of self.old) lines.now) }
+        ensures places { OnOk result
+            (StandAs (source_of self.old) lines.now self.new.stretches.items) }
         ensures source { source_of self.new ≡ source_of self.old }
         ensures succeeds { lines.now ≡ [] → IsOk result }
         ensures same { lines.now ≡ [] → self.new ≡ self.old }
@@ -260,11 +277,18 @@ impl<'a> LeafText<'a> {
         end: usize,
     ) -> Result<Stretch, AllocError>
         requires open { IsOpen (source_of self.old) self.old.stretches.items opened }
-        requires part { IsLine (source_of self.old) opened.end (record { start = start; content_end = end; line_end = end }) }
-        ensures open { IfOk result (λ next. IsOpen (source_of self.old) self.new.stretches.items next) }
+        requires part { IsLine (source_of self.old) opened.end
+            (record { start = start; content_end = end; line_end = end }) }
+        ensures open { IfOk result
+            (λ next. IsOpen (source_of self.old) self.new.stretches.items next) }
         ensures end { IfOk result (λ next. next.end ≡ end) }
-        ensures text { IfOk result (λ next. joined (source_of self.old) (self.new.stretches.items ++ (next ∷ [])) ≡ joined (source_of self.old) (self.old.stretches.items ++ (opened ∷ [])) ++ slice (source_of self.old) start end) }
-        ensures places { IfOk result (λ next. PlacesMore (source_of self.old) (self.old.stretches.items ++ (opened ∷ [])) start (end - start) (self.new.stretches.items ++ (next ∷ []))) }
+        ensures text { IfOk result
+            (λ next. joined (source_of self.old) (self.new.stretches.items ++ (next ∷ []))
+            ≡ joined (source_of self.old) (self.old.stretches.items ++ (opened ∷ [])) ++ slice
+            (source_of self.old) start end) }
+        ensures places { IfOk result
+            (λ next. PlacesMore (source_of self.old) (self.old.stretches.items ++ (opened ∷ []))
+            start (end - start) (self.new.stretches.items ++ (next ∷ []))) }
         ensures source { source_of self.new ≡ source_of self.old }
     {
         if opened.end == start {
@@ -309,7 +333,8 @@ fn end_in_leaf(line: &LeafLine, others: &[LeafLine]) -> usize
 // Appends the bytes of the stretches.
 fn copy_stretches(out: &mut String, source: &str, stretches: &[Stretch]) -> Result<(), AllocError>
     requires { AreStretches source.now 0 0 stretches.now }
-    ensures { OnOk result (string_bytes out.new ≡ string_bytes out.old ++ joined source.now stretches.now) }
+    ensures { OnOk result
+        (string_bytes out.new ≡ string_bytes out.old ++ joined source.now stretches.now) }
 {
     for stretch in stretches {
         out.push_str(&source[stretch.start..stretch.end])?;

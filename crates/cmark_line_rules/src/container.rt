@@ -74,7 +74,8 @@ impl Container {
     /// the first line of an item or a definition, and blank after the marker; then a blank line ends the container (CommonMark 5.2).
     #[inline(always)]
     pub fn keeps<'a>(self, bare: bool, rest: LineRest<'a>) -> Option<LineRest<'a>>
-        ensures row { (k : grammar.Container) → Shows self k → option_map row_of result ≡ keeps k bare (row_of rest.entry) }
+        ensures row { (k : grammar.Container) → Shows self k
+            → option_map row_of result ≡ keeps k bare (row_of rest.entry) }
         ensures placed { (text : List ℕ) → IsIn text rest.entry → IfSome result (IsIn text) }
     {
         if bare && rest.is_blank() {
@@ -98,7 +99,8 @@ pub(crate) fn container_start<'a>(
     options: Options,
 ) -> Option<ContainerStart<'a>>
     requires { words.now ≡ words_of (row_of rest) }
-    ensures container { option_map (shown_start (shown_options options) (row_of rest.entry)) result ≡ begun_container (shown_options options) (row_of rest.entry) }
+    ensures container { option_map (shown_start (shown_options options) (row_of rest.entry)) result
+        ≡ begun_container (shown_options options) (row_of rest.entry) }
     ensures inside { IfSome result (Enters (row_of rest.entry)) }
     ensures marker { IfSome result (HasMarker (row_of rest.entry)) }
 {
@@ -116,7 +118,8 @@ fn footnote_or_marker_start<'a>(
     options: Options,
 ) -> Option<ContainerStart<'a>>
     requires { words.now ≡ words_of (row_of rest) }
-    ensures container { option_map (shown_start (shown_options options) (row_of rest.entry)) result ≡ begun_container (shown_options options) (row_of rest.entry) }
+    ensures container { option_map (shown_start (shown_options options) (row_of rest.entry)) result
+        ≡ begun_container (shown_options options) (row_of rest.entry) }
     ensures inside { IfSome result (Enters (row_of rest.entry)) }
     ensures marker { IfSome result (HasMarker (row_of rest.entry)) }
 {
@@ -130,7 +133,8 @@ fn footnote_or_marker_start<'a>(
 /// (this profile's own).
 #[inline]
 fn footnote_start<'a>(rest: LineRest<'a>, options: Options) -> Option<ContainerStart<'a>>
-    ensures container { option_map (shown_start (shown_options options) (row_of rest.entry)) result ≡ begun_footnote (shown_options options) (row_of rest.entry) }
+    ensures container { option_map (shown_start (shown_options options) (row_of rest.entry)) result
+        ≡ begun_footnote (shown_options options) (row_of rest.entry) }
     ensures inside { IfSome result (Enters (row_of rest.entry)) }
     ensures marker { IfSome result (HasMarker (row_of rest.entry)) }
 {
@@ -146,7 +150,9 @@ fn footnote_start<'a>(rest: LineRest<'a>, options: Options) -> Option<ContainerS
 #[inline(always)]
 fn marker_start<'a>(rest: LineRest<'a>, words: &[u8]) -> Option<ContainerStart<'a>>
     requires { words.now ≡ words_of (row_of rest) }
-    ensures container { (options : profile.Options) → option_map (shown_start options (row_of rest.entry)) result ≡ begun_marked options (row_of rest.entry) }
+    ensures container { (options : profile.Options)
+        → option_map (shown_start options (row_of rest.entry)) result
+        ≡ begun_marked options (row_of rest.entry) }
     ensures inside { IfSome result (Enters (row_of rest.entry)) }
     ensures marker { IfSome result (HasMarker (row_of rest.entry)) }
 {
@@ -163,7 +169,9 @@ fn marker_start<'a>(rest: LineRest<'a>, words: &[u8]) -> Option<ContainerStart<'
 #[inline(always)]
 fn block_quote_start<'a>(rest: LineRest<'a>) -> Option<ContainerStart<'a>>
     requires { begins_with 62 (words_of (row_of rest)) ≡ true }
-    ensures container { (options : profile.Options) → option_map (shown_start options (row_of rest.entry)) result ≡ begun_marked options (row_of rest.entry) }
+    ensures container { (options : profile.Options)
+        → option_map (shown_start options (row_of rest.entry)) result
+        ≡ begun_marked options (row_of rest.entry) }
     ensures inside { IfSome result (Enters (row_of rest.entry)) }
     ensures marker { IfSome result (HasMarker (row_of rest.entry)) }
 {
@@ -176,7 +184,9 @@ fn block_quote_start<'a>(rest: LineRest<'a>) -> Option<ContainerStart<'a>>
 #[inline(always)]
 fn item_start<'a>(rest: LineRest<'a>) -> Option<ContainerStart<'a>>
     requires { begins_with 62 (words_of (row_of rest)) ≡ false }
-    ensures container { (options : profile.Options) → option_map (shown_start options (row_of rest.entry)) result ≡ begun_marked options (row_of rest.entry) }
+    ensures container { (options : profile.Options)
+        → option_map (shown_start options (row_of rest.entry)) result
+        ≡ begun_marked options (row_of rest.entry) }
     ensures inside { IfSome result (Enters (row_of rest.entry)) }
     ensures marker { IfSome result (HasMarker (row_of rest.entry)) }
 {

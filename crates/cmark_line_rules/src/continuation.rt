@@ -48,7 +48,9 @@ impl CodeOrHtml {
     /// the block.
     #[inline(always)]
     pub fn continuation(self, rest: LineRest<'_>) -> Continuation
-        ensures { (info : List ℕ) → shown_continuation result ≡ continuation_in (shown_code_or_html info self) (row_of rest.entry) }
+        ensures { (info : List ℕ)
+            → shown_continuation result
+            ≡ continuation_in (shown_code_or_html info self) (row_of rest.entry) }
     {
         match self {
             CodeOrHtml::Indented => code_continuation(rest),
@@ -79,7 +81,8 @@ fn code_continuation(rest: LineRest<'_>) -> Continuation
 /// The effect of the line on a code block whose fence has `run_length` of this byte (CommonMark 4.5).
 #[inline]
 fn fence_continuation(rest: LineRest<'_>, delimiter: u8, run_length: usize) -> Continuation
-    ensures { shown_continuation result ≡ fenced_continuation delimiter run_length (row_of rest.entry) }
+    ensures { shown_continuation result
+        ≡ fenced_continuation delimiter run_length (row_of rest.entry) }
 {
     if rest.indent_upto(4) < 4 && scan_closing_code_fence(rest.words(), delimiter, run_length) {
         Continuation::Closes
@@ -116,7 +119,10 @@ fn html_continuation(rest: LineRest<'_>, kind: HtmlKind) -> Continuation
 /// before a later line (CommonMark 4.6).
 #[inline]
 pub fn ends_at_once(kind: HtmlKind, rest: LineRest<'_>) -> bool
-    ensures { result ≡ (nat_le (kind_number kind) 5 && holds_end (kind_number kind) (words_of (row_of rest.entry))) }
+    ensures { result
+        ≡
+        (nat_le (kind_number kind) 5 && holds_end (kind_number kind)
+        (words_of (row_of rest.entry))) }
 {
     holds_end(rest.words(), kind)
 }

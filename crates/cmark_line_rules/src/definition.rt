@@ -23,9 +23,11 @@ pub fn reads_definition_lists(options: Options) -> bool
 /// only after a paragraph or another definition.
 #[inline]
 pub fn definition_start<'a>(rest: LineRest<'a>, options: Options) -> Option<(usize, LineRest<'a>)>
-    ensures width { option_map width_of result ≡ definition_marker (shown_options options) (row_of rest.entry) }
+    ensures width { option_map width_of result
+        ≡ definition_marker (shown_options options) (row_of rest.entry) }
     ensures inside { IfSome result (EntersDefinition (row_of rest.entry)) }
-    ensures placed { (text : List ℕ) → IsIn text rest.entry → IfSome result (λ begun. IsIn text begun.1) }
+    ensures placed { (text : List ℕ) → IsIn text rest.entry
+        → IfSome result (λ begun. IsIn text begun.1) }
 {
     if !reads_definition_lists(options) {
         return None;

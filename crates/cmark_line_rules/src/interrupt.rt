@@ -25,7 +25,8 @@ use cmark_values::{HeadingLevel, Options};
 /// is not 1, does not interrupt a paragraph of the same container. A footnote definition interrupts only in GitHub's style. The block that
 /// the line would begin can differ: lines with four columns of indent and HTML blocks of kind 7 begin blocks, but interrupt no paragraph.
 pub fn interrupts(rest: LineRest<'_>, same: bool, options: Options) -> bool
-    ensures { (ahead : List Row) → result ≡ interrupts (shown_options options) same (row_of rest.entry) ahead }
+    ensures { (ahead : List Row)
+        → result ≡ interrupts (shown_options options) same (row_of rest.entry) ahead }
 {
     let words = rest.words();
     if begins_with_letter_or_pipe(words) {
@@ -42,7 +43,8 @@ pub fn interrupts(rest: LineRest<'_>, same: bool, options: Options) -> bool
 /// Whether the line begins a footnote definition that interrupts a paragraph (this profile's own).
 #[inline]
 fn footnote_interrupts(rest: LineRest<'_>, options: Options) -> bool
-    ensures { result ≡ footnote_interrupts (footnotes_in (shown_options options)) (row_of rest.entry) }
+    ensures { result
+        ≡ footnote_interrupts (footnotes_in (shown_options options)) (row_of rest.entry) }
 {
     reads_gfm_footnotes(options) && rest.after_footnote_marker().is_some()
 }

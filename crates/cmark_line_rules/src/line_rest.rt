@@ -37,13 +37,17 @@ impl<'a> LineRest<'a> {
     #[inline(always)]
     pub fn new(text: &'a [u8], start: usize) -> LineRest<'a>
         requires { start ≤ length text.now }
-        ensures line { (line : List ℕ) (more : List (List ℕ)) → lines (drop start text.entry.now) ≡ line ∷ more → row_of result ≡ row_at start line }
-        ensures further { start < length text.entry.now → rows_from start (lines (drop start text.entry.now))
-            ≡ row_of result ∷ rows_from (row_of result).line_end (lines (drop (row_of result).line_end text.entry.now)) }
+        ensures line { (line : List ℕ) (more : List (List ℕ))
+            → lines (drop start text.entry.now) ≡ line ∷ more → row_of result ≡ row_at start line }
+        ensures further { start < length text.entry.now
+            → rows_from start (lines (drop start text.entry.now))
+            ≡ row_of result ∷ rows_from (row_of result).line_end
+            (lines (drop (row_of result).line_end text.entry.now)) }
         ensures none { start ≡ length text.entry.now → row_of result ≡ no_row start }
         ensures ahead { start < length text.entry.now → start < (row_of result).line_end }
         ensures within { (row_of result).line_end ≤ length text.entry.now }
-        ensures placed { IsUtf8 text.entry.now → IsCharBoundary text.entry.now start → IsIn text.entry.now result }
+        ensures placed { IsUtf8 text.entry.now → IsCharBoundary text.entry.now start
+            → IsIn text.entry.now result }
     {
         let bytes = &text[start..];
         let front = LineStart::new(bytes);
@@ -58,7 +62,8 @@ impl<'a> LineRest<'a> {
     /// This line with another rest.
     #[inline]
     fn with_front(self, front: LineStart<'a>) -> LineRest<'a>
-        requires { (row_from self.start self.line_end front).content_end ≡ (row_of self).content_end }
+        requires { (row_from self.start self.line_end front).content_end
+            ≡ (row_of self).content_end }
         ensures { row_of result ≡ row_from self.entry.start self.entry.line_end front.entry }
     {
         let LineRest {
@@ -154,7 +159,9 @@ impl<'a> LineRest<'a> {
     #[inline(always)]
     pub(crate) fn words_unless_blank(&self) -> Option<&'a [u8]>
         ensures blank { result ≡ None → is_blank_line (row_of self.now) ≡ true }
-        ensures words { IfSome result (λ words. (is_blank_line (row_of self.now) ≡ false) × (words.now ≡ words_of (row_of self.now))) }
+        ensures words { IfSome result
+            (λ words. (is_blank_line (row_of self.now) ≡ false)
+            × (words.now ≡ words_of (row_of self.now))) }
     {
         let mut following = self.front;
         following.scan_all_space();
@@ -192,7 +199,8 @@ impl<'a> LineRest<'a> {
     /// The line without the spaces and tabs at the beginning, at most `n` columns of them.
     #[inline]
     pub fn without_indent_upto(self, n: usize) -> LineRest<'a>
-        ensures row { row_of result ≡ without (min n (indent_of (row_of self.entry))) (row_of self.entry) }
+        ensures row { row_of result
+            ≡ without (min n (indent_of (row_of self.entry))) (row_of self.entry) }
         ensures placed { (text : List ℕ) → IsIn text self.entry → IsIn text result }
     {
         let mut front = self.front;

@@ -15,7 +15,8 @@ use cmark_values::{MetadataBlockKind, Options};
 /// be on. The line is in no container, and consists of `---` or `+++` from its first column on, and then only blanks.
 #[inline]
 pub fn metadata_kind(rest: LineRest<'_>, options: Options) -> Option<MetadataBlockKind>
-    ensures { option_map shown_metadata_block_kind result ≡ metadata_kind (shown_options options) (row_of rest.entry) }
+    ensures { option_map shown_metadata_block_kind result
+        ≡ metadata_kind (shown_options options) (row_of rest.entry) }
 {
     if !reads_metadata(options) || !rest.is_whole() {
         return None;
@@ -39,7 +40,8 @@ pub fn ends_metadata(rest: LineRest<'_>, kind: MetadataBlockKind) -> bool
 /// Whether metadata blocks of any kind are read.
 #[inline]
 fn reads_metadata(options: Options) -> bool
-    ensures { (kind : Option grammar.MetadataBlockKind) → result ≡ false → metadata_if (shown_options options) kind ≡ None }
+    ensures { (kind : Option grammar.MetadataBlockKind) → result ≡ false
+        → metadata_if (shown_options options) kind ≡ None }
 {
     options.contains(Options::ENABLE_YAML_STYLE_METADATA_BLOCKS)
         || options.contains(Options::ENABLE_PLUSES_DELIMITED_METADATA_BLOCKS)

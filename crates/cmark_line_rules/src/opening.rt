@@ -56,15 +56,18 @@ pub enum Opening<'a> {
 /// The opening of the line, if it begins no metadata. A line that is indented by four columns or more begins an indented code block,
 /// unless it is blank. With less indent, a container's marker comes first, then the leaf blocks.
 pub fn what_opens<'a>(rest: LineRest<'a>, options: Options) -> Opening<'a>
-    ensures opens { (ahead : List Row) → opens (shown_options options) (row_of rest.entry) ahead
-        ≡ or_else (metadata_begun (metadata_kind (shown_options options) (row_of rest.entry)) ahead) (opened (shown_options options) result (row_of rest.entry) ahead) }
+    ensures opens { (ahead : List Row)
+        → opens (shown_options options) (row_of rest.entry) ahead
+        ≡ or_else (metadata_begun (metadata_kind (shown_options options) (row_of rest.entry)) ahead)
+        (opened (shown_options options) result (row_of rest.entry) ahead) }
     ensures inside { HasInside result (row_of rest.entry) }
     ensures shorter { InsideIsShorter result (row_of rest.entry) }
     ensures marker { IsMarked result (row_of rest.entry) }
     ensures info { HasInfo result (row_of rest.entry) }
     ensures bracket { HasBracket result (row_of rest.entry) }
     ensures placed { (text : List ℕ) → IsIn text rest.entry → InsideIsIn text result }
-    ensures info_placed { (text : List ℕ) → IsIn text rest.entry → InfoIsIn text result (row_of rest.entry) }
+    ensures info_placed { (text : List ℕ) → IsIn text rest.entry
+        → InfoIsIn text result (row_of rest.entry) }
 {
     let Some(words) = rest.words_unless_blank() else {
         return Opening::Blank;
@@ -91,7 +94,8 @@ fn leaf_opening<'a>(words: &[u8], indent: usize, options: Options) -> Opening<'a
     ensures info { (r : Row) → words_of r ≡ words.now → HasInfo result r }
     ensures bracket { (r : Row) → words_of r ≡ words.now → HasBracket result r }
     ensures placed { (text : List ℕ) → InsideIsIn text result }
-    ensures info_placed { (text : List ℕ) (r : Row) → words_of r ≡ words.now → CutsNoCharacter text r → InfoIsIn text result r }
+    ensures info_placed { (text : List ℕ) (r : Row) → words_of r ≡ words.now
+        → CutsNoCharacter text r → InfoIsIn text result r }
 {
     if may_begin_link(words, options) {
         return Opening::Bracket;
@@ -147,7 +151,8 @@ pub(crate) fn heading_in(words: &[u8]) -> Option<HeadingLevel>
 /// The code fence that the words of a line are, if they open a code block.
 #[inline(always)]
 pub(crate) fn fence_in(words: &[u8]) -> Option<CodeFence>
-    ensures fence { (indent : ℕ) → option_map (shown_fence indent words.now) result ≡ fence_of indent words.now }
+    ensures fence { (indent : ℕ)
+        → option_map (shown_fence indent words.now) result ≡ fence_of indent words.now }
     ensures place { IfSome result (HasPlace words.now) }
 {
     match words {
@@ -160,7 +165,10 @@ pub(crate) fn fence_in(words: &[u8]) -> Option<CodeFence>
 /// `^` and has more bytes is not a link's.
 #[inline]
 fn may_begin_link(words: &[u8], options: Options) -> bool
-    ensures { result ≡ (begins_with 91 words.now && not (begins_no_link (footnotes_in (shown_options options)) words.now)) }
+    ensures { result
+        ≡
+        (begins_with 91 words.now && not
+        (begins_no_link (footnotes_in (shown_options options)) words.now)) }
 {
     begins_with_bracket(words) && !(reads_footnotes(options) && begins_footnote_label(words))
 }
@@ -190,7 +198,10 @@ fn begins_footnote_label(words: &[u8]) -> bool
 /// Whether a line begins with an ASCII letter, without indent. If no definition may begin, such a line begins a table or a paragraph.
 #[inline]
 pub fn begins_with_text(rest: LineRest<'_>) -> bool
-    ensures { result ≡ ((indent_of (row_of rest.entry) == 0) && first_is is_letter (words_of (row_of rest.entry))) }
+    ensures { result
+        ≡
+        ((indent_of (row_of rest.entry) == 0) && first_is is_letter
+        (words_of (row_of rest.entry))) }
 {
     rest.indent_upto(1) == 0 && rest.begins_with_letter()
 }
@@ -199,7 +210,11 @@ pub fn begins_with_text(rest: LineRest<'_>) -> bool
 /// table or a paragraph.
 #[inline]
 pub fn begins_with_label(rest: LineRest<'_>, options: Options) -> bool
-    ensures { result ≡ ((indent_of (row_of rest.entry) == 0) && (begins_with 91 (words_of (row_of rest.entry)) && not (are_read (footnotes_in (shown_options options))))) }
+    ensures { result
+        ≡
+        ((indent_of (row_of rest.entry) == 0) &&
+        (begins_with 91 (words_of (row_of rest.entry)) && not
+        (are_read (footnotes_in (shown_options options))))) }
 {
     rest.indent_upto(1) == 0 && begins_with_bracket(rest.words()) && !reads_footnotes(options)
 }

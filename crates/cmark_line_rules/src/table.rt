@@ -11,7 +11,10 @@ use cmark_scan_lines::{count_cells, count_delimiter_cells, holds_pipe};
 
 /// The number of cells of the line, if it may be a table's head: if it contains a pipe that separates cells.
 pub fn head_cells(rest: LineRest<'_>) -> Option<usize>
-    ensures { result ≡ (if holds_pipe (words_of (row_of rest.entry)) then Some (count_cells (row_of rest.entry)) else None) }
+    ensures { result
+        ≡
+        (if holds_pipe (words_of (row_of rest.entry)) then Some (count_cells (row_of rest.entry))
+        else None) }
 {
     let words = rest.words();
     if holds_pipe(words) {
@@ -23,7 +26,8 @@ pub fn head_cells(rest: LineRest<'_>) -> Option<usize>
 
 /// Whether the line is the delimiter row of a table with `columns` columns, indented by at most three columns.
 pub fn is_delimiter_row(rest: LineRest<'_>, columns: usize) -> bool
-    ensures { (ahead : List Row) → result ≡ is_some_head (delimited_ahead columns (row_of rest.entry ∷ ahead)) }
+    ensures { (ahead : List Row)
+        → result ≡ is_some_head (delimited_ahead columns (row_of rest.entry ∷ ahead)) }
 {
     if rest.indent_upto(4) == 4 {
         return false;
@@ -36,7 +40,10 @@ pub fn is_delimiter_row(rest: LineRest<'_>, columns: usize) -> bool
 
 /// Whether the line begins with a pipe, indented by at most three columns, so that a table with this head interrupts a paragraph.
 pub fn begins_with_pipe(rest: LineRest<'_>) -> bool
-    ensures { result ≡ (nat_le (indent_of (row_of rest.entry)) 3 && grammar.begins_with_pipe (words_of (row_of rest.entry))) }
+    ensures { result
+        ≡
+        (nat_le (indent_of (row_of rest.entry)) 3 && grammar.begins_with_pipe
+        (words_of (row_of rest.entry))) }
 {
     rest.indent_upto(4) < 4 && matches!(rest.words(), [b'|', ..])
 }

@@ -42,8 +42,10 @@ fn following(read: Read<'_>) -> &str
 
 /// The definition without a title, if the rest of the line after the destination is blank.
 fn untitled<'a>(label: &'a str, destination: Part<'a>) -> Option<Read<'a>>
-    ensures value { option_map shown_read result ≡ untitled label.entry.now (shown_part destination.entry) }
-    ensures rest { IfSome result (λ read. IsRest destination.entry.following.now read.following.now) }
+    ensures value { option_map shown_read result
+        ≡ untitled label.entry.now (shown_part destination.entry) }
+    ensures rest { IfSome result
+        (λ read. IsRest destination.entry.following.now read.following.now) }
 {
     if !is_line_done(destination.following) {
         return None;
@@ -59,8 +61,11 @@ fn untitled<'a>(label: &'a str, destination: Part<'a>) -> Option<Read<'a>>
 /// The definition with the title after the destination, if white space separates the two and the rest of the title's line is blank; else
 /// the definition without a title.
 fn titled<'a>(label: &'a str, destination: Part<'a>) -> Option<Read<'a>>
-    ensures value { option_map shown_read result ≡ titled label.entry.now (shown_part destination.entry) (title_in (after_separator destination.entry.following.now)) }
-    ensures rest { IfSome result (λ read. IsRest destination.entry.following.now read.following.now) }
+    ensures value { option_map shown_read result
+        ≡ titled label.entry.now (shown_part destination.entry)
+        (title_in (after_separator destination.entry.following.now)) }
+    ensures rest { IfSome result
+        (λ read. IsRest destination.entry.following.now read.following.now) }
 {
     let following = after_separator(destination.following);
     let Some(title) = title_in(following) else {
@@ -79,7 +84,8 @@ fn titled<'a>(label: &'a str, destination: Part<'a>) -> Option<Read<'a>>
 
 /// The definition of a label whose colon precedes this text.
 fn with_destination<'a>(label: &'a str, text: &'a str) -> Option<Read<'a>>
-    ensures value { option_map shown_read result ≡ with_destination label.entry.now (destination_in (after_separator text.entry.now)) }
+    ensures value { option_map shown_read result
+        ≡ with_destination label.entry.now (destination_in (after_separator text.entry.now)) }
     ensures rest { IfSome result (λ read. IsRest text.entry.now read.following.now) }
 {
     titled(label, destination_in(after_separator(text))?)
@@ -98,7 +104,8 @@ fn read_definition(paragraph: &str) -> Option<Read<'_>>
 /// destination, and perhaps a title. `paragraph` is the text of a paragraph, or the rest of it from the beginning of a line. It has no
 /// prefixes of containers, and its first line has no indent. Line endings separate its lines.
 pub fn scan_definition(paragraph: &str) -> Option<Definition<'_>>
-    ensures value { option_map (shown_definition paragraph.entry.now) result ≡ definition_in paragraph.entry.now }
+    ensures value { option_map (shown_definition paragraph.entry.now) result
+        ≡ definition_in paragraph.entry.now }
     ensures ends { IfSome result (λ definition. IsCharBoundary paragraph.entry.now definition.end) }
 {
     let read = read_definition(paragraph)?;

@@ -23,7 +23,8 @@ fn owned_text<E: EntityLookup>(
     text: CowStr<'_>,
     entities: &E,
 ) -> Result<CowStr<'static>, AllocError>
-    ensures { IfOk result (λ made. text_bytes made ≡ resolved (E.replacement entities.now) (text_bytes text.entry)) }
+    ensures { IfOk result
+        (λ made. text_bytes made ≡ resolved (E.replacement entities.now) (text_bytes text.entry)) }
 {
     unescape(alloc, text, false, entities)?.into_static(alloc)
 }
@@ -34,7 +35,9 @@ fn owned_title<E: EntityLookup>(
     title: Option<&str>,
     entities: &E,
 ) -> Result<Option<CowStr<'static>>, AllocError>
-    ensures { IfOk result (λ made. option_map text_bytes made ≡ title_of (E.replacement entities.now) (option_copied title.entry)) }
+    ensures { IfOk result
+        (λ made. option_map text_bytes made
+        ≡ title_of (E.replacement entities.now) (option_copied title.entry)) }
 {
     let Some(title) = title else {
         return Ok(None);
@@ -52,7 +55,9 @@ pub fn link_definition<E: EntityLookup>(
     span: Range<usize>,
     entities: &E,
 ) -> Result<(LinkLabel, LinkDef<'static>), AllocError>
-    ensures value { IfOk result (λ made. shown_entry made ≡ reference_of (E.replacement entities.now) (written definition.now) span.start span.end) }
+    ensures value { IfOk result
+        (λ made. shown_entry made
+        ≡ reference_of (E.replacement entities.now) (written definition.now) span.start span.end) }
     ensures key { IfOk result (λ made. link_key made.0 ≡ fold definition.now.label.now) }
 {
     let label = LinkLabel::new(alloc, definition.label)?;

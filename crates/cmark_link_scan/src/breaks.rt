@@ -36,7 +36,8 @@ struct Parting<'t> {
 fn backslash_break_in(text: &str) -> Option<Parting<'_>>
     ensures value { option_map shown_parting result ≡ backslash_break_in text.entry.now }
     ensures rest { IfSome result (λ parting. IsRest text.entry.now parting.following.now) }
-    ensures ordered { IfSome result (λ parting. parting.before + length parting.following.now < length text.entry.now) }
+    ensures ordered { IfSome result
+        (λ parting. parting.before + length parting.following.now < length text.entry.now) }
     ensures starts { IfSome result (λ parting. IsCharBoundary text.entry.now parting.before) }
 {
     let following = after_ending(after_byte(b'\\', text)?)?;
@@ -66,7 +67,8 @@ fn blanks_before<'t>(text: &'t str, here: &str) -> &'t [u8]
 fn blank_break_in(text: &str) -> Option<Parting<'_>>
     ensures value { option_map shown_parting result ≡ blank_break_in text.entry.now }
     ensures rest { IfSome result (λ parting. IsRest text.entry.now parting.following.now) }
-    ensures ordered { IfSome result (λ parting. parting.before + length parting.following.now < length text.entry.now) }
+    ensures ordered { IfSome result
+        (λ parting. parting.before + length parting.following.now < length text.entry.now) }
     ensures starts { IfSome result (λ parting. IsCharBoundary text.entry.now parting.before) }
 {
     let here = after_leading_blanks(text);
@@ -85,7 +87,8 @@ fn blank_break_in(text: &str) -> Option<Parting<'_>>
 fn parting_in(text: &str) -> Option<Parting<'_>>
     ensures value { option_map shown_parting result ≡ line_break_in text.entry.now }
     ensures rest { IfSome result (λ parting. IsRest text.entry.now parting.following.now) }
-    ensures ordered { IfSome result (λ parting. parting.before + length parting.following.now < length text.entry.now) }
+    ensures ordered { IfSome result
+        (λ parting. parting.before + length parting.following.now < length text.entry.now) }
     ensures starts { IfSome result (λ parting. IsCharBoundary text.entry.now parting.before) }
 {
     if let Some(parting) = backslash_break_in(text) {

@@ -39,7 +39,8 @@ pub struct ReferenceLabel<'t> {
 /// A label has 1 to 999 characters, not only white space, and no unescaped bracket.
 pub fn reference_label(text: &str, at: usize) -> Option<ReferenceLabel<'_>>
     requires { IsCharBoundary text.now at }
-    ensures value { option_map (shown_label text.entry.now) result ≡ reference_label_in (drop at text.entry.now) }
+    ensures value { option_map (shown_label text.entry.now) result
+        ≡ reference_label_in (drop at text.entry.now) }
     ensures further { IfSome result (λ label. at < label.end) }
     ensures ends { IfSome result (λ label. IsCharBoundary text.entry.now label.end) }
 {
@@ -54,7 +55,8 @@ pub fn reference_label(text: &str, at: usize) -> Option<ReferenceLabel<'_>>
 /// (CommonMark 6.3).
 pub fn collapsed_end(text: &str, at: usize) -> Option<usize>
     requires { IsCharBoundary text.now at }
-    ensures value { option_map (λ end. drop end text.now) result ≡ after_collapsed (drop at text.now) }
+    ensures value { option_map (λ end. drop end text.now) result
+        ≡ after_collapsed (drop at text.now) }
     ensures further { IfSome result (λ end. at < end) }
     ensures ends { IfSome result (λ end. IsCharBoundary text.now end) }
 {

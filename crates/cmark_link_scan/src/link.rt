@@ -50,7 +50,8 @@ fn closed_tail<'t>(
     title: Option<&'t str>,
     text: &'t str,
 ) -> Option<Inside<'t>>
-    ensures value { option_map shown_inside result ≡ closed_tail destination.entry.now (option_copied title.entry) text.entry.now }
+    ensures value { option_map shown_inside result
+        ≡ closed_tail destination.entry.now (option_copied title.entry) text.entry.now }
     ensures rest { IfSome result (λ inside. IsRest text.entry.now inside.following.now) }
 {
     let following = after_byte(b')', after_separator(text))?;
@@ -63,8 +64,11 @@ fn closed_tail<'t>(
 
 /// The content of the parentheses after a destination, with the title, if one follows.
 fn with_title(destination: Part<'_>) -> Option<Inside<'_>>
-    ensures value { option_map shown_inside result ≡ with_title (Some (shown_part destination.entry)) (title_in (after_separator destination.entry.following.now)) }
-    ensures rest { IfSome result (λ inside. IsRest destination.entry.following.now inside.following.now) }
+    ensures value { option_map shown_inside result
+        ≡ with_title (Some (shown_part destination.entry))
+        (title_in (after_separator destination.entry.following.now)) }
+    ensures rest { IfSome result
+        (λ inside. IsRest destination.entry.following.now inside.following.now) }
 {
     match title_in(after_separator(destination.following)) {
         Some(title) => closed_tail(destination.part, Some(title.part), title.following),
@@ -86,7 +90,8 @@ fn tail_inside(text: &str) -> Option<Inside<'_>>
 /// a title may also follow its destination directly (this profile's own).
 pub fn link_tail(text: &str, at: usize) -> Option<LinkTail<'_>>
     requires { IsCharBoundary text.now at }
-    ensures value { option_map (shown_tail text.entry.now) result ≡ link_tail_in (drop at text.entry.now) }
+    ensures value { option_map (shown_tail text.entry.now) result
+        ≡ link_tail_in (drop at text.entry.now) }
     ensures further { IfSome result (λ tail. at < tail.end) }
     ensures ends { IfSome result (λ tail. IsCharBoundary text.entry.now tail.end) }
 {

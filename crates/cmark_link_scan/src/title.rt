@@ -37,7 +37,9 @@ pub fn title_text<'t, E: EntityLookup>(
     is_in_table: bool,
     entities: &E,
 ) -> Result<CowStr<'t>, AllocError>
-    ensures { IfOk result (λ made. text_bytes made ≡ unescaped (E.replacement entities.now) is_in_table (title_lines false title.entry.now)) }
+    ensures { IfOk result
+        (λ made. text_bytes made
+        ≡ unescaped (E.replacement entities.now) is_in_table (title_lines false title.entry.now)) }
 {
     if find_line_end(title.as_bytes()).is_none() {
         return unescape(alloc, CowStr::Borrowed(title), is_in_table, entities);

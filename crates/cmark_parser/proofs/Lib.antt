@@ -1,3 +1,4 @@
+pub mod LineSteps
 pub mod ParseSteps
 pub mod RenderSteps
 pub mod SafeSteps

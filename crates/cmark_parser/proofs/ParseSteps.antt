@@ -46,12 +46,14 @@ use Rattle.cmark_references.specs.declared.definitions.LinkDef.{LinkDef}
 use Rattle.cmark_references.specs.declared.definitions.RefDefs.{RefDefs}
 use Rattle.cmark_references.specs.declared.footnotes.FootnoteDef.{FootnoteDef}
 use Rattle.cmark_event_walk.specs.Callback.{AnswersIfAny}
+use Rattle.cmark_inline_model.specs.PlainLines.{line_events}
 use Rattle.cmark_event_walk.specs.Walking as walking
 use Rattle.cmark_event_walk.specs.Walking.{ArePlaced}
 use Rattle.cmark_event_walk.specs.declared.callback.OptionalCallback.{OptionalCallback}
 use Rattle.cmark_values.specs.Labelled.{link_key}
 use Rattle.cmark_values.specs.Shown.{text_bytes}
 use Rattle.cmark_values.specs.declared.label.LinkLabel.{LinkLabel}
+use Rattle.cmark_text.specs.declared.short.Short.TheVariants as short
 use Rattle.cmark_text.specs.declared.short.Next.TheVariants as next
 use Rattle.cmark_text.specs.declared.short.Short.{Short}
 use Rattle.cmark_values.specs.declared.text.CowStr.{CowStr}
@@ -61,7 +63,7 @@ use Rattle.cmark_parser.specs.declared.parse.Parser.{Parser}
 use Rattle.cmark_parser.specs.Walking.{GoesOn, SomeLeft, reader_by}
 use Rattle.cmark_event_walk.specs.declared.coming.Coming.{Coming}
 use Rattle.cmark_event_walk.specs.declared.coming.Coming.TheVariants as coming
-use Rattle.cmark_parser.specs.Parsing.{CanGo, IsOver, GivesAs, GivesOrErr, GivesStart, GivesStep, IsCounted, Left, Passes, ReadsWithin, Remains, definitions, footnotes, events_left, is_last, link_to_come, link_unless, lookup_of, options_of, reader_for, text_of}
+use Rattle.cmark_parser.specs.Parsing.{CanGo, IsOver, GivesAs, GivesComing, GivesOrErr, GivesStart, GivesStep, IsCounted, Left, Passes, ReadsWithin, Remains, definitions, footnotes, events_left, is_last, link_to_come, link_unless, lookup_of, options_of, reader_for, text_of}
 
 -- ## Questions
 
@@ -297,10 +299,31 @@ module _ {E F : Type 0} (Says : F → BrokenLink → Option (CowStr × CowStr) �
         go None h = tt
         go (Some link) h = gives-start (shown_link link) n h less
 
-    gives-coming : (coming : Coming) → new.is_over ≡ is_last (Ok coming) → walking.GivesNext (SaysIfAny Says) replacement (reader_for replacement old) old.spans (walking.as_next coming) new.spans → walking.LeavesFewer old.spans (walking.as_next coming) new.spans
-        → GivesAs Says replacement old (walking.as_next coming) new
+    gives-coming : (coming : Coming) → new.is_over ≡ is_last (Ok coming) → walking.GivesComing (SaysIfAny Says) replacement (reader_for replacement old) old.spans coming new.spans → walking.LeavesFewerAfter old.spans coming new.spans
+        → GivesComing Says replacement old coming new
     gives-coming (coming.Span short start end) n h less = gives-short short start end n h less
     gives-coming (coming.Block short start end) n h less = gives-short short start end n h less
+    gives-coming (coming.Lines (short.Text text_of_lines) start end) n h less = record {
+      start = h.start;
+      lines = h.lines;
+      last = h.last;
+      bytes_are = h.text_is;
+      some = h.some;
+      passes = passes-of (line_events h.start h.lines h.last) old new e n same known h.passes;
+      fewer = let a = left-of old e in let b = left-of new n in omega (arith, a, b, less);
+      can = record { goes = goes replacement old new n same known h.passes.read_by; counted = counted };
+      text = text;
+      definitions = same;
+      footnotes = known;
+    }
+    gives-coming (coming.Lines (short.Start tag) start end) n h less = absurd h
+    gives-coming (coming.Lines (short.End tag) start end) n h less = absurd h
+    gives-coming (coming.Lines (short.Code bytes) start end) n h less = absurd h
+    gives-coming (coming.Lines (short.Html bytes) start end) n h less = absurd h
+    gives-coming (coming.Lines (short.InlineHtml bytes) start end) n h less = absurd h
+    gives-coming (coming.Lines short.SoftBreak start end) n h less = absurd h
+    gives-coming (coming.Lines short.HardBreak start end) n h less = absurd h
+    gives-coming (coming.Lines short.Rule start end) n h less = absurd h
     gives-coming coming.Long n h most = record {
       answers = record {
         passes = passes-of [] old new e n same known h;
@@ -324,8 +347,8 @@ module _ {E F : Type 0} (Says : F → BrokenLink → Option (CowStr × CowStr) �
       footnotes = known;
     }
 
-    pub gives-or-err : (o : Result Coming AllocError) → new.is_over ≡ is_last o → IfOk o (λ coming. walking.GivesNext (SaysIfAny Says) replacement (reader_for replacement old) old.spans (walking.as_next coming) new.spans)
-        → IfOk o (λ coming. walking.LeavesFewer old.spans (walking.as_next coming) new.spans)
+    pub gives-or-err : (o : Result Coming AllocError) → new.is_over ≡ is_last o → IfOk o (λ coming. walking.GivesComing (SaysIfAny Says) replacement (reader_for replacement old) old.spans coming new.spans)
+        → IfOk o (λ coming. walking.LeavesFewerAfter old.spans coming new.spans)
         → OnErr o ((reader : Reader) → walking.NoEndIsNext replacement reader old.spans) → OnErr o (walking.Stops (SaysIfAny Says) replacement (reader_for replacement old) old.spans new.spans) → GivesOrErr Says replacement old o new
     gives-or-err (Ok coming) n h less ends stops = gives-coming coming n h less
     gives-or-err (Err error) n h less ends stops = gives-error old new error e n ends stops text same known counted

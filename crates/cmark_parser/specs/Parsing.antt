@@ -1,5 +1,5 @@
 -- The events that a parser has left, and the definitions of links and of footnotes that it found.
-use Rattle.std.specs.Prelude.{◌≡◌, ◌<◌, ◌≤◌, ℕ, suc, Bool, true, false, if◌then◌else◌, List, [], ◌∷◌, ◌++◌, OnSome, is_some, IfSome, Option, None, Some, Result, Ok, Err}
+use Rattle.std.specs.Prelude.{◌≡◌, ◌<◌, ◌≤◌, ℕ, suc, Bool, true, false, if◌then◌else◌, List, [], ◌∷◌, ◌++◌, OnSome, is_some, IfSome, Option, None, Some, Result, Ok, Err, length}
 use Rattle.std.specs.Option.{ForSome}
 use Rattle.std.specs.declared.alloc.AllocError.{AllocError}
 use Rattle.std.specs.declared.ops.Range.{Range}
@@ -11,6 +11,7 @@ use Rattle.cmark_grammar.specs.Event.{Ranged, Start}
 use Rattle.cmark_grammar.specs.Headline.{usual_limit}
 use Rattle.cmark_grammar.specs.Labels.{fold}
 use Rattle.cmark_inline_model.specs.LeafSpans.{IsRange}
+use Rattle.cmark_inline_model.specs.PlainLines.{joined_lines, line_events}
 use Rattle.cmark_grammar.specs.Options.{Options}
 use Rattle.cmark_grammar.specs.Questions.{Exchange}
 use Rattle.cmark_grammar.specs.Readers.{Reader}
@@ -36,7 +37,9 @@ use Rattle.cmark_text.specs.declared.event.Event.{Event}
 use Rattle.cmark_text.specs.declared.short.Next.{Next}
 use Rattle.cmark_text.specs.declared.short.Next.TheVariants as next
 use Rattle.cmark_text.specs.declared.short.Short.{Short}
+use Rattle.cmark_text.specs.declared.short.Short.TheVariants as short
 use Rattle.cmark_text.specs.Short.{IsShortZeroCopy, ranged_short}
+use Rattle.cmark_text.specs.Excerpt.{excerpt_bytes}
 use Rattle.cmark_text.specs.Shown.{shown}
 use Rattle.cmark_text.specs.ZeroCopy.{IsZeroCopy}
 use Rattle.cmark_values.specs.declared.text.CowStr.{CowStr}
@@ -79,6 +82,7 @@ CutNone text (item ∷ items) = IsRange text item.1.start item.1.end × CutNone 
 abbrev pub is_last : Result Coming AllocError → Bool
 is_last (Ok (coming.Span short start end)) = false
 is_last (Ok (coming.Block short start end)) = false
+is_last (Ok (coming.Lines short start end)) = false
 is_last (Ok coming.Long) = false
 is_last (Ok coming.Over) = true
 is_last (Err e) = true
@@ -285,10 +289,43 @@ module _ {E F : Type 0} (Says : F → BrokenLink → Option (CowStr × CowStr) �
     pub definitions : definitions new ≡ definitions old
     pub footnotes : SameFootnotes (footnotes old) (footnotes new)
 
-  -- one call returns Short, Long or Over as above, or an error, after which the walk is over
+  -- the texts of several lines, with a soft break between two lines, are the first of the events that were left. These bytes are the lines
+  -- with a line feed between two of them; the last line is not empty
+  pub record GivesLines (old : Parser E F) (bytes : List ℕ) (new : Parser E F) : Type 0 where
+    pub start : ℕ
+    pub lines : List (List ℕ)
+    pub last : List ℕ
+    pub bytes_are : bytes ≡ joined_lines lines last
+    pub some : 0 < length last
+    pub passes : Passes (line_events start lines last) old new
+    pub fewer : events_left new < events_left old
+    pub can : CanGo replacement new
+    pub text : text_of new ≡ text_of old
+    pub definitions : definitions new ≡ definitions old
+    pub footnotes : SameFootnotes (footnotes old) (footnotes new)
+
+  -- the lines are given as a text
+  abbrev pub GivesAsText : Parser E F → Short → Parser E F → Type 0
+  GivesAsText old (short.Text text) new = GivesLines old (excerpt_bytes text) new
+  GivesAsText old _ new = ⊥
+
+  -- what a call returns of the spans and of the blocks: one event, or the events of several lines
+  abbrev pub GivesComing : Parser E F → Coming → Parser E F → Type 0
+  GivesComing old (coming.Span short start end) new = GivesAs old (next.Short short start end) new
+  GivesComing old (coming.Block short start end) new = GivesAs old (next.Short short start end) new
+  GivesComing old (coming.Lines short start end) new = GivesAsText old short new
+  GivesComing old coming.Long new = GivesAs old next.Long new
+  GivesComing old coming.Over new = GivesAs old next.Over new
+
+  -- one call returns events, Long or Over as above, or an error, after which the walk is over
   abbrev pub GivesOrErr : Parser E F → Result Coming AllocError → Parser E F → Type 0
-  GivesOrErr old (Ok coming) new = GivesAs old (walking.as_next coming) new
+  GivesOrErr old (Ok coming) new = GivesComing old coming new
   GivesOrErr old (Err e) new = GivesStep old (Some (Err e)) new
+
+  -- one call returns an event, Long or Over, or an error, after which the walk is over
+  abbrev pub GivesNextOrErr : Parser E F → Result Next AllocError → Parser E F → Type 0
+  GivesNextOrErr old (Ok next) new = GivesAs old next new
+  GivesNextOrErr old (Err e) new = GivesStep old (Some (Err e)) new
 
   -- the start of this link, with some range, is the first of the events that were left
   pub record GivesStart (old : Parser E F) (link : Linked) (new : Parser E F) : Type 0 where

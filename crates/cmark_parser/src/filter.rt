@@ -1,11 +1,11 @@
 //! Filters, which change events before they are written.
 
-ghost use Rattle.std.specs.Prelude.{◌≡◌, IfOk};
-ghost use Rattle.cmark_grammar.specs.Event.{Event as Shown, Start};
+ghost use Rattle.std.specs.Prelude.{◌≡◌, ℕ, List, IfOk};
+ghost use Rattle.cmark_grammar.specs.Event.{Event as Shown, SoftBreak, Start, Text};
 ghost use Rattle.cmark_grammar.specs.Tag.{Link, Linked};
 ghost use Rattle.cmark_text.specs.Short.{shown_short};
 ghost use Rattle.cmark_text.specs.Shown.{shown};
-ghost use Rattle.cmark_parser.specs.Filters.{filtered_by};
+ghost use Rattle.cmark_parser.specs.Filters.{filtered_by, keeps_soft_breaks, keeps_texts};
 ghost use Rattle.cmark_parser.specs.Rendering.{leads_to};
 
 use cmark_safe::{is_raw, safe_destination, safe_event, safe_short};
@@ -28,6 +28,11 @@ pub(crate) trait Filter {
     /// Returns the replacement of an event of any kind.
     fn event_of<'a>(&self, alloc: Global, event: Event<'a>) -> Result<Event<'a>, AllocError>
         ensures { IfOk result (λ made. shown made ≡ filtered self.now (shown event.entry)) };
+
+    /// A filter leaves texts and soft breaks as they are, so that several lines may be written at once.
+    ghost keeps_texts: { (filter : Self) (text : List ℕ) → filtered filter (Text text) ≡ Text text };
+
+    ghost keeps_soft_breaks: { (filter : Self) → filtered filter SoftBreak ≡ SoftBreak };
 }
 
 /// The two filters that a writer may have: what replaces each event before it is written. They are one type. With two types there would be two writers, and the compiler would inline the code
@@ -70,4 +75,8 @@ impl Filter for Filtering<'_> {
             Filtering::Safe(further) => safe_event(alloc, further, event),
         }
     }
+
+    ghost keeps_texts = { keeps_texts };
+
+    ghost keeps_soft_breaks = { keeps_soft_breaks };
 }

@@ -190,10 +190,12 @@ fn write_all<'a, E: EntityLookup, F: BrokenLinkCallback<'a> + Drop, T: Filter>(
         parser.new (written (writing writer.new) (string_bytes out.new))) }
 {
     loop {
-        match parser.next_short()? {
+        // The text of a metadata block is not written, but a soft break is. So the lines of a text are one text only outside of such a block.
+        match parser.next_short(!writer.in_metadata)? {
             // Each of the two calls is inlined for its own events: other events follow a span than follow a block.
             Coming::Span(short, _, _) => write_short(out, writer, filter.short_of(short))?,
             Coming::Block(short, _, _) => write_short(out, writer, filter.short_of(short))?,
+            Coming::Lines(text, _, _) => write_short(out, writer, text)?,
             Coming::Long => {
                 let is_given = write_long(out, writer, parser, filter)?;
                 if !is_given {

@@ -7,7 +7,6 @@ mod parse;
 mod rest;
 mod undefined;
 
-pub use cmark_event_walk::Coming;
 pub use filter::Filtering;
 pub use html::{to_filtered_html, to_html, to_html_within, to_safe_html, write_rest};
 pub use parse::{OffsetIter, Parser};

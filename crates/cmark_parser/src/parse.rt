@@ -1,11 +1,12 @@
 //! The parser: iterators over the events of a text's document.
 
-ghost use Rattle.std.specs.Prelude.{◌≡◌, ◌*◌, ◌≤◌, length, true, None, IfOk, is_some, option_copied, option_map};
+ghost use Rattle.std.specs.Prelude.{◌≡◌, ◌*◌, ◌≤◌, length, true, false, None, IfOk, is_some, option_copied, option_map};
 ghost use Rattle.std.specs.Iterator.{at_most};
 ghost use Rattle.std.specs.Option.{ForSome};
 ghost use Rattle.cmark_grammar.specs.Options.{no_options};
 ghost use Rattle.cmark_values.specs.Shown.{shown_options};
 ghost use Rattle.cmark_inline.specs.Counted.{total};
+ghost use Rattle.cmark_event_walk.specs.Walking.{are_lines};
 ghost use Rattle.cmark_parser.specs.Parsing.{is_last};
 
 use bitflags::Flags;
@@ -16,7 +17,7 @@ use cmark_inline::{
     BrokenLinkCallback, DefaultBrokenLinkCallback, LEAST_REFERENCE_EXPANSION_LIMIT, Steps,
 };
 use cmark_references::{FootnoteDefs, Link, RefDefs};
-use cmark_text::{EntityLookup, Event, Options, Ranged};
+use cmark_text::{EntityLookup, Event, Next, Options, Ranged};
 use std::alloc::{AllocError, Global};
 use std::mem;
 use std::ops::Range;
@@ -184,16 +185,18 @@ impl<'input, E: EntityLookup, F: BrokenLinkCallback<'input> + Drop> Parser<'inpu
     }
 
     // Like `next`, but builds no `Event`. An event that owns nothing is returned and consumed. Any other is reported as `Coming::Long` and
-    // left for `advance`. After an error (out of memory) the walk is over.
+    // left for `advance`. `joins` says whether the events of several plain lines may be returned at once, as `Coming::Lines`. After an error
+    // (out of memory) the walk is over.
     #[inline(always)]
-    pub(crate) fn next_short(&mut self) -> Result<Coming<'input>, AllocError>
+    pub(crate) fn next_short(&mut self, joins: bool) -> Result<Coming<'input>, AllocError>
         requires goes { CanGo E.replacement self.old }
         requires ready { IsReady F.ready self.old }
         ensures gives { GivesOrErr F.answers E.replacement self.old result self.new }
+        ensures joins { joins ≡ false → IfOk result (λ coming. are_lines coming ≡ false) }
         ensures ready { IsReady F.ready self.new }
     {
         if !self.is_over {
-            let given = self.spans.next_short();
+            let given = self.spans.next_short(joins);
             if is_last(&given) {
                 self.is_over = true;
             }
@@ -261,7 +264,9 @@ fn is_last(given: &Result<Coming<'_>, AllocError>) -> bool
     ensures { result ≡ is_last given.now }
 {
     match given {
-        Ok(Coming::Span(_, _, _) | Coming::Block(_, _, _) | Coming::Long) => false,
+        Ok(
+            Coming::Span(_, _, _) | Coming::Block(_, _, _) | Coming::Lines(_, _, _) | Coming::Long,
+        ) => false,
         Ok(Coming::Over) | Err(_) => true,
     }
 }
@@ -300,7 +305,7 @@ pub struct OffsetIter<'input, E, F = DefaultBrokenLinkCallback> {
 }
 
 impl<'input, E: EntityLookup, F: BrokenLinkCallback<'input> + Drop> OffsetIter<'input, E, F> {
-    ghost use Rattle.cmark_parser.specs.Parsing.{CanGoRanged, GivesOrErr, GivesStep, IsRangedReady, callback_of, ranged_definitions, ranged_steps, ranged_text, walk_of};
+    ghost use Rattle.cmark_parser.specs.Parsing.{CanGoRanged, GivesNextOrErr, GivesStep, IsRangedReady, callback_of, ranged_definitions, ranged_steps, ranged_text, walk_of};
 
     /// The link reference definitions of the text, as [`Parser::reference_definitions`] returns them.
     pub fn reference_definitions(&self) -> &RefDefs<'input>
@@ -316,17 +321,23 @@ impl<'input, E: EntityLookup, F: BrokenLinkCallback<'input> + Drop> OffsetIter<'
         self.parser.callback()
     }
 
-    /// Like `next`, but builds no `Event`. An event that owns nothing is returned and consumed. Any other is reported as `Coming::Long` and
+    /// Like `next`, but builds no `Event`. An event that owns nothing is returned and consumed. Any other is reported as `Next::Long` and
     /// left for `next` or `next_ranged`. If memory is refused, nothing is returned any more.
     #[inline(always)]
-    pub fn next_short(&mut self) -> Result<Coming<'input>, AllocError>
+    pub fn next_short(&mut self) -> Result<Next<'input>, AllocError>
         requires goes { CanGoRanged E.replacement self.old }
         requires ready { IsRangedReady F.ready self.old }
-        ensures gives { GivesOrErr F.answers E.replacement
+        ensures gives { GivesNextOrErr F.answers E.replacement
             (walk_of self.old) result (walk_of self.new) }
         ensures ready { IsRangedReady F.ready self.new }
     {
-        self.parser.next_short()
+        match self.parser.next_short(false)? {
+            Coming::Span(short, start, end) => Ok(Next::Short(short, start, end)),
+            Coming::Block(short, start, end) => Ok(Next::Short(short, start, end)),
+            Coming::Lines(_, _, _) => unreachable!(),
+            Coming::Long => Ok(Next::Long),
+            Coming::Over => Ok(Next::Over),
+        }
     }
 
     /// Like `next`, but the event and its range are one value.

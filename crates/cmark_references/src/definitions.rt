@@ -54,7 +54,8 @@ impl<'a> RefDefs<'a> {
 
     /// The definition of the label in this text, if there is one. Fails if there is no memory for the label's normal form.
     pub fn get(&self, label: &str) -> Result<Option<&LinkDef<'a>>, AllocError>
-        ensures { IfOk result (λ found. option_copied found ≡ definition self.now (fold label.now)) }
+        ensures { IfOk result
+            (λ found. option_copied found ≡ definition self.now (fold label.now)) }
     {
         let label = LinkLabel::new(self.alloc, label)?;
         Ok(self.defs.get(&label))
@@ -79,8 +80,11 @@ impl<'a> RefDefs<'a> {
     pub fn insert(&mut self, label: LinkLabel, def: LinkDef<'a>) -> Result<(), AllocError>
         ensures first_stays { OnOk result ((folded : List ℕ) → definition self.new folded
             ≡ first_of (definition self.old folded) (at_label (link_key label) def.entry folded)) }
-        ensures spelled { OnOk result ((folded : List ℕ) → entry_of self.new folded
-            ≡ first_of (entry_of self.old folded) (at_label (link_key label) (label, def.entry) folded)) }
+        ensures spelled { OnOk result
+            ((folded : List ℕ)
+            → entry_of self.new folded
+            ≡ first_of (entry_of self.old folded)
+            (at_label (link_key label) (label, def.entry) folded)) }
         ensures refused { OnErr result (self.new ≡ self.old) }
     {
         self.defs.entry(label)?.or_insert(def);
@@ -89,7 +93,8 @@ impl<'a> RefDefs<'a> {
 
     /// A copy of the table, with its spelling of each label. Fails only if memory is refused.
     pub fn clone(&self, alloc: Global) -> Result<RefDefs<'a>, AllocError>
-        ensures { IfOk result (λ copy. (folded : List ℕ) → reference_at copy folded ≡ reference_at self.now folded) }
+        ensures { IfOk result
+            (λ copy. (folded : List ℕ) → reference_at copy folded ≡ reference_at self.now folded) }
     {
         let mut copy = RefDefs::new(alloc);
         let mut entries = self.defs.iter();

@@ -77,7 +77,8 @@ impl FootnoteDefs {
     /// The definition of the label in this text, for writing, if there is one. No clause states the effect of a write; for the number of
     /// uses `count_use` has a clause. If there is no memory for the label's normal form it fails, and nothing changes.
     pub fn get_mut(&mut self, label: &str) -> Result<Option<&mut FootnoteDef>, AllocError>
-        ensures { IfOk result (λ found. option_copied_mut found ≡ footnote self.old (fold label.now)) }
+        ensures { IfOk result
+            (λ found. option_copied_mut found ≡ footnote self.old (fold label.now)) }
     {
         let label = FootnoteLabel::new(self.alloc, label)?;
         Ok(self.defs.get_mut(&label))
@@ -86,7 +87,8 @@ impl FootnoteDefs {
     /// Counts a reference to the footnote of the label in this text, up to the largest `usize`, and returns whether the footnote is
     /// defined. If there is no memory for the label's normal form it fails, and nothing changes.
     pub fn count_use(&mut self, label: &str) -> Result<bool, AllocError>
-        ensures found { IfOk result (λ found. found ≡ is_some (footnote self.old (fold label.now))) }
+        ensures found { IfOk result
+            (λ found. found ≡ is_some (footnote self.old (fold label.now))) }
         ensures counted { OnOk result (Counts (fold label.now) self.old self.new) }
         ensures refused { OnErr result (Keeps self.old self.new) }
     {

@@ -52,7 +52,8 @@ fn is_label(count: usize, has_words: bool) -> bool
 fn prefix_size<H: Fn(&[u8]) -> Option<usize>>(byte: u8, rest: &[u8], handler: &H) -> Option<usize>
     requires callable { H.IsAlwaysCallable handler.now }
     requires within { LabelsWithin H.Fn handler.now }
-    ensures value { ForLabels H.Fn handler.now (λ prefix. result ≡ label_prefix prefix byte rest.now) }
+    ensures value { ForLabels H.Fn handler.now
+        (λ prefix. result ≡ label_prefix prefix byte rest.now) }
     ensures line { IfSome result (λ size. 0 < size → byte < 128) }
     ensures within { IsUtf8 rest.now → IfSome result (λ size. IsCharBoundary rest.now size) }
 {
@@ -84,10 +85,16 @@ fn read_label<'t, H: Fn(&[u8]) -> Option<usize>>(
 ) -> Result<Option<LinkLabelRest<'t>>, AllocError>
     requires callable { H.IsAlwaysCallable handler.now }
     requires within { LabelsWithin H.Fn handler.now }
-    ensures value { ForLabels H.Fn handler.now (λ prefix. IfOk result (λ found. option_map shown_label found ≡ option_map (cut_after text.now) (label_over_lines prefix false text.now))) }
-    ensures boundary { IfOk result (λ found. IfSome found (λ label. IsCharBoundary text.now label.end)) }
-    ensures short { IfOk result (λ found. IfSome found (λ label. length (text_bytes label.text) < label.end)) }
-    ensures borrowed { IfOk result (λ found. IfSome found (λ label. IsWhole label → IsBorrowed label.text)) }
+    ensures value { ForLabels H.Fn handler.now
+        (λ prefix. IfOk result
+        (λ found. option_map shown_label found
+        ≡ option_map (cut_after text.now) (label_over_lines prefix false text.now))) }
+    ensures boundary { IfOk result
+        (λ found. IfSome found (λ label. IsCharBoundary text.now label.end)) }
+    ensures short { IfOk result
+        (λ found. IfSome found (λ label. length (text_bytes label.text) < label.end)) }
+    ensures borrowed { IfOk result
+        (λ found. IfSome found (λ label. IsWhole label → IsBorrowed label.text)) }
 {
     let bytes = text.as_bytes();
     let mut copied = String::new(alloc);
@@ -144,9 +151,14 @@ pub fn scan_link_label_rest<'t, H: Fn(&[u8]) -> Option<usize>>(
 ) -> Result<Option<LinkLabelRest<'t>>, AllocError>
     requires callable { H.IsAlwaysCallable linebreak_handler.now }
     requires within { LabelsWithin H.Fn linebreak_handler.now }
-    ensures value { ForLabels H.Fn linebreak_handler.now (λ prefix. IfOk result (λ found. option_map shown_label found ≡ option_map (cut_after text.now) (label_over_lines prefix is_in_table text.now))) }
-    ensures boundary { IfOk result (λ found. IfSome found (λ label. IsCharBoundary text.now label.end)) }
-    ensures borrowed { IfOk result (λ found. IfSome found (λ label. IsWhole label → IsBorrowed label.text)) }
+    ensures value { ForLabels H.Fn linebreak_handler.now
+        (λ prefix. IfOk result
+        (λ found. option_map shown_label found
+        ≡ option_map (cut_after text.now) (label_over_lines prefix is_in_table text.now))) }
+    ensures boundary { IfOk result
+        (λ found. IfSome found (λ label. IsCharBoundary text.now label.end)) }
+    ensures borrowed { IfOk result
+        (λ found. IfSome found (λ label. IsWhole label → IsBorrowed label.text)) }
 {
     let Some(label) = read_label(alloc, text, linebreak_handler)? else {
         return Ok(None);

@@ -37,7 +37,8 @@ pub fn ends_line(byte: u8, rest: &[u8]) -> bool
 fn after_prefix<'a, H: Fn(&[u8]) -> usize>(byte: u8, rest: &'a [u8], handler: &H) -> &'a [u8]
     requires callable { H.IsAlwaysCallable handler.now }
     requires within { AnswersWithin H.Fn handler.now }
-    ensures value { ForAnswers H.Fn handler.now (λ prefix. result.now ≡ drop (prefix_after prefix byte rest.now) rest.now) }
+    ensures value { ForAnswers H.Fn handler.now
+        (λ prefix. result.now ≡ drop (prefix_after prefix byte rest.now) rest.now) }
     ensures within { length result.now ≤ length rest.now }
 {
     if ends_line(byte, rest) {
@@ -56,7 +57,10 @@ fn push_without_prefixes<H: Fn(&[u8]) -> usize>(
 ) -> Result<(), AllocError>
     requires callable { H.IsAlwaysCallable handler.now }
     requires within { AnswersWithin H.Fn handler.now }
-    ensures { ForAnswers H.Fn handler.now (λ prefix. OnOk result (buffer.new.items ≡ buffer.old.items ++ without_prefixes prefix (length bytes.now - following) 0 bytes.now)) }
+    ensures { ForAnswers H.Fn handler.now
+        (λ prefix. OnOk result
+        (buffer.new.items
+        ≡ buffer.old.items ++ without_prefixes prefix (length bytes.now - following) 0 bytes.now)) }
 {
     let mut rest = bytes;
     while let Some((first, others)) = rest.split_first() {
@@ -86,7 +90,9 @@ fn own_text<H: Fn(&[u8]) -> usize>(
     requires callable { H.IsAlwaysCallable handler.now }
     requires within { AnswersWithin H.Fn handler.now }
     requires following { following ≤ length bytes.now }
-    ensures { ForAnswers H.Fn handler.now (λ prefix. IfOk result (λ text. text.items ≡ (owned_tag prefix (length bytes.now - following) bytes.now).buffer)) }
+    ensures { ForAnswers H.Fn handler.now
+        (λ prefix. IfOk result
+        (λ text. text.items ≡ (owned_tag prefix (length bytes.now - following) bytes.now).buffer)) }
 {
     let mut buffer = Vec::new(alloc);
     if !takes_lines(&bytes[..bytes.len() - following]) {
@@ -107,10 +113,17 @@ pub fn scan_html_block_inner<H: Fn(&[u8]) -> usize>(
 ) -> Result<Option<HtmlTag>, AllocError>
     requires callable { H.IsAlwaysCallable newline_handler.now }
     requires within { AnswersWithin H.Fn newline_handler.now }
-    ensures value { ForAnswers H.Fn newline_handler.now (λ prefix. IfOk result (λ found. option_map shown_tag found ≡ owned_tag_in prefix bytes.now)) }
+    ensures value { ForAnswers H.Fn newline_handler.now
+        (λ prefix. IfOk result
+        (λ found. option_map shown_tag found ≡ owned_tag_in prefix bytes.now)) }
     ensures within { IfOk result (λ found. IfSome found (λ tag. tag.end ≤ length bytes.now)) }
-    ensures boundary { IsUtf8 bytes.now → ForAnswers H.Fn newline_handler.now (λ prefix. IfOk result (λ found. IfSome found (λ tag. IsCharBoundary bytes.now tag.end))) }
-    ensures utf8 { IsUtf8 bytes.now → ForAnswers H.Fn newline_handler.now (λ prefix. CutsNoCharacter prefix → IfOk result (λ found. IfSome found (λ tag. IsUtf8 tag.buffer.items))) }
+    ensures boundary { IsUtf8 bytes.now
+        → ForAnswers H.Fn newline_handler.now
+        (λ prefix. IfOk result (λ found. IfSome found (λ tag. IsCharBoundary bytes.now tag.end))) }
+    ensures utf8 { IsUtf8 bytes.now
+        → ForAnswers H.Fn newline_handler.now
+        (λ prefix. CutsNoCharacter prefix
+        → IfOk result (λ found. IfSome found (λ tag. IsUtf8 tag.buffer.items))) }
 {
     let Some(rest) = after_tag(bytes, newline_handler) else {
         return Ok(None);

@@ -19,7 +19,9 @@ pub enum Step {
 
 /// Whether a byte refuses a part: it is the unescaped refused byte, or a byte of a line ending and the part may not span lines.
 fn refuses(escaped: bool, refused: u8, over_lines: bool, byte: u8) -> bool
-    ensures { result ≡ ((not escaped && (byte == refused)) || (not over_lines && ((byte == 10) || (byte == 13)))) }
+    ensures { result
+        ≡
+        ((not escaped && (byte == refused)) || (not over_lines && ((byte == 10) || (byte == 13)))) }
 {
     (!escaped && byte == refused) || (!over_lines && (byte == b'\n' || byte == b'\r'))
 }
@@ -28,7 +30,9 @@ fn refuses(escaped: bool, refused: u8, over_lines: bool, byte: u8) -> bool
 /// line ending refuses it if the part may not span lines.
 #[inline]
 pub fn closed_step(escaped: bool, closer: u8, refused: u8, over_lines: bool, byte: u8) -> Step
-    ensures value { (bs : List ℕ) (found : Option Parsed) → up_to_byte escaped closer refused over_lines byte bs found ≡ read_closed result byte bs found }
+    ensures value { (bs : List ℕ) (found : Option Parsed)
+        → up_to_byte escaped closer refused over_lines byte bs found
+        ≡ read_closed result byte bs found }
     ensures ends { OnEnds result (byte ≡ closer) }
 {
     if !escaped && byte == closer {
@@ -43,7 +47,9 @@ pub fn closed_step(escaped: bool, closer: u8, refused: u8, over_lines: bool, byt
 /// The number of bytes before the unescaped closer. `None` if there is no closer, if the refused byte comes before it, or if a line ending
 /// does and the part may not span lines.
 pub fn closed_size(bytes: &[u8], closer: u8, refused: u8, over_lines: bool) -> Option<usize>
-    ensures value { option_map (λ size. record { bytes = take size bytes.now; following = drop (suc size) bytes.now }) result ≡ up_to false closer refused over_lines bytes.now }
+    ensures value { option_map
+        (λ size. record { bytes = take size bytes.now; following = drop (suc size) bytes.now })
+        result ≡ up_to false closer refused over_lines bytes.now }
     ensures within { IfSome result (λ size. size < length bytes.now) }
     ensures closed { IfSome result (λ size. slice_index bytes.now size ≡ closer) }
 {

@@ -21,8 +21,10 @@ pub fn scan_while<F: Fn(u8) -> bool>(bytes: &[u8], f: F) -> usize
 pub fn scan_rev_while<F: Fn(u8) -> bool>(bytes: &[u8], f: F) -> usize
     requires { F.IsAlwaysCallable f }
     ensures within { result ≤ length bytes.now }
-    ensures passed { (k : ℕ) → length bytes.now - result ≤ k → k < length bytes.now → F.post f (slice_index bytes.now k) true }
-    ensures stopped { result < length bytes.now → F.post f (slice_index bytes.now (length bytes.now - result - 1)) false }
+    ensures passed { (k : ℕ) → length bytes.now - result ≤ k → k < length bytes.now
+        → F.post f (slice_index bytes.now k) true }
+    ensures stopped { result < length bytes.now
+        → F.post f (slice_index bytes.now (length bytes.now - result - 1)) false }
 {
     let mut at = bytes.len();
     while at > 0 {

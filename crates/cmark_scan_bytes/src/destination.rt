@@ -32,7 +32,8 @@ fn depth_after(escaped: bool, depth: usize, byte: u8) -> usize
 /// closed, and refuses it otherwise. So does a 33rd open parenthesis.
 fn bare_step(escaped: bool, depth: usize, byte: u8) -> Step
     requires { depth ≤ 32 }
-    ensures value { (bs : List ℕ) (found : Option Parsed) → bare_byte escaped depth byte bs found ≡ read_bare result byte bs found }
+    ensures value { (bs : List ℕ) (found : Option Parsed)
+        → bare_byte escaped depth byte bs found ≡ read_bare result byte bs found }
     ensures ends { OnEnds result (byte < 128) }
     ensures shallow { OnGoesOn result (depth_after escaped depth byte ≤ 32) }
 {
@@ -51,7 +52,9 @@ fn bare_step(escaped: bool, depth: usize, byte: u8) -> Step
 /// escaped.
 #[inline(always)]
 fn plain_size(escaped: bool, bytes: &[u8]) -> usize
-    ensures value { (depth : ℕ) → bare_in escaped depth bytes.now ≡ puts (take result bytes.now) (bare_in escaped depth (drop result bytes.now)) }
+    ensures value { (depth : ℕ)
+        → bare_in escaped depth bytes.now
+        ≡ puts (take result bytes.now) (bare_in escaped depth (drop result bytes.now)) }
     ensures within { result ≤ length bytes.now }
 {
     if escaped {
@@ -62,9 +65,12 @@ fn plain_size(escaped: bool, bytes: &[u8]) -> usize
 
 /// The number of bytes of the bare destination at the beginning, if its parentheses are balanced.
 fn bare_size(bytes: &[u8]) -> Option<usize>
-    ensures value { option_map (λ size. record { bytes = take size bytes.now; following = drop size bytes.now }) result ≡ bare_in false 0 bytes.now }
+    ensures value { option_map
+        (λ size. record { bytes = take size bytes.now; following = drop size bytes.now }) result
+        ≡ bare_in false 0 bytes.now }
     ensures within { IfSome result (λ size. size ≤ length bytes.now) }
-    ensures ends { IfSome result (λ size. size < length bytes.now → slice_index bytes.now size < 128) }
+    ensures ends { IfSome result
+        (λ size. size < length bytes.now → slice_index bytes.now size < 128) }
 {
     let mut escaped = false;
     let mut depth = 0;
@@ -86,7 +92,9 @@ fn bare_size(bytes: &[u8]) -> Option<usize>
 fn pointed_dest(text: &str, start_ix: usize) -> Option<Cut<'_>>
     requires within { start_ix < length text.now }
     requires opens { slice_index text.now start_ix ≡ 60 }
-    ensures value { option_map shown_cut result ≡ option_map (cut_after text.entry.now) (up_to false 62 60 false (drop (start_ix + 1) text.entry.now)) }
+    ensures value { option_map shown_cut result
+        ≡ option_map (cut_after text.entry.now)
+        (up_to false 62 60 false (drop (start_ix + 1) text.entry.now)) }
     ensures within { IfSome result (λ dest. dest.end ≤ length text.entry.now) }
     ensures boundary { IfSome result (λ dest. IsCharBoundary text.entry.now dest.end) }
 {
@@ -101,7 +109,8 @@ fn pointed_dest(text: &str, start_ix: usize) -> Option<Cut<'_>>
 /// The bare destination at this byte offset of the text.
 fn bare_dest(text: &str, start_ix: usize) -> Option<Cut<'_>>
     requires { IsCharBoundary text.now start_ix }
-    ensures value { option_map shown_cut result ≡ option_map (cut_after text.entry.now) (bare_in false 0 (drop start_ix text.entry.now)) }
+    ensures value { option_map shown_cut result
+        ≡ option_map (cut_after text.entry.now) (bare_in false 0 (drop start_ix text.entry.now)) }
     ensures within { IfSome result (λ dest. dest.end ≤ length text.entry.now) }
     ensures boundary { IfSome result (λ dest. IsCharBoundary text.entry.now dest.end) }
 {
@@ -117,7 +126,9 @@ fn bare_dest(text: &str, start_ix: usize) -> Option<Cut<'_>>
 /// `(`; its parentheses are balanced, 32 deep at most, or escaped. Either may be empty; `part` is without the brackets.
 pub fn scan_link_dest(text: &str, start_ix: usize) -> Option<Cut<'_>>
     requires { IsCharBoundary text.now start_ix }
-    ensures value { option_map shown_cut result ≡ option_map (cut_after text.entry.now) (link_destination_in (drop start_ix text.entry.now)) }
+    ensures value { option_map shown_cut result
+        ≡ option_map (cut_after text.entry.now)
+        (link_destination_in (drop start_ix text.entry.now)) }
     ensures within { IfSome result (λ dest. dest.end ≤ length text.entry.now) }
     ensures boundary { IfSome result (λ dest. IsCharBoundary text.entry.now dest.end) }
 {

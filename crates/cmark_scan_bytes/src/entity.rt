@@ -75,7 +75,9 @@ fn character(code: u32) -> char
 /// Whether the `count` digits at the beginning are 1 to `most`, and a semicolon follows.
 fn is_closed(bytes: &[u8], count: usize, most: usize) -> bool
     requires { count ≤ length bytes.now }
-    ensures { result ≡ (nat_lt 0 count && (nat_le count most && first_is (λ b. b == 59) (drop count bytes.now))) }
+    ensures { result
+        ≡
+        (nat_lt 0 count && (nat_le count most && first_is (λ b. b == 59) (drop count bytes.now))) }
 {
     0 < count && count <= most && begins_with(&bytes[count..], b';')
 }
@@ -123,7 +125,8 @@ fn numeric_in(bytes: &[u8]) -> Option<Entity<'static>>
 
 /// The entity whose `&` precedes `bytes`, by its name.
 fn named_in<'e, E: EntityLookup>(bytes: &[u8], entities: &'e E) -> Option<Entity<'e>>
-    ensures value { option_map shown_entity result ≡ named_in (E.replacement entities.now) bytes.entry.now }
+    ensures value { option_map shown_entity result
+        ≡ named_in (E.replacement entities.now) bytes.entry.now }
     ensures closed { IfSome result (λ entity. Closes bytes.entry.now 1 entity.len) }
 {
     let count = Class::Alphanumeric.count(bytes);
@@ -146,8 +149,11 @@ fn named_in<'e, E: EntityLookup>(bytes: &[u8], entities: &'e E) -> Option<Entity
 /// numbers that are not characters is U+FFFD. No memory is needed.
 pub fn scan_entity<'e, E: EntityLookup>(bytes: &[u8], entities: &'e E) -> Option<Entity<'e>>
     ensures closed { IfSome result (λ entity. Closes bytes.entry.now 0 entity.len) }
-    ensures boundary { IsUtf8 bytes.entry.now → IfSome result (λ entity. IsCharBoundary bytes.entry.now entity.len) }
-    ensures value { option_map shown_entity result ≡ and_then (after_if (λ b. b == 38) bytes.entry.now) (entity_in (E.replacement entities.now)) }
+    ensures boundary { IsUtf8 bytes.entry.now
+        → IfSome result (λ entity. IsCharBoundary bytes.entry.now entity.len) }
+    ensures value { option_map shown_entity result
+        ≡ and_then (after_if (λ b. b == 38) bytes.entry.now)
+        (entity_in (E.replacement entities.now)) }
 {
     match after_byte(b'&', bytes)? {
         [b'#', rest @ ..] => numeric_in(rest),

@@ -32,8 +32,10 @@ struct Resolved<'t> {
 /// The escape at the beginning: a backslash, if ASCII punctuation follows it.
 fn escape_before(text: &str) -> Option<Entity<'_>>
     requires { first_is (λ b. b == 92) text.now ≡ true }
-    ensures value { (lookup : Lookup) → option_map shown_entity result ≡ resolved_front lookup text.entry.now }
-    ensures within { IfSome result (λ part. (0 < part.len) × IsCharBoundary text.entry.now part.len) }
+    ensures value { (lookup : Lookup)
+        → option_map shown_entity result ≡ resolved_front lookup text.entry.now }
+    ensures within { IfSome result
+        (λ part. (0 < part.len) × IsCharBoundary text.entry.now part.len) }
 {
     match text.as_bytes() {
         [_, second, ..] if second.is_ascii_punctuation() => Some(Entity {
@@ -46,8 +48,10 @@ fn escape_before(text: &str) -> Option<Entity<'_>>
 
 /// The escape or the entity at the beginning, if there is one.
 fn resolved_before<'t, E: EntityLookup>(text: &'t str, entities: &'t E) -> Option<Entity<'t>>
-    ensures value { option_map shown_entity result ≡ resolved_front (E.replacement entities.now) text.entry.now }
-    ensures within { IfSome result (λ part. (0 < part.len) × IsCharBoundary text.entry.now part.len) }
+    ensures value { option_map shown_entity result
+        ≡ resolved_front (E.replacement entities.now) text.entry.now }
+    ensures within { IfSome result
+        (λ part. (0 < part.len) × IsCharBoundary text.entry.now part.len) }
 {
     if begins_with(text.as_bytes(), b'\\') {
         escape_before(text)
@@ -58,7 +62,10 @@ fn resolved_before<'t, E: EntityLookup>(text: &'t str, entities: &'t E) -> Optio
 
 /// The first escape or entity.
 fn find_resolved<'t, E: EntityLookup>(text: &'t str, entities: &'t E) -> Option<Resolved<'t>>
-    ensures { MatchOption result (resolved (E.replacement entities.now) text.entry.now ≡ text.entry.now) (λ found. Resolves (E.replacement entities.now) text.entry.now found.start found.end (text_bytes found.text)) }
+    ensures { MatchOption result
+        (resolved (E.replacement entities.now) text.entry.now ≡ text.entry.now)
+        (λ found. Resolves (E.replacement entities.now) text.entry.now found.start found.end
+        (text_bytes found.text)) }
 {
     let mut rest = text;
     while let Some(at) = find_escape(rest.as_bytes()) {
@@ -81,7 +88,9 @@ fn push_resolved<E: EntityLookup>(
     text: &str,
     entities: &E,
 ) -> Result<(), AllocError>
-    ensures { OnOk result (string_bytes out.new ≡ string_bytes out.old ++ resolved (E.replacement entities.now) text.now) }
+    ensures { OnOk result
+        (string_bytes out.new
+        ≡ string_bytes out.old ++ resolved (E.replacement entities.now) text.now) }
 {
     let mut rest = text;
     while let Some(found) = find_resolved(rest, entities) {
@@ -99,8 +108,10 @@ fn resolve<'a, E: EntityLookup>(
     text: CowStr<'a>,
     entities: &E,
 ) -> Result<CowStr<'a>, AllocError>
-    ensures value { IfOk result (λ made. text_bytes made ≡ resolved (E.replacement entities.now) (text_bytes text.entry)) }
-    ensures kept { HasNoEscapes (E.replacement entities.now) (text_bytes text.entry) → result ≡ Ok text.entry }
+    ensures value { IfOk result
+        (λ made. text_bytes made ≡ resolved (E.replacement entities.now) (text_bytes text.entry)) }
+    ensures kept { HasNoEscapes (E.replacement entities.now) (text_bytes text.entry)
+        → result ≡ Ok text.entry }
 {
     if find_resolved(text.as_str(), entities).is_none() {
         return Ok(text);
@@ -119,7 +130,8 @@ fn find_escaped_pipe(text: &str) -> Option<usize>
 
 /// Appends the text without the backslash directly before each escaped pipe.
 fn push_with_escaped_pipes(out: &mut String, text: &str) -> Result<(), AllocError>
-    ensures { OnOk result (string_bytes out.new ≡ string_bytes out.old ++ with_escaped_pipes text.now) }
+    ensures { OnOk result
+        (string_bytes out.new ≡ string_bytes out.old ++ with_escaped_pipes text.now) }
 {
     let mut rest = text;
     while let Some(at) = find_escaped_pipe(rest) {
@@ -132,8 +144,10 @@ fn push_with_escaped_pipes(out: &mut String, text: &str) -> Result<(), AllocErro
 
 /// The text without the backslash directly before each escaped pipe; this value if there is none.
 fn with_escaped_pipes<'a>(alloc: Global, text: CowStr<'a>) -> Result<CowStr<'a>, AllocError>
-    ensures value { IfOk result (λ made. text_bytes made ≡ with_escaped_pipes (text_bytes text.entry)) }
-    ensures kept { (lookup : Lookup) → HasNoEscapes lookup (text_bytes text.entry) → result ≡ Ok text.entry }
+    ensures value { IfOk result
+        (λ made. text_bytes made ≡ with_escaped_pipes (text_bytes text.entry)) }
+    ensures kept { (lookup : Lookup) → HasNoEscapes lookup (text_bytes text.entry)
+        → result ≡ Ok text.entry }
 {
     if find_escaped_pipe(text.as_str()).is_none() {
         return Ok(text);
@@ -154,8 +168,11 @@ pub fn unescape<'a, E: EntityLookup>(
     is_in_table: bool,
     entities: &E,
 ) -> Result<CowStr<'a>, AllocError>
-    ensures value { IfOk result (λ made. text_bytes made ≡ unescaped (E.replacement entities.now) is_in_table (text_bytes input.entry)) }
-    ensures kept { HasNoEscapes (E.replacement entities.now) (text_bytes input.entry) → result ≡ Ok input.entry }
+    ensures value { IfOk result
+        (λ made. text_bytes made
+        ≡ unescaped (E.replacement entities.now) is_in_table (text_bytes input.entry)) }
+    ensures kept { HasNoEscapes (E.replacement entities.now) (text_bytes input.entry)
+        → result ≡ Ok input.entry }
 {
     if !is_in_table {
         return resolve(alloc, input, entities);

@@ -11,7 +11,8 @@ use crate::label_text::is_label;
 
 /// The number of bytes of the label at the beginning, if it is valid, is on one line, and `]:` follows it.
 fn label_size(bytes: &[u8]) -> Option<usize>
-    ensures value { option_map (labelled bytes.now) result ≡ label_then_colon (label_if (up_to false 93 91 false bytes.now)) }
+    ensures value { option_map (labelled bytes.now) result
+        ≡ label_then_colon (label_if (up_to false 93 91 false bytes.now)) }
     ensures within { IfSome result (λ size. size + 2 ≤ length bytes.now) }
     ensures bracket { IfSome result (λ size. slice_index bytes.now size ≡ 93) }
     ensures colon { IfSome result (λ size. slice_index bytes.now (size + 1) ≡ 58) }

@@ -60,8 +60,10 @@ fn after_comment(bytes: &[u8]) -> Option<&[u8]>
 /// The result of a search from a place of the bytes: `opened` is the markup there, if any, and the bytes after its closer, if any.
 fn find_with(bytes: &[u8], ix: usize, opened: Option<Option<&[u8]>>) -> HtmlFind
     requires place { ix ≤ length bytes.now }
-    requires within { IfSome opened (λ closed. IfSome closed (λ rest. length rest.now ≤ length bytes.now - ix)) }
-    ensures value { shown_find result ≡ find_with bytes.now ix (option_map option_copied opened.entry) }
+    requires within { IfSome opened
+        (λ closed. IfSome closed (λ rest. length rest.now ≤ length bytes.now - ix)) }
+    ensures value { shown_find result
+        ≡ find_with bytes.now ix (option_map option_copied opened.entry) }
     ensures passed { IfSome result.end (λ end. ix + result.passed ≡ end) }
     ensures few { ix + result.passed ≤ length bytes.now }
     ensures within { IfSome result.end (λ end. (ix ≤ end) × (end ≤ length bytes.now)) }
@@ -146,14 +148,20 @@ impl HtmlScanGuard {
         requires opens { OpensWith kind (drop ix bytes.now) inside.now }
         requires inside { length inside.now ≤ length bytes.now - ix }
         requires marks { AreMarks bytes.now ix self.old }
-        ensures value { shown_find result ≡ guarded self.old (Some kind) bytes.now ix (find_with bytes.now ix (Some (closed_by kind inside.now))) }
+        ensures value { shown_find result
+            ≡ guarded self.old (Some kind) bytes.now ix
+            (find_with bytes.now ix (Some (closed_by kind inside.now))) }
         ensures end { result.end ≡ (find_with bytes.now ix (Some (closed_by kind inside.now))).end }
         ensures within { IfSome result.end (λ end. (ix ≤ end) × (end ≤ length bytes.now)) }
         ensures passed { IfSome result.end (λ end. ix + result.passed ≡ end) }
         ensures few { ix + result.passed ≤ length bytes.now }
         ensures marks { (later : ℕ) → ix ≤ later → AreMarks bytes.now later self.new }
-        ensures bound { AreWithin (length bytes.now) self.old → AreWithin (length bytes.now) self.new }
-        ensures pays { (width : ℕ) → length bytes.now - ix ≤ width → MatchOption result.end (result.passed + may_pass width (length bytes.now) self.new ≤ 7 + may_pass width (length bytes.now) self.old) (λ end. self.new ≡ self.old) }
+        ensures bound { AreWithin (length bytes.now) self.old
+            → AreWithin (length bytes.now) self.new }
+        ensures pays { (width : ℕ) → length bytes.now - ix ≤ width
+            → MatchOption result.end
+            (result.passed + may_pass width (length bytes.now) self.new ≤ 7 + may_pass width
+            (length bytes.now) self.old) (λ end. self.new ≡ self.old) }
     {
         if ix < self.mark(kind) {
             return find_with(bytes, ix, None);
@@ -173,15 +181,20 @@ impl HtmlScanGuard {
 pub fn scan_inline_html_comment(bytes: &[u8], ix: usize, guard: &mut HtmlScanGuard) -> HtmlFind
     requires place { ix ≤ length bytes.now }
     requires marks { AreMarks bytes.now ix guard.old }
-    ensures value { shown_find result ≡ guarded guard.old (kind_in (drop ix bytes.now)) bytes.now ix (comment_find bytes.now ix) }
+    ensures value { shown_find result
+        ≡ guarded guard.old (kind_in (drop ix bytes.now)) bytes.now ix (comment_find bytes.now ix) }
     ensures end { result.end ≡ (comment_find bytes.now ix).end }
     ensures within { IfSome result.end (λ end. (ix ≤ end) × (end ≤ length bytes.now)) }
     ensures passed { IfSome result.end (λ end. ix + result.passed ≡ end) }
     ensures few { ix + result.passed ≤ length bytes.now }
     ensures boundary { IsUtf8 bytes.now → IfSome result.end (IsCharBoundary bytes.now) }
     ensures marks { (later : ℕ) → ix ≤ later → AreMarks bytes.now later guard.new }
-    ensures bound { AreWithin (length bytes.now) guard.old → AreWithin (length bytes.now) guard.new }
-    ensures pays { (width : ℕ) → length bytes.now - ix ≤ width → MatchOption result.end (result.passed + may_pass width (length bytes.now) guard.new ≤ 7 + may_pass width (length bytes.now) guard.old) (λ end. guard.new ≡ guard.old) }
+    ensures bound { AreWithin (length bytes.now) guard.old
+        → AreWithin (length bytes.now) guard.new }
+    ensures pays { (width : ℕ) → length bytes.now - ix ≤ width
+        → MatchOption result.end
+        (result.passed + may_pass width (length bytes.now) guard.new ≤ 7 + may_pass width
+        (length bytes.now) guard.old) (λ end. guard.new ≡ guard.old) }
 {
     match opening(&bytes[ix..]) {
         Some((kind, inside)) => guard.find(kind, bytes, ix, inside),
@@ -194,15 +207,20 @@ pub fn scan_inline_html_comment(bytes: &[u8], ix: usize, guard: &mut HtmlScanGua
 pub fn scan_inline_html_processing(bytes: &[u8], ix: usize, guard: &mut HtmlScanGuard) -> HtmlFind
     requires place { ix ≤ length bytes.now }
     requires marks { AreMarks bytes.now ix guard.old }
-    ensures value { shown_find result ≡ guarded guard.old (Some kind.Processing) bytes.now ix (processing_find bytes.now ix) }
+    ensures value { shown_find result
+        ≡ guarded guard.old (Some kind.Processing) bytes.now ix (processing_find bytes.now ix) }
     ensures end { result.end ≡ (processing_find bytes.now ix).end }
     ensures within { IfSome result.end (λ end. (ix ≤ end) × (end ≤ length bytes.now)) }
     ensures passed { IfSome result.end (λ end. ix + result.passed ≡ end) }
     ensures few { ix + result.passed ≤ length bytes.now }
     ensures boundary { IsUtf8 bytes.now → IfSome result.end (IsCharBoundary bytes.now) }
     ensures marks { (later : ℕ) → ix ≤ later → AreMarks bytes.now later guard.new }
-    ensures bound { AreWithin (length bytes.now) guard.old → AreWithin (length bytes.now) guard.new }
-    ensures pays { (width : ℕ) → length bytes.now - ix ≤ width → MatchOption result.end (result.passed + may_pass width (length bytes.now) guard.new ≤ 7 + may_pass width (length bytes.now) guard.old) (λ end. guard.new ≡ guard.old) }
+    ensures bound { AreWithin (length bytes.now) guard.old
+        → AreWithin (length bytes.now) guard.new }
+    ensures pays { (width : ℕ) → length bytes.now - ix ≤ width
+        → MatchOption result.end
+        (result.passed + may_pass width (length bytes.now) guard.new ≤ 7 + may_pass width
+        (length bytes.now) guard.old) (λ end. guard.new ≡ guard.old) }
 {
     guard.find(MarkupKind::Processing, bytes, ix, &bytes[ix..])
 }

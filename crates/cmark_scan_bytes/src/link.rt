@@ -43,7 +43,9 @@ fn has_address(emails: bool, bytes: &[u8], size: usize) -> bool
 
 /// The number of bytes of the address of an autolink at the beginning, if it is valid and a `>` follows it.
 fn address_size(emails: bool, bytes: &[u8]) -> Option<usize>
-    ensures value { option_map (λ size. record { bytes = take size bytes.now; following = drop (suc size) bytes.now }) result ≡ autolink_in emails bytes.now }
+    ensures value { option_map
+        (λ size. record { bytes = take size bytes.now; following = drop (suc size) bytes.now })
+        result ≡ autolink_in emails bytes.now }
     ensures within { IfSome result (λ size. size < length bytes.now) }
     ensures closed { IfSome result (λ size. slice_index bytes.now size ≡ 62) }
 {
@@ -60,7 +62,8 @@ fn address_size(emails: bool, bytes: &[u8]) -> Option<usize>
 /// it may also be an email address.
 pub fn scan_autolink(emails: bool, text: &str, start_ix: usize) -> Option<Cut<'_>>
     requires { IsCharBoundary text.now start_ix }
-    ensures value { option_map shown_cut result ≡ cut_at start_ix (autolink_in emails (drop start_ix text.entry.now)) }
+    ensures value { option_map shown_cut result
+        ≡ cut_at start_ix (autolink_in emails (drop start_ix text.entry.now)) }
     ensures within { IfSome result (λ link. link.end ≤ length text.entry.now) }
     ensures boundary { IfSome result (λ link. IsCharBoundary text.entry.now link.end) }
 {
@@ -76,7 +79,8 @@ pub fn scan_autolink(emails: bool, text: &str, start_ix: usize) -> Option<Cut<'_
 pub fn scan_wikilink_pipe(text: &str, start_ix: usize, len: usize) -> Option<Cut<'_>>
     requires starts { IsCharBoundary text.now start_ix }
     requires within { start_ix + len ≤ length text.now }
-    ensures value { option_map shown_cut result ≡ cut_at start_ix (piped_name_in (take len (drop start_ix text.entry.now))) }
+    ensures value { option_map shown_cut result
+        ≡ cut_at start_ix (piped_name_in (take len (drop start_ix text.entry.now))) }
     ensures within { IfSome result (λ name. name.end ≤ start_ix + len) }
     ensures boundary { IfSome result (λ name. IsCharBoundary text.entry.now name.end) }
 {

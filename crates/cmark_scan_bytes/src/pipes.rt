@@ -32,7 +32,8 @@ fn starts(bytes: &[u8], prefix: &[u8]) -> bool
 
 /// The one or two backslashes that the first literal pipe loses. Backslashes are read from the left, in pairs.
 fn find_backslashes(text: &str) -> Option<Backslashes>
-    ensures { MatchOption result (with_literal_pipes text.now ≡ text.now) (λ found. Drops text.now found.start found.end) }
+    ensures { MatchOption result (with_literal_pipes text.now ≡ text.now)
+        (λ found. Drops text.now found.start found.end) }
 {
     let bytes = text.as_bytes();
     let mut start = 0;
@@ -61,7 +62,8 @@ fn find_backslashes(text: &str) -> Option<Backslashes>
 
 /// Appends the text without the backslashes of its literal pipes.
 fn push_with_literal_pipes(out: &mut String, text: &str) -> Result<(), AllocError>
-    ensures { OnOk result (string_bytes out.new ≡ string_bytes out.old ++ with_literal_pipes text.now) }
+    ensures { OnOk result
+        (string_bytes out.new ≡ string_bytes out.old ++ with_literal_pipes text.now) }
 {
     let mut rest = text;
     while let Some(found) = find_backslashes(rest) {
@@ -75,8 +77,10 @@ fn push_with_literal_pipes(out: &mut String, text: &str) -> Result<(), AllocErro
 /// The text with `|` in place of each `\|` and `\\|`, with backslashes read from the left in pairs; this value if there is none. Fails
 /// only if memory is refused.
 pub fn with_literal_pipes<'a>(alloc: Global, text: CowStr<'a>) -> Result<CowStr<'a>, AllocError>
-    ensures value { IfOk result (λ made. text_bytes made ≡ with_literal_pipes (text_bytes text.entry)) }
-    ensures kept { with_literal_pipes (text_bytes text.entry) ≡ text_bytes text.entry → result ≡ Ok text.entry }
+    ensures value { IfOk result
+        (λ made. text_bytes made ≡ with_literal_pipes (text_bytes text.entry)) }
+    ensures kept { with_literal_pipes (text_bytes text.entry) ≡ text_bytes text.entry
+        → result ≡ Ok text.entry }
 {
     if find_backslashes(text.as_str()).is_none() {
         return Ok(text);
@@ -95,7 +99,8 @@ fn find_pipe_escape(text: &str) -> Option<usize>
 
 /// Appends the text without each backslash directly before a pipe.
 fn push_without_pipe_escapes(out: &mut String, text: &str) -> Result<(), AllocError>
-    ensures { OnOk result (string_bytes out.new ≡ string_bytes out.old ++ without_pipe_escapes text.now) }
+    ensures { OnOk result
+        (string_bytes out.new ≡ string_bytes out.old ++ without_pipe_escapes text.now) }
 {
     let mut rest = text;
     while let Some(backslash) = find_pipe_escape(rest) {
@@ -109,8 +114,10 @@ fn push_without_pipe_escapes(out: &mut String, text: &str) -> Result<(), AllocEr
 /// The content of code and formulas in a table cell (GFM 4.10): an owned text with `|` in place of each `\|`. If there is none, the same
 /// value is returned. Of `\\|` one backslash remains. Fails only if memory is refused.
 pub fn without_pipe_escapes<'a>(alloc: Global, text: CowStr<'a>) -> Result<CowStr<'a>, AllocError>
-    ensures value { IfOk result (λ made. text_bytes made ≡ without_pipe_escapes (text_bytes text.entry)) }
-    ensures kept { without_pipe_escapes (text_bytes text.entry) ≡ text_bytes text.entry → result ≡ Ok text.entry }
+    ensures value { IfOk result
+        (λ made. text_bytes made ≡ without_pipe_escapes (text_bytes text.entry)) }
+    ensures kept { without_pipe_escapes (text_bytes text.entry) ≡ text_bytes text.entry
+        → result ≡ Ok text.entry }
     ensures own { (result ≡ Ok text.entry) ⊎ IfOk result IsBoxed }
 {
     if find_pipe_escape(text.as_str()).is_none() {

@@ -72,7 +72,8 @@ fn after_closing_tag(bytes: &[u8]) -> Option<&[u8]>
 pub fn without_prefix<'a, H: Fn(&[u8]) -> usize>(bytes: &'a [u8], handler: &H) -> &'a [u8]
     requires callable { H.IsAlwaysCallable handler.now }
     requires within { AnswersWithin H.Fn handler.now }
-    ensures value { ForAnswers H.Fn handler.now (λ prefix. result.now ≡ without_prefix prefix bytes.now) }
+    ensures value { ForAnswers H.Fn handler.now
+        (λ prefix. result.now ≡ without_prefix prefix bytes.now) }
     ensures within { length result.now ≤ length bytes.now }
 {
     &bytes[handler(bytes)..]
@@ -82,7 +83,8 @@ pub fn without_prefix<'a, H: Fn(&[u8]) -> usize>(bytes: &'a [u8], handler: &H) -
 fn after_space<'a, H: Fn(&[u8]) -> usize>(bytes: &'a [u8], handler: &H) -> &'a [u8]
     requires callable { H.IsAlwaysCallable handler.now }
     requires within { AnswersWithin H.Fn handler.now }
-    ensures value { ForAnswers H.Fn handler.now (λ prefix. result.now ≡ after_space prefix bytes.now) }
+    ensures value { ForAnswers H.Fn handler.now
+        (λ prefix. result.now ≡ after_space prefix bytes.now) }
     ensures within { length result.now ≤ length bytes.now }
 {
     let blanks = Class::Blank.following(bytes);
@@ -101,7 +103,8 @@ fn after_quotation_mark<'a, H: Fn(&[u8]) -> usize>(
     requires callable { H.IsAlwaysCallable handler.now }
     requires within { AnswersWithin H.Fn handler.now }
     requires quote { is_content quote ≡ true }
-    ensures value { ForAnswers H.Fn handler.now (λ prefix. option_copied result ≡ after_quotation_mark prefix quote 0 bytes.now) }
+    ensures value { ForAnswers H.Fn handler.now
+        (λ prefix. option_copied result ≡ after_quotation_mark prefix quote 0 bytes.now) }
     ensures within { IfSome result (λ rest. length rest.now ≤ length bytes.now) }
 {
     let mut line = bytes;
@@ -118,7 +121,8 @@ fn after_quotation_mark<'a, H: Fn(&[u8]) -> usize>(
 fn after_value<'a, H: Fn(&[u8]) -> usize>(bytes: &'a [u8], handler: &H) -> Option<&'a [u8]>
     requires callable { H.IsAlwaysCallable handler.now }
     requires within { AnswersWithin H.Fn handler.now }
-    ensures value { ForAnswers H.Fn handler.now (λ prefix. option_copied result ≡ after_value prefix bytes.now) }
+    ensures value { ForAnswers H.Fn handler.now
+        (λ prefix. option_copied result ≡ after_value prefix bytes.now) }
     ensures within { IfSome result (λ rest. length rest.now ≤ length bytes.now) }
 {
     match bytes {
@@ -133,7 +137,9 @@ fn after_value<'a, H: Fn(&[u8]) -> usize>(bytes: &'a [u8], handler: &H) -> Optio
 fn after_assigned<'a, H: Fn(&[u8]) -> usize>(name: &'a [u8], handler: &H) -> Option<&'a [u8]>
     requires callable { H.IsAlwaysCallable handler.now }
     requires within { AnswersWithin H.Fn handler.now }
-    ensures value { ForAnswers H.Fn handler.now (λ prefix. option_copied result ≡ after_assigned prefix name.now (after_space prefix name.now)) }
+    ensures value { ForAnswers H.Fn handler.now
+        (λ prefix. option_copied result
+        ≡ after_assigned prefix name.now (after_space prefix name.now)) }
     ensures within { IfSome result (λ rest. length rest.now ≤ length name.now) }
 {
     match after_space(name, handler) {
@@ -146,7 +152,8 @@ fn after_assigned<'a, H: Fn(&[u8]) -> usize>(name: &'a [u8], handler: &H) -> Opt
 fn after_attribute<'a, H: Fn(&[u8]) -> usize>(bytes: &'a [u8], handler: &H) -> Option<&'a [u8]>
     requires callable { H.IsAlwaysCallable handler.now }
     requires within { AnswersWithin H.Fn handler.now }
-    ensures value { ForAnswers H.Fn handler.now (λ prefix. option_copied result ≡ after_attribute prefix bytes.now) }
+    ensures value { ForAnswers H.Fn handler.now
+        (λ prefix. option_copied result ≡ after_attribute prefix bytes.now) }
     ensures within { IfSome result (λ rest. length rest.now < length bytes.now) }
 {
     match bytes {
@@ -161,7 +168,8 @@ fn after_attribute<'a, H: Fn(&[u8]) -> usize>(bytes: &'a [u8], handler: &H) -> O
 fn after_attributes<'a, H: Fn(&[u8]) -> usize>(bytes: &'a [u8], handler: &H) -> &'a [u8]
     requires callable { H.IsAlwaysCallable handler.now }
     requires within { AnswersWithin H.Fn handler.now }
-    ensures value { ForAnswers H.Fn handler.now (λ prefix. result.now ≡ after_attributes prefix (length bytes.now) bytes.now) }
+    ensures value { ForAnswers H.Fn handler.now
+        (λ prefix. result.now ≡ after_attributes prefix (length bytes.now) bytes.now) }
     ensures within { length result.now ≤ length bytes.now }
 {
     let mut rest = bytes;
@@ -175,7 +183,8 @@ fn after_attributes<'a, H: Fn(&[u8]) -> usize>(bytes: &'a [u8], handler: &H) -> 
 fn after_open_tag<'a, H: Fn(&[u8]) -> usize>(bytes: &'a [u8], handler: &H) -> Option<&'a [u8]>
     requires callable { H.IsAlwaysCallable handler.now }
     requires within { AnswersWithin H.Fn handler.now }
-    ensures value { ForAnswers H.Fn handler.now (λ prefix. option_copied result ≡ after_open_tag prefix bytes.now) }
+    ensures value { ForAnswers H.Fn handler.now
+        (λ prefix. option_copied result ≡ after_open_tag prefix bytes.now) }
     ensures within { IfSome result (λ rest. length rest.now ≤ length bytes.now) }
 {
     let attributes = after_attributes(after_tag_name(bytes)?, handler);
@@ -186,7 +195,8 @@ fn after_open_tag<'a, H: Fn(&[u8]) -> usize>(bytes: &'a [u8], handler: &H) -> Op
 fn after_tag_start<'a, H: Fn(&[u8]) -> usize>(bytes: &'a [u8], handler: &H) -> Option<&'a [u8]>
     requires callable { H.IsAlwaysCallable handler.now }
     requires within { AnswersWithin H.Fn handler.now }
-    ensures value { ForAnswers H.Fn handler.now (λ prefix. option_copied result ≡ after_tag_start prefix bytes.now) }
+    ensures value { ForAnswers H.Fn handler.now
+        (λ prefix. option_copied result ≡ after_tag_start prefix bytes.now) }
     ensures within { IfSome result (λ rest. length rest.now ≤ length bytes.now) }
 {
     match bytes {
@@ -199,7 +209,8 @@ fn after_tag_start<'a, H: Fn(&[u8]) -> usize>(bytes: &'a [u8], handler: &H) -> O
 pub fn after_tag<'a, H: Fn(&[u8]) -> usize>(bytes: &'a [u8], handler: &H) -> Option<&'a [u8]>
     requires callable { H.IsAlwaysCallable handler.now }
     requires within { AnswersWithin H.Fn handler.now }
-    ensures value { ForAnswers H.Fn handler.now (λ prefix. option_copied result ≡ after_tag prefix bytes.now) }
+    ensures value { ForAnswers H.Fn handler.now
+        (λ prefix. option_copied result ≡ after_tag prefix bytes.now) }
     ensures within { IfSome result (λ rest. length rest.now ≤ length bytes.now) }
 {
     after_tag_start(after_byte(b'<', bytes)?, handler)
@@ -209,7 +220,8 @@ pub fn after_tag<'a, H: Fn(&[u8]) -> usize>(bytes: &'a [u8], handler: &H) -> Opt
 pub fn scan_tag(bytes: &[u8]) -> Option<&[u8]>
     ensures value { option_copied result ≡ after_tag no_prefix bytes.now }
     ensures within { IfSome result (λ rest. length rest.now ≤ length bytes.now) }
-    ensures boundary { IsUtf8 bytes.now → IfSome result (λ rest. IsCharBoundary bytes.now (length bytes.now - length rest.now)) }
+    ensures boundary { IsUtf8 bytes.now
+        → IfSome result (λ rest. IsCharBoundary bytes.now (length bytes.now - length rest.now)) }
 {
     after_tag(bytes, &|_: &[u8]| 0)
 }

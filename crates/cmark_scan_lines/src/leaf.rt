@@ -125,7 +125,8 @@ fn is_run_of(line: &[u8], character: u8) -> bool
 /// three or more tildes.
 #[inline]
 pub fn scan_code_fence(line: &[u8]) -> Option<CodeFence>
-    ensures fence { (indent : ℕ) → option_map (shown_fence indent line.now) result ≡ fence_of indent line.now }
+    ensures fence { (indent : ℕ)
+        → option_map (shown_fence indent line.now) result ≡ fence_of indent line.now }
     ensures place { IfSome result (HasPlace line.now) }
 {
     match line {
@@ -138,7 +139,8 @@ pub fn scan_code_fence(line: &[u8]) -> Option<CodeFence>
 /// A fence of three or more backticks, without backticks after them.
 #[inline]
 fn backtick_fence(line: &[u8]) -> Option<CodeFence>
-    ensures fence { (indent : ℕ) → option_map (shown_fence indent line.now) result ≡ backtick_fence indent line.now }
+    ensures fence { (indent : ℕ)
+        → option_map (shown_fence indent line.now) result ≡ backtick_fence indent line.now }
     ensures place { IfSome result (HasPlace line.now) }
 {
     let fence = fence_of(line, b'`')?;
@@ -151,7 +153,8 @@ fn backtick_fence(line: &[u8]) -> Option<CodeFence>
 /// A fence of three or more of this byte, whatever follows.
 #[inline]
 fn fence_of(line: &[u8], delimiter: u8) -> Option<CodeFence>
-    ensures fence { (indent : ℕ) → option_map (shown_fence indent line.now) result ≡ long_fence indent delimiter line.now }
+    ensures fence { (indent : ℕ)
+        → option_map (shown_fence indent line.now) result ≡ long_fence indent delimiter line.now }
     ensures place { IfSome result (HasPlace line.now) }
     ensures run_length { IfSome result (λ fence. fence.run_length ≡ run delimiter line.now) }
 {

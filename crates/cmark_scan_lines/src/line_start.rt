@@ -49,7 +49,8 @@ impl<'a> LineStart<'a> {
     /// The line at the beginning of the bytes: up to the first LF or CR, or all bytes. Nothing is taken from it yet.
     #[inline(always)]
     pub fn new(bytes: &'a [u8]) -> LineStart<'a>
-        ensures { (at line_end : ℕ) → row_from at line_end result ≡ line_of at line_end bytes.entry.now }
+        ensures { (at line_end : ℕ)
+            → row_from at line_end result ≡ line_of at line_end bytes.entry.now }
     {
         let len = content_len(bytes);
         LineStart {
@@ -65,7 +66,9 @@ impl<'a> LineStart<'a> {
     /// The next byte, if there is one.
     #[inline]
     fn next_byte(&self) -> Option<u8>
-        ensures { MatchOption result (self.now.taken ≡ length self.now.bytes.now) (λ byte. (self.now.taken < length self.now.bytes.now) × (byte ≡ slice_index self.now.bytes.now self.now.taken)) }
+        ensures { MatchOption result (self.now.taken ≡ length self.now.bytes.now)
+            (λ byte. (self.now.taken < length self.now.bytes.now)
+            × (byte ≡ slice_index self.now.bytes.now self.now.taken)) }
     {
         if self.taken < self.bytes.len() {
             Some(self.bytes[self.taken])
@@ -77,8 +80,10 @@ impl<'a> LineStart<'a> {
     /// The bytes that are left; empty if columns of a tab are left.
     #[inline]
     fn ahead(&self) -> &'a [u8]
-        ensures words { (at line_end : ℕ) → is_flush (row_from at line_end self.now) ≡ true → words_of (row_from at line_end self.now) ≡ result.now }
-        ensures blank { (at line_end : ℕ) → is_flush (row_from at line_end self.now) ≡ false → is_parted result.now ≡ true }
+        ensures words { (at line_end : ℕ) → is_flush (row_from at line_end self.now) ≡ true
+            → words_of (row_from at line_end self.now) ≡ result.now }
+        ensures blank { (at line_end : ℕ) → is_flush (row_from at line_end self.now) ≡ false
+            → is_parted result.now ≡ true }
         ensures whole { 0 < length result.now → self.now.pending ≡ 0 }
         ensures rest { 0 < length result.now → result.now ≡ drop self.now.taken self.now.bytes.now }
     {
@@ -93,7 +98,8 @@ impl<'a> LineStart<'a> {
     #[inline]
     fn has_stop(&self, character: u8) -> bool
         ensures known { result ≡ knows_stop character self.now }
-        ensures none { IsTrue result → is_break_of character (drop self.now.taken self.now.bytes.now) ≡ false }
+        ensures none { IsTrue result
+            → is_break_of character (drop self.now.taken self.now.bytes.now) ≡ false }
     {
         self.taken <= self.break_stop
             && self.break_stop < self.bytes.len()
@@ -108,9 +114,15 @@ impl<'a> LineStart<'a> {
     fn is_break(&mut self) -> bool
         requires { is_blank_byte (slice_index (drop self.old.taken self.old.bytes.now) 0) ≡ false }
         ensures found { result ≡ is_thematic_break (drop self.old.taken self.old.bytes.now) }
-        ensures learns { (character : ℕ) → slice_index (drop self.old.taken self.old.bytes.now) 0 ≡ character → is_break_character character ≡ true → all_pass (λ b. (b == character) || is_blank_byte b) (drop self.old.taken self.old.bytes.now) ≡ false → knows_stop character self.new ≡ true }
+        ensures learns { (character : ℕ)
+            → slice_index (drop self.old.taken self.old.bytes.now) 0 ≡ character
+            → is_break_character character ≡ true
+            → all_pass (λ b. (b == character) || is_blank_byte b)
+            (drop self.old.taken self.old.bytes.now) ≡ false
+            → knows_stop character self.new ≡ true }
         ensures stays { IsTrue result → self.new ≡ self.old }
-        ensures rest { (at line_end : ℕ) → row_from at line_end self.new ≡ row_from at line_end self.old }
+        ensures rest { (at line_end : ℕ)
+            → row_from at line_end self.new ≡ row_from at line_end self.old }
         ensures line { self.new.bytes ≡ self.old.bytes }
         ensures taken { self.new.taken ≡ self.old.taken }
         ensures pending { self.new.pending ≡ self.old.pending }
@@ -134,9 +146,11 @@ impl<'a> LineStart<'a> {
     fn take_bytes(&mut self, n: usize)
         requires whole { self.old.pending ≡ 0 }
         requires within { n ≤ length (drop self.old.taken self.old.bytes.now) }
-        requires plain { (k : ℕ) → k < n → slice_index (drop self.old.taken self.old.bytes.now) k ≢ tab }
+        requires plain { (k : ℕ) → k < n
+            → slice_index (drop self.old.taken self.old.bytes.now) k ≢ tab }
         ensures line { self.new.bytes ≡ self.old.bytes }
-        ensures rest { (at line_end : ℕ) → row_from at line_end self.new ≡ without n (row_from at line_end self.old) }
+        ensures rest { (at line_end : ℕ)
+            → row_from at line_end self.new ≡ without n (row_from at line_end self.old) }
         ensures whole { self.new.pending ≡ 0 }
         ensures taken { self.new.taken ≡ self.old.taken + n }
     {
@@ -169,7 +183,9 @@ impl<'a> LineStart<'a> {
         requires last { slice_index (drop self.old.taken self.old.bytes.now) (n - 1) ≢ tab }
         ensures line { self.new.bytes ≡ self.old.bytes }
         ensures whole { self.new.pending ≡ 0 }
-        ensures rest { (at line_end : ℕ) → row_from at line_end self.new ≡ without (columns_over n (columns_from at self.old)) (row_from at line_end self.old) }
+        ensures rest { (at line_end : ℕ)
+            → row_from at line_end self.new
+            ≡ without (columns_over n (columns_from at self.old)) (row_from at line_end self.old) }
     {
         let stop = self.taken + n;
         while self.taken < stop {
@@ -181,10 +197,15 @@ impl<'a> LineStart<'a> {
     #[inline]
     fn goes_on_with(&self, byte: u8) -> bool
         requires { is_blank_byte byte ≡ false }
-        ensures found { (at line_end : ℕ) → result ≡ (is_flush (row_from at line_end self.now) && begins_with byte (words_of (row_from at line_end self.now))) }
+        ensures found { (at line_end : ℕ)
+            → result
+            ≡
+            (is_flush (row_from at line_end self.now) && begins_with byte
+            (words_of (row_from at line_end self.now))) }
         ensures whole { IsTrue result → self.now.pending ≡ 0 }
         ensures some { IsTrue result → 1 ≤ length (drop self.now.taken self.now.bytes.now) }
-        ensures first { IsTrue result → slice_index (drop self.now.taken self.now.bytes.now) 0 ≡ byte }
+        ensures first { IsTrue result
+            → slice_index (drop self.now.taken self.now.bytes.now) 0 ≡ byte }
     {
         match self.ahead() {
             [first, ..] => *first == byte,
@@ -201,7 +222,9 @@ impl<'a> LineStart<'a> {
         ensures whole { self.new.pending ≡ 0 }
         ensures small { result ≤ 4 }
         ensures one { 0 < result → self.new.taken ≡ self.old.taken + 1 }
-        ensures wide { 0 < result → column_after 0 (take self.old.taken self.old.bytes.now) + result ≡ column_after 0 (take self.new.taken self.new.bytes.now) }
+        ensures wide { 0 < result
+            → column_after 0 (take self.old.taken self.old.bytes.now) + result
+            ≡ column_after 0 (take self.new.taken self.new.bytes.now) }
         ensures taken { columns_taken self.new ≡ columns_taken self.old + result }
         ensures blank { (at : ℕ) → result ≤ indent (columns_from at self.old) }
         ensures none { (at : ℕ) → result ≡ 0 → indent (columns_from at self.old) ≡ 0 }
@@ -226,7 +249,8 @@ impl<'a> LineStart<'a> {
     #[inline]
     pub fn scan_space_upto(&mut self, n: usize) -> usize
         ensures count { (at : ℕ) → result ≡ min n (indent (columns_from at self.old)) }
-        ensures rest { (at line_end : ℕ) → row_from at line_end self.new ≡ without result (row_from at line_end self.old) }
+        ensures rest { (at line_end : ℕ)
+            → row_from at line_end self.new ≡ without result (row_from at line_end self.old) }
     {
         let mut count = self.pending.min(n);
         self.pending -= count;
@@ -245,8 +269,12 @@ impl<'a> LineStart<'a> {
     /// Takes up to `n` columns of spaces and tabs, and returns whether there were `n`. If there are fewer, they are taken too.
     #[inline]
     pub fn scan_space(&mut self, n: usize) -> bool
-        ensures enough { (at line_end : ℕ) → result ≡ nat_le n (indent_of (row_from at line_end self.old)) }
-        ensures rest { (at line_end : ℕ) → row_from at line_end self.new ≡ without (min n (indent_of (row_from at line_end self.old))) (row_from at line_end self.old) }
+        ensures enough { (at line_end : ℕ)
+            → result ≡ nat_le n (indent_of (row_from at line_end self.old)) }
+        ensures rest { (at line_end : ℕ)
+            → row_from at line_end self.new
+            ≡ without (min n (indent_of (row_from at line_end self.old)))
+            (row_from at line_end self.old) }
     {
         self.scan_space_upto(n) == n
     }
@@ -254,7 +282,9 @@ impl<'a> LineStart<'a> {
     /// Takes all spaces and tabs at the beginning.
     #[inline]
     pub fn scan_all_space(&mut self)
-        ensures { (at line_end : ℕ) → row_from at line_end self.new ≡ without (indent_of (row_from at line_end self.old)) (row_from at line_end self.old) }
+        ensures { (at line_end : ℕ)
+            → row_from at line_end self.new
+            ≡ without (indent_of (row_from at line_end self.old)) (row_from at line_end self.old) }
     {
         self.pending = 0;
         while self.take_blank() > 0 {}
@@ -263,7 +293,8 @@ impl<'a> LineStart<'a> {
     /// Records that a container without a prefix keeps the line (this profile's own). Nothing is taken.
     #[inline]
     pub fn hold(&mut self)
-        ensures { (at line_end : ℕ) → row_from at line_end self.new ≡ hold (row_from at line_end self.old) }
+        ensures { (at line_end : ℕ)
+            → row_from at line_end self.new ≡ hold (row_from at line_end self.old) }
     {
         self.held = 1;
     }

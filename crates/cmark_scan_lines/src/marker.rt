@@ -31,7 +31,8 @@ pub(crate) struct ListMarker {
 pub(crate) fn scan_listitem(line: &[u8]) -> Option<ListMarker>
     ensures value { option_map shown_marker result ≡ parted (marker_of line.now) line.now }
     ensures within { IfSome result (λ marker. marker.size ≤ length line.now) }
-    ensures plain { IfSome result (λ marker. (k : ℕ) → k < marker.size → slice_index line.now k ≢ tab) }
+    ensures plain { IfSome result
+        (λ marker. (k : ℕ) → k < marker.size → slice_index line.now k ≢ tab) }
 {
     let marker = scan_marker(line)?;
     if is_parted(&line[marker.size..]) {
@@ -46,7 +47,8 @@ pub(crate) fn scan_listitem(line: &[u8]) -> Option<ListMarker>
 fn scan_marker(line: &[u8]) -> Option<ListMarker>
     ensures value { option_map shown_marker result ≡ marker_of line.now }
     ensures within { IfSome result (λ marker. marker.size ≤ length line.now) }
-    ensures plain { IfSome result (λ marker. (k : ℕ) → k < marker.size → slice_index line.now k ≢ tab) }
+    ensures plain { IfSome result
+        (λ marker. (k : ℕ) → k < marker.size → slice_index line.now k ≢ tab) }
 {
     match line {
         [delimiter, ..] if *delimiter == b'-' || *delimiter == b'+' || *delimiter == b'*' => Some(
@@ -63,9 +65,11 @@ fn scan_marker(line: &[u8]) -> Option<ListMarker>
 /// One to nine digits, and `.` or `)`.
 #[inline]
 fn scan_number(line: &[u8]) -> Option<ListMarker>
-    ensures value { option_map shown_marker result ≡ delimited (digits line.now) (drop (length (digits line.now)) line.now) }
+    ensures value { option_map shown_marker result
+        ≡ delimited (digits line.now) (drop (length (digits line.now)) line.now) }
     ensures within { IfSome result (λ marker. marker.size ≤ length line.now) }
-    ensures plain { IfSome result (λ marker. (k : ℕ) → k < marker.size → slice_index line.now k ≢ tab) }
+    ensures plain { IfSome result
+        (λ marker. (k : ℕ) → k < marker.size → slice_index line.now k ≢ tab) }
 {
     let count = count_digits(line);
     if count == 0 || count > 9 || count == line.len() {
@@ -148,7 +152,8 @@ fn is_parted_text(bytes: &[u8]) -> bool
 
 /// The kind of the alert whose tag the line is, if it is one (this profile's own), and the number of bytes of the tag.
 pub(crate) fn scan_alert(line: &[u8]) -> Option<(BlockQuoteKind, usize)>
-    ensures value { option_map (λ found. shown_block_quote_kind found.0) result ≡ alert_of line.now }
+    ensures value { option_map (λ found. shown_block_quote_kind found.0) result
+        ≡ alert_of line.now }
     ensures some { IfSome result (λ found. 0 < found.1) }
     ensures within { IfSome result (λ found. found.1 ≤ length line.now) }
     ensures plain { IfSome result (λ found. (k : ℕ) → k < found.1 → slice_index line.now k ≢ tab) }

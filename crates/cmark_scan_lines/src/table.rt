@@ -13,7 +13,9 @@ use std::alloc::{AllocError, Global};
 /// them and with blanks around it; pipes separate them. There must be at least one pipe (this profile's own); a pipe may also precede and
 /// follow the cells. The line is passed without its ending. Fails only if memory is refused.
 pub fn scan_table_head(alloc: Global, line: &[u8]) -> Result<Option<Vec<Alignment>>, AllocError>
-    ensures { IfOk result (λ row. option_map (λ columns. map shown_alignment columns.items) row ≡ delimiter_row line.now) }
+    ensures { IfOk result
+        (λ row. option_map (λ columns. map shown_alignment columns.items) row
+        ≡ delimiter_row line.now) }
 {
     if memchr(b'|', line).is_none() {
         return Ok(None);
@@ -47,7 +49,9 @@ fn count_columns(row: &[u8]) -> Option<usize>
 
 /// The alignments of the cells between pipes, if each is a delimiter cell.
 fn scan_cells(alloc: Global, row: &[u8]) -> Result<Option<Vec<Alignment>>, AllocError>
-    ensures { IfOk result (λ found. option_map (λ columns. map shown_alignment columns.items) found ≡ alignments (cells row.now)) }
+    ensures { IfOk result
+        (λ found. option_map (λ columns. map shown_alignment columns.items) found
+        ≡ alignments (cells row.now)) }
 {
     let mut columns = Vec::new(alloc);
     let mut rest = row;

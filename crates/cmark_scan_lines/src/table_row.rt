@@ -45,9 +45,11 @@ pub fn cells_in_row(words: &[u8]) -> &[u8]
 /// The number of bytes of the first cell of a row that continues with these bytes, and the bytes after the pipe that follows the cell.
 /// `None` if only spaces and tabs are left.
 pub fn next_cell(bytes: &[u8]) -> Option<(usize, &[u8])>
-    ensures cells { cells_after bytes.now ≡ cells_cut bytes.now (option_map (λ cut. (cut.0, cut.1.now)) result) }
+    ensures cells { cells_after bytes.now
+        ≡ cells_cut bytes.now (option_map (λ cut. (cut.0, cut.1.now)) result) }
     ensures within { IfSome result (λ cut. cut.0 ≤ length bytes.now) }
-    ensures following { IfSome result (λ cut. (cut.1.now ≡ []) ⊎ (length cut.1.now + suc cut.0 ≡ length bytes.now)) }
+    ensures following { IfSome result
+        (λ cut. (cut.1.now ≡ []) ⊎ (length cut.1.now + suc cut.0 ≡ length bytes.now)) }
 {
     match find_pipe(bytes) {
         Some(at) => Some((at, &bytes[at + 1..])),

@@ -42,7 +42,8 @@ impl Model for AsciiSet {
 impl AsciiSet {
     /// The set of the ASCII bytes that the table has.
     pub fn new(table: &[bool; 256]) -> AsciiSet
-        ensures has { (byte : ℕ) → byte < 128 → in_rows result byte ≡ slice_index_or table.now byte false }
+        ensures has { (byte : ℕ) → byte < 128
+            → in_rows result byte ≡ slice_index_or table.now byte false }
     {
         let mut rows = [0u8; 16];
         for low in 0..16 {
@@ -62,7 +63,8 @@ impl AsciiSet {
     /// The bytes of both sets.
     #[inline(always)]
     pub fn union(&self, other: &AsciiSet) -> AsciiSet
-        ensures has { (byte : ℕ) → in_rows result byte ≡ (in_rows self.now byte || in_rows other.now byte) }
+        ensures has { (byte : ℕ)
+            → in_rows result byte ≡ (in_rows self.now byte || in_rows other.now byte) }
     {
         let rows = u8x16::from_slice(&self.rows) | u8x16::from_slice(&other.rows);
         AsciiSet {
@@ -78,7 +80,8 @@ impl AsciiSet {
     pub fn find_within(&self, bytes: &[u8], from: usize, to: usize) -> usize
         requires ordered { from ≤ to }
         requires inside { to ≤ length bytes.now }
-        ensures value { result ≡ from + position_or_len (in_rows self.now) (drop from (take to bytes.now)) }
+        ensures value { result
+            ≡ from + position_or_len (in_rows self.now) (drop from (take to bytes.now)) }
         ensures within { result ≤ to }
         ensures ascii { result < to → slice_index bytes.now result < 128 }
     {
@@ -191,9 +194,11 @@ fn lanes_before<S: LaneSet>(set: &S, lanes: u8x16) -> usize
 #[inline(always)]
 fn first_from<S: LaneSet>(set: &S, bytes: &[u8], at: usize) -> Option<usize>
     requires { at + 16 ≤ length bytes.now }
-    ensures value { IfSome result (λ passed. passed ≡ position_or_len (S.has set.now) (take 16 (drop at bytes.now))) }
+    ensures value { IfSome result
+        (λ passed. passed ≡ position_or_len (S.has set.now) (take 16 (drop at bytes.now))) }
     ensures small { IfSome result (λ passed. passed < 16) }
-    ensures none { result ≡ None → position_or_len (S.has set.now) (take 16 (drop at bytes.now)) ≡ 16 }
+    ensures none { result ≡ None
+        → position_or_len (S.has set.now) (take 16 (drop at bytes.now)) ≡ 16 }
 {
     first_lane(set, u8x16::from_slice(&bytes[at..]))
 }
@@ -280,7 +285,8 @@ fn copy_ends(lanes: &mut [u8; 16], bytes: &[u8], size: usize)
 fn find_between<S: LaneSet>(set: &S, bytes: &[u8], from: usize, to: usize) -> usize
     requires ordered { from ≤ to }
     requires inside { to ≤ length bytes.now }
-    ensures value { result ≡ from + position_or_len (S.has set.now) (drop from (take to bytes.now)) }
+    ensures value { result
+        ≡ from + position_or_len (S.has set.now) (drop from (take to bytes.now)) }
     ensures before { from ≤ result }
     ensures within { result ≤ to }
     ensures here { result < to → S.has set.now (slice_index bytes.now result) ≡ true }

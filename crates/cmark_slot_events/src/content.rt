@@ -30,7 +30,8 @@ impl<'s, 'a> Content<'s, 'a> {
     pub fn code(&self, alloc: Global) -> Result<CowStr<'a>, AllocError>
         requires { IsInLeaf self.now }
         ensures value { IfOk result (λ text. text_bytes text ≡ code_text (read_as self.now)) }
-        ensures lent { IsUnbroken self.now → takes_lines (written self.now) ≡ false → read_as self.now ≡ written self.now → IfOk result IsBorrowed }
+        ensures lent { IsUnbroken self.now → takes_lines (written self.now) ≡ false
+            → read_as self.now ≡ written self.now → IfOk result IsBorrowed }
         ensures part { IfOk result (IsPartIfBorrowed (source_of self.now.leaf.now)) }
     {
         if self.from >= self.to {
@@ -50,8 +51,10 @@ impl<'s, 'a> Content<'s, 'a> {
     fn code_in_cell(&self, alloc: Global) -> Result<CowStr<'a>, AllocError>
         requires read { IsRead self.now.leaf.now }
         requires part { IsPart (text_of self.now.leaf.now) self.now.from self.now.to }
-        ensures value { IfOk result (λ text. text_bytes text ≡ code_text (without_pipe_escapes (written self.now))) }
-        ensures lent { IsUnbroken self.now → takes_lines (written self.now) ≡ false → without_pipe_escapes (written self.now) ≡ written self.now → IfOk result IsBorrowed }
+        ensures value { IfOk result
+            (λ text. text_bytes text ≡ code_text (without_pipe_escapes (written self.now))) }
+        ensures lent { IsUnbroken self.now → takes_lines (written self.now) ≡ false
+            → without_pipe_escapes (written self.now) ≡ written self.now → IfOk result IsBorrowed }
         ensures part { IfOk result (IsPartIfBorrowed (source_of self.now.leaf.now)) }
     {
         let Ok(written) = text_between(alloc, self.leaf, self.from, self.to) else {
@@ -71,7 +74,8 @@ impl<'s, 'a> Content<'s, 'a> {
     pub fn formula(&self, alloc: Global) -> Result<CowStr<'a>, AllocError>
         requires { IsInLeaf self.now }
         ensures value { IfOk result (λ text. text_bytes text ≡ read_as self.now) }
-        ensures lent { IsUnbroken self.now → read_as self.now ≡ written self.now → IfOk result IsBorrowed }
+        ensures lent { IsUnbroken self.now → read_as self.now ≡ written self.now
+            → IfOk result IsBorrowed }
         ensures part { IfOk result (IsPartIfBorrowed (source_of self.now.leaf.now)) }
     {
         if self.from >= self.to {

@@ -38,17 +38,23 @@ impl<'a> LeafEvents<'a> {
     #[inline(always)]
     pub fn next(&mut self, leaf: &LeafText<'a>) -> Result<Option<Ranged<'a>>, AllocError>
         requires read { IsRead leaf.now }
-        requires slots { AreSlots (text_of leaf.now) (length (text_of leaf.now)) self.old.slots.items }
+        requires slots { AreSlots (text_of leaf.now) (length (text_of leaf.now))
+            self.old.slots.items }
         requires opened { AreOpened (source_of leaf.now) self.old.walk.opened.items }
         requires left { AreLeft leaf.now self.old }
         ensures slots { self.new.slots ≡ self.old.slots }
         ensures opened { AreOpened (source_of leaf.now) self.new.walk.opened.items }
-        ensures gives { IfOk result (λ given. Gives (source_of leaf.now) self.old.walk.opened.items given self.new.walk.opened.items) }
+        ensures gives { IfOk result
+            (λ given. Gives (source_of leaf.now) self.old.walk.opened.items given
+            self.new.walk.opened.items) }
         ensures lent { IfOk result (λ given. IfSome given (IsRangedZeroCopy (source_of leaf.now))) }
-        ensures fewer { IfOk result (λ given. OnSome given (events_left self.new < events_left self.old)) }
+        ensures fewer { IfOk result
+            (λ given. OnSome given (events_left self.new < events_left self.old)) }
         ensures most { OnOk result (events_left self.new ≤ events_left self.old) }
         ensures few { OnOk result (length self.new.slots.items < 18446744073709551616) }
-        ensures events { IfOk result (λ given. IsFirst given (events_to_come leaf.now self.old) (events_to_come leaf.now self.new)) }
+        ensures events { IfOk result
+            (λ given. IsFirst given (events_to_come leaf.now self.old)
+            (events_to_come leaf.now self.new)) }
         ensures left { OnOk result (AreLeft leaf.now self.new) }
         ensures ends { OnErr result (BeginWithoutEnd (events_to_come leaf.now self.old)) }
     {
@@ -76,14 +82,27 @@ impl<'a> LeafEvents<'a> {
         ensures slots { self.new.slots ≡ self.old.slots }
         ensures place { self.new.walk.next ≡ self.old.walk.next }
         ensures opened { AreOpened (source_of leaf.now) self.new.walk.opened.items }
-        ensures gives { IfOk result (λ given. Passes (source_of leaf.now) self.old.walk.opened.items given self.new.walk.opened.items) }
+        ensures gives { IfOk result
+            (λ given. Passes (source_of leaf.now) self.old.walk.opened.items given
+            self.new.walk.opened.items) }
         ensures lent { IfOk result (λ given. IfSome given (IsRangedZeroCopy (source_of leaf.now))) }
-        ensures events { (following : List Slots) → CanBeGiven leaf.now self.old.texts.items self.old.links.items (slot ∷ following)
-            → IfOk result (λ given. events_of leaf.now self.old.texts.items self.old.links.items (slot ∷ following) self.old.walk.opened.items
-            ≡ with_given given (events_of leaf.now self.new.texts.items self.new.links.items following self.new.walk.opened.items)) }
-        ensures left { (following : List Slots) → CanBeGiven leaf.now self.old.texts.items self.old.links.items (slot ∷ following)
-            → OnOk result (CanBeGiven leaf.now self.new.texts.items self.new.links.items following) }
-        ensures ends { OnErr result ((following : List Slots) → BeginWithoutEnd (events_of leaf.now self.old.texts.items self.old.links.items (slot ∷ following) self.old.walk.opened.items)) }
+        ensures events { (following : List Slots)
+            → CanBeGiven leaf.now self.old.texts.items self.old.links.items (slot ∷ following)
+            → IfOk result
+            (λ given. events_of leaf.now self.old.texts.items self.old.links.items
+            (slot ∷ following) self.old.walk.opened.items
+            ≡ with_given given
+            (events_of leaf.now self.new.texts.items self.new.links.items following
+            self.new.walk.opened.items)) }
+        ensures left { (following : List Slots)
+            → CanBeGiven leaf.now self.old.texts.items self.old.links.items (slot ∷ following)
+            → OnOk result
+            (CanBeGiven leaf.now self.new.texts.items self.new.links.items following) }
+        ensures ends { OnErr result
+            ((following : List Slots)
+            → BeginWithoutEnd
+            (events_of leaf.now self.old.texts.items self.old.links.items (slot ∷ following)
+            self.old.walk.opened.items)) }
     {
         match slot.kind {
             SlotKind::Begin(element) => self.begin(leaf, slot, element),
@@ -112,10 +131,22 @@ impl<'a> LeafEvents<'a> {
         ensures slots { self.new.slots ≡ self.old.slots }
         ensures place { self.new.walk.next ≡ self.old.walk.next }
         ensures opened { AreOpened (source_of leaf.now) self.new.walk.opened.items }
-        ensures gives { IfOk result (λ given. Passes (source_of leaf.now) self.old.walk.opened.items given self.new.walk.opened.items) }
+        ensures gives { IfOk result
+            (λ given. Passes (source_of leaf.now) self.old.walk.opened.items given
+            self.new.walk.opened.items) }
         ensures lent { IfOk result (λ given. IfSome given (IsRangedZeroCopy (source_of leaf.now))) }
-        ensures event { IfOk result (λ given. IsSomeAnd given (λ start. shown_ranged start ≡ over (source_of leaf.now) (place_of leaf.now slot.start) (place_of leaf.now (slot.end - 1) + 1) (Start (shown_element self.old.links.items element)))) }
-        ensures opens { OnOk result (shown_opened self.new.walk.opened.items ≡ over (source_of leaf.now) (place_of leaf.now slot.start) (place_of leaf.now (slot.end - 1) + 1) (End (end_of (shown_element self.old.links.items element))) ∷ shown_opened self.old.walk.opened.items) }
+        ensures event { IfOk result
+            (λ given. IsSomeAnd given
+            (λ start. shown_ranged start
+            ≡ over (source_of leaf.now) (place_of leaf.now slot.start)
+            (place_of leaf.now (slot.end - 1) + 1)
+            (Start (shown_element self.old.links.items element)))) }
+        ensures opens { OnOk result
+            (shown_opened self.new.walk.opened.items
+            ≡ over (source_of leaf.now) (place_of leaf.now slot.start)
+            (place_of leaf.now (slot.end - 1) + 1)
+            (End (end_of (shown_element self.old.links.items element))) ∷ shown_opened
+            self.old.walk.opened.items) }
         ensures links { KeepsOthers (link_of element) self.old.links.items self.new.links.items }
         ensures texts { self.new.texts ≡ self.old.texts }
     {
@@ -144,10 +175,18 @@ impl<'a> LeafEvents<'a> {
         requires text { IsThere (length self.old.texts.items) (text_named slot.kind) }
         ensures slots { self.new.slots ≡ self.old.slots }
         ensures walk { self.new.walk ≡ self.old.walk }
-        ensures gives { IfOk result (λ given. Passes (source_of leaf.now) self.old.walk.opened.items given self.new.walk.opened.items) }
+        ensures gives { IfOk result
+            (λ given. Passes (source_of leaf.now) self.old.walk.opened.items given
+            self.new.walk.opened.items) }
         ensures lent { IfOk result (λ given. IfSome given (IsRangedZeroCopy (source_of leaf.now))) }
-        ensures event { IfOk result (λ given. IsSomeAnd given (λ single. shown_ranged single ≡ over (source_of leaf.now) (place_of leaf.now slot.start) (place_of leaf.now (slot.end - 1) + 1) (event_in leaf.now self.old.texts.items slot slot.kind))) }
-        ensures texts { KeepsOthers (text_named slot.kind) self.old.texts.items self.new.texts.items }
+        ensures event { IfOk result
+            (λ given. IsSomeAnd given
+            (λ single. shown_ranged single
+            ≡ over (source_of leaf.now) (place_of leaf.now slot.start)
+            (place_of leaf.now (slot.end - 1) + 1)
+            (event_in leaf.now self.old.texts.items slot slot.kind))) }
+        ensures texts { KeepsOthers (text_named slot.kind) self.old.texts.items
+            self.new.texts.items }
         ensures links { self.new.links ≡ self.old.links }
     {
         let range = leaf.range(slot.start, slot.end);
@@ -170,12 +209,16 @@ impl<'a> LeafEvents<'a> {
     fn end_last(&mut self) -> Option<Ranged<'a>>
         ensures slots { self.new.slots ≡ self.old.slots }
         ensures place { self.new.walk.next ≡ self.old.walk.next }
-        ensures opened { (source : List ℕ) → AreOpened source self.old.walk.opened.items → AreOpened source self.new.walk.opened.items }
-        ensures gives { (source : List ℕ) → AreOpened source self.old.walk.opened.items → Gives source self.old.walk.opened.items result self.new.walk.opened.items }
+        ensures opened { (source : List ℕ) → AreOpened source self.old.walk.opened.items
+            → AreOpened source self.new.walk.opened.items }
+        ensures gives { (source : List ℕ) → AreOpened source self.old.walk.opened.items
+            → Gives source self.old.walk.opened.items result self.new.walk.opened.items }
         ensures lent { (source : List ℕ) → IfSome result (IsRangedZeroCopy source) }
-        ensures fewer { OnSome result (length self.new.walk.opened.items < length self.old.walk.opened.items) }
+        ensures fewer { OnSome result
+            (length self.new.walk.opened.items < length self.old.walk.opened.items) }
         ensures most { length self.new.walk.opened.items ≤ length self.old.walk.opened.items }
-        ensures first { IsFirst result (shown_opened self.old.walk.opened.items) (shown_opened self.new.walk.opened.items) }
+        ensures first { IsFirst result (shown_opened self.old.walk.opened.items)
+            (shown_opened self.new.walk.opened.items) }
         ensures links { self.new.links ≡ self.old.links }
         ensures texts { self.new.texts ≡ self.old.texts }
     {
@@ -240,9 +283,13 @@ impl<'a> LeafEvents<'a> {
         requires text { IsThere (length self.old.texts.items) (text_named slot.kind) }
         ensures slots { self.new.slots ≡ self.old.slots }
         ensures walk { self.new.walk ≡ self.old.walk }
-        ensures lent { IfOk result (IsHeldAs slot.kind (source_of leaf.now) (place_of leaf.now slot.start) (place_of leaf.now (slot.end - 1) + 1)) }
-        ensures value { IfOk result (λ text. text_bytes text ≡ held_in leaf.now self.old.texts.items slot slot.kind) }
-        ensures texts { KeepsOthers (text_named slot.kind) self.old.texts.items self.new.texts.items }
+        ensures lent { IfOk result
+            (IsHeldAs slot.kind (source_of leaf.now) (place_of leaf.now slot.start)
+            (place_of leaf.now (slot.end - 1) + 1)) }
+        ensures value { IfOk result
+            (λ text. text_bytes text ≡ held_in leaf.now self.old.texts.items slot slot.kind) }
+        ensures texts { KeepsOthers (text_named slot.kind) self.old.texts.items
+            self.new.texts.items }
         ensures links { self.new.links ≡ self.old.links }
     {
         match slot.kind {
@@ -269,7 +316,8 @@ impl<'a> LeafEvents<'a> {
 #[inline(always)]
 fn event_of<'a>(kind: SlotKind, text: CowStr<'a>) -> Event<'a>
     ensures value { shown result ≡ event_as kind (text_bytes text.entry) }
-    ensures lent { (source : List ℕ) (start end : ℕ) → IsHeldAs kind source start end text.entry → IsZeroCopy source result start end }
+    ensures lent { (source : List ℕ) (start end : ℕ) → IsHeldAs kind source start end text.entry
+        → IsZeroCopy source result start end }
 {
     match kind {
         SlotKind::FootnoteReference(_) => Event::FootnoteReference(text),
@@ -348,7 +396,10 @@ fn written<'a>(
     requires read { IsRead leaf.now }
     requires slot { IsSlot (text_of leaf.now) (length (text_of leaf.now)) slot }
     ensures value { IfOk result (λ made. text_bytes made ≡ text_bytes text.entry) }
-    ensures lent { IfOk result (IsLentBy (slice (source_of leaf.now) (place_of leaf.now slot.start) (place_of leaf.now (slot.end - 1) + 1))) }
+    ensures lent { IfOk result
+        (IsLentBy
+        (slice (source_of leaf.now) (place_of leaf.now slot.start)
+        (place_of leaf.now (slot.end - 1) + 1))) }
 {
     let part = leaf.source_between(slot.start, slot.end);
     text.lent_by(alloc, part)
@@ -360,9 +411,11 @@ fn source_part<'a>(leaf: &LeafText<'a>, slot: Slot, end: usize) -> Ranged<'a>
     requires read { IsRead leaf.now }
     requires slot { IsSlot (text_of leaf.now) (length (text_of leaf.now)) slot }
     ensures start { result.range.start ≡ place_of leaf.now slot.start }
-    ensures end { place_of leaf.now slot.start < end → IsCharBoundary (source_of leaf.now) end → result.range.end ≡ end }
+    ensures end { place_of leaf.now slot.start < end → IsCharBoundary (source_of leaf.now) end
+        → result.range.end ≡ end }
     ensures part { IsPart (source_of leaf.now) result.range.start result.range.end }
-    ensures value { shown result.event ≡ event_as slot.kind (slice (source_of leaf.now) result.range.start result.range.end) }
+    ensures value { shown result.event
+        ≡ event_as slot.kind (slice (source_of leaf.now) result.range.start result.range.end) }
     ensures lent { IsRangedZeroCopy (source_of leaf.now) result }
 {
     let range = leaf.range_up_to(slot.start, slot.end, end);
@@ -402,7 +455,10 @@ fn cut_html<'a>(
     requires slot { IsSlot (text_of leaf.now) (length (text_of leaf.now)) slot }
     requires from { IsCharBoundary (text_of leaf.now) from }
     ensures value { IfOk result (λ made. text_bytes made ≡ slice (text_of leaf.now) from slot.end) }
-    ensures lent { IfOk result (IsLentBy (slice (source_of leaf.now) (place_of leaf.now slot.start) (place_of leaf.now (slot.end - 1) + 1))) }
+    ensures lent { IfOk result
+        (IsLentBy
+        (slice (source_of leaf.now) (place_of leaf.now slot.start)
+        (place_of leaf.now (slot.end - 1) + 1))) }
 {
     if from >= slot.end {
         return written(alloc, leaf, slot, CowStr::Borrowed(""));

@@ -86,8 +86,12 @@ impl<'a> LeafEvents<'a> {
         ensures links { self.new.links ≡ links.old }
         ensures next { self.new.walk.next ≡ 0 }
         ensures opened { self.new.walk.opened.items ≡ [] }
-        ensures events { (leaf : LeafText) → events_to_come leaf self.new ≡ all_events leaf texts.old.items links.old.items slots.old.items }
-        ensures left { (leaf : LeafText) → CanBeGiven leaf texts.old.items links.old.items slots.old.items → AreLeft leaf self.new }
+        ensures events { (leaf : LeafText)
+            → events_to_come leaf self.new
+            ≡ all_events leaf texts.old.items links.old.items slots.old.items }
+        ensures left { (leaf : LeafText)
+            → CanBeGiven leaf texts.old.items links.old.items slots.old.items
+            → AreLeft leaf self.new }
     {
         mem::swap(&mut self.slots, slots);
         mem::swap(&mut self.texts, texts);

@@ -39,14 +39,19 @@ impl<'a> LeafEvents<'a> {
     #[inline(always)]
     pub fn pass_link(&mut self, leaf: &LeafText<'a>) -> Result<(), AllocError>
         requires read { IsRead leaf.now }
-        requires slots { AreSlots (text_of leaf.now) (length (text_of leaf.now)) self.old.slots.items }
+        requires slots { AreSlots (text_of leaf.now) (length (text_of leaf.now))
+            self.old.slots.items }
         requires opened { AreOpened (source_of leaf.now) self.old.walk.opened.items }
         requires ahead { is_some (link_to_come self.old) ≡ true }
         ensures slots { self.new.slots ≡ self.old.slots }
         ensures left { AreLeft leaf.now self.old → OnOk result (AreLeft leaf.now self.new) }
         ensures opened { AreOpened (source_of leaf.now) self.new.walk.opened.items }
         ensures fewer { OnOk result (events_left self.new < events_left self.old) }
-        ensures events { OnOk result (IfSome (link_to_come self.old) (λ link. IsStartFirst (source_of leaf.now) self.old.walk.opened.items (shown_link link) self.new.walk.opened.items (events_to_come leaf.now self.old) (events_to_come leaf.now self.new))) }
+        ensures events { OnOk result
+            (IfSome (link_to_come self.old)
+            (λ link. IsStartFirst (source_of leaf.now) self.old.walk.opened.items (shown_link link)
+            self.new.walk.opened.items (events_to_come leaf.now self.old)
+            (events_to_come leaf.now self.new))) }
         ensures ends { OnErr result (BeginWithoutEnd (events_to_come leaf.now self.old)) }
     {
         // The index after the slot fits in a `usize`.

@@ -38,17 +38,26 @@ impl<'a> LeafEvents<'a> {
     #[inline(always)]
     pub fn next_short(&mut self, leaf: &LeafText<'a>) -> Result<Next<'a>, AllocError>
         requires read { IsRead leaf.now }
-        requires slots { AreSlots (text_of leaf.now) (length (text_of leaf.now)) self.old.slots.items }
+        requires slots { AreSlots (text_of leaf.now) (length (text_of leaf.now))
+            self.old.slots.items }
         requires opened { AreOpened (source_of leaf.now) self.old.walk.opened.items }
         ensures slots { self.new.slots ≡ self.old.slots }
         ensures left { AreLeft leaf.now self.old → OnOk result (AreLeft leaf.now self.new) }
         ensures opened { AreOpened (source_of leaf.now) self.new.walk.opened.items }
-        ensures stands { IfOk result (λ next. IfShort next (λ short. (d : Slots) → StandsFor leaf.now (get_or self.old.slots.items (self.new.walk.next - 1) d) short)) }
-        ensures gives { IfOk result (λ next. GivesNext (source_of leaf.now) self.old.walk.opened.items next self.new.walk.opened.items) }
+        ensures stands { IfOk result
+            (λ next. IfShort next
+            (λ short. (d : Slots)
+            → StandsFor leaf.now (get_or self.old.slots.items (self.new.walk.next - 1) d) short)) }
+        ensures gives { IfOk result
+            (λ next. GivesNext (source_of leaf.now) self.old.walk.opened.items next
+            self.new.walk.opened.items) }
         ensures fewer { IfOk result (λ next. LeavesFewer self.old next self.new) }
         ensures most { OnOk result (events_left self.new ≤ events_left self.old) }
         ensures few { OnOk result (length self.new.slots.items < 18446744073709551616) }
-        ensures events { IfOk result (λ next. IsNextFirst (source_of leaf.now) self.old.walk.opened.items next self.new.walk.opened.items (events_to_come leaf.now self.old) (events_to_come leaf.now self.new)) }
+        ensures events { IfOk result
+            (λ next. IsNextFirst (source_of leaf.now) self.old.walk.opened.items next
+            self.new.walk.opened.items (events_to_come leaf.now self.old)
+            (events_to_come leaf.now self.new)) }
         ensures ends { OnErr result (BeginWithoutEnd (events_to_come leaf.now self.old)) }
     {
         while self.walk.next < self.slots.len() {
@@ -80,11 +89,19 @@ impl<'a> LeafEvents<'a> {
         ensures place { self.new.walk.next ≡ self.old.walk.next }
         ensures opened { AreOpened (source_of leaf.now) self.new.walk.opened.items }
         ensures stands { IfOk result (λ next. IfShort next (StandsFor leaf.now slot)) }
-        ensures gives { IfOk result (λ next. PassesShort (source_of leaf.now) self.old.walk.opened.items next self.new.walk.opened.items) }
-        ensures first { IfOk result (λ next. (texts : List Texts) (links : List Links) (following : List Slots)
-            → PassesFirst (source_of leaf.now) self.old.walk.opened.items next self.new.walk.opened.items
-            (events_of leaf.now texts links (slot ∷ following) self.old.walk.opened.items) (events_of leaf.now texts links following self.new.walk.opened.items)) }
-        ensures ends { OnErr result ((texts : List Texts) (links : List Links) (following : List Slots) → BeginWithoutEnd (events_of leaf.now texts links (slot ∷ following) self.old.walk.opened.items)) }
+        ensures gives { IfOk result
+            (λ next. PassesShort (source_of leaf.now) self.old.walk.opened.items next
+            self.new.walk.opened.items) }
+        ensures first { IfOk result
+            (λ next. (texts : List Texts) (links : List Links) (following : List Slots)
+            → PassesFirst (source_of leaf.now) self.old.walk.opened.items next
+            self.new.walk.opened.items
+            (events_of leaf.now texts links (slot ∷ following) self.old.walk.opened.items)
+            (events_of leaf.now texts links following self.new.walk.opened.items)) }
+        ensures ends { OnErr result
+            ((texts : List Texts) (links : List Links) (following : List Slots)
+            → BeginWithoutEnd
+            (events_of leaf.now texts links (slot ∷ following) self.old.walk.opened.items)) }
     {
         match slot.kind {
             // The start of a link or an image is an event of another kind.
@@ -113,13 +130,17 @@ impl<'a> LeafEvents<'a> {
         ensures texts { self.new.texts ≡ self.old.texts }
         ensures links { self.new.links ≡ self.old.links }
         ensures place { self.new.walk.next ≡ self.old.walk.next }
-        ensures opened { (source : List ℕ) → AreOpened source self.old.walk.opened.items → AreOpened source self.new.walk.opened.items }
-        ensures gives { (source : List ℕ) → AreOpened source self.old.walk.opened.items → GivesNext source self.old.walk.opened.items result self.new.walk.opened.items }
+        ensures opened { (source : List ℕ) → AreOpened source self.old.walk.opened.items
+            → AreOpened source self.new.walk.opened.items }
+        ensures gives { (source : List ℕ) → AreOpened source self.old.walk.opened.items
+            → GivesNext source self.old.walk.opened.items result self.new.walk.opened.items }
         ensures stands { (text : LeafTexts) (slot : Slots) → IfShort result (StandsFor text slot) }
-        ensures fewer { IfShort result (λ short. length self.new.walk.opened.items < length self.old.walk.opened.items) }
+        ensures fewer { IfShort result
+            (λ short. length self.new.walk.opened.items < length self.old.walk.opened.items) }
         ensures most { length self.new.walk.opened.items ≤ length self.old.walk.opened.items }
         ensures first { (source : List ℕ) → AreOpened source self.old.walk.opened.items
-            → IsNextFirst source self.old.walk.opened.items result self.new.walk.opened.items (shown_opened self.old.walk.opened.items) (shown_opened self.new.walk.opened.items) }
+            → IsNextFirst source self.old.walk.opened.items result self.new.walk.opened.items
+            (shown_opened self.old.walk.opened.items) (shown_opened self.new.walk.opened.items) }
     {
         match self.walk.opened.pop() {
             Some(opened) => Next::Short(Short::End(opened.tag), opened.start, opened.end),
@@ -131,7 +152,8 @@ impl<'a> LeafEvents<'a> {
 // The tag and the end of an element of emphasis, which has no text of its own.
 #[inline(always)]
 fn plain_element(element: Element) -> Option<(PlainTag, TagEnd)>
-    ensures value { option_map (λ (pair : PlainTags × TagEnds). shown_plain pair.0) result ≡ emphasis_tag element }
+    ensures value { option_map (λ (pair : PlainTags × TagEnds). shown_plain pair.0) result
+        ≡ emphasis_tag element }
     ensures span { IfSome result (λ pair. IsSpan (shown_plain pair.0)) }
     ensures end { IfSome result (λ pair. end_of (shown_plain pair.0) ≡ shown_end pair.1) }
 {
@@ -152,9 +174,13 @@ fn single_short<'a>(leaf: &LeafText<'a>, slot: Slot) -> Next<'a>
     requires read { IsRead leaf.now }
     requires slot { IsSlot (text_of leaf.now) (length (text_of leaf.now)) slot }
     ensures stands { IfShort result (StandsFor leaf.now slot) }
-    ensures gives { (opened : List OpenedOnes) → PassesShort (source_of leaf.now) opened result opened }
-    ensures first { (texts : List Texts) (links : List Links) (opened : List OpenedOnes) (following : List Slots) → IsAlone slot.kind
-        → PassesFirst (source_of leaf.now) opened result opened (events_of leaf.now texts links (slot ∷ following) opened) (events_of leaf.now texts links following opened) }
+    ensures gives { (opened : List OpenedOnes)
+        → PassesShort (source_of leaf.now) opened result opened }
+    ensures first { (texts : List Texts) (links : List Links) (opened : List OpenedOnes)
+        (following : List Slots) → IsAlone slot.kind
+        → PassesFirst (source_of leaf.now) opened result opened
+        (events_of leaf.now texts links (slot ∷ following) opened)
+        (events_of leaf.now texts links following opened) }
 {
     match part_of(leaf, slot) {
         Some(short) => {
@@ -172,7 +198,9 @@ fn part_of<'a>(leaf: &LeafText<'a>, slot: Slot) -> Option<Short<'a>>
     requires slot { IsSlot (text_of leaf.now) (length (text_of leaf.now)) slot }
     ensures stands { IfSome result (StandsFor leaf.now slot) }
     ensures inline { IfSome result (λ short. IsInline (shown_short short)) }
-    ensures lent { IfSome result (λ short. IsShortZeroCopy (source_of leaf.now) short (place_of leaf.now slot.start) (place_of leaf.now (slot.end - 1) + 1)) }
+    ensures lent { IfSome result
+        (λ short. IsShortZeroCopy (source_of leaf.now) short (place_of leaf.now slot.start)
+        (place_of leaf.now (slot.end - 1) + 1)) }
 {
     match slot.kind {
         SlotKind::Text => {
@@ -206,7 +234,9 @@ fn code_in<'a>(leaf: &LeafText<'a>, from: usize, to: usize) -> Option<&'a str>
     requires read { IsRead leaf.now }
     requires starts { IsCharBoundary (text_of leaf.now) from }
     requires ends { IsCharBoundary (text_of leaf.now) to }
-    ensures value { IfSome result (λ part. part.now ≡ code_text (as_in (is_cell_of leaf.now) (slice (text_of leaf.now) from to))) }
+    ensures value { IfSome result
+        (λ part. part.now
+        ≡ code_text (as_in (is_cell_of leaf.now) (slice (text_of leaf.now) from to))) }
     ensures part { IfSome result (λ part. IsPartOf (source_of leaf.now) part.now) }
 {
     if from >= to || leaf.is_cell() {

@@ -52,7 +52,8 @@ impl Brackets {
     }
 
     pub fn push(&mut self, bracket: Bracket) -> Result<(), AllocError>
-        ensures brackets { OnOk result (self.new.standing.items ≡ self.old.standing.items ++ (bracket ∷ [])) }
+        ensures brackets { OnOk result
+            (self.new.standing.items ≡ self.old.standing.items ++ (bracket ∷ [])) }
         ensures inactive_below { self.new.inactive_below ≡ self.old.inactive_below }
     {
         self.standing.push(bracket)?;
@@ -62,12 +63,22 @@ impl Brackets {
     /// Removes the nearest bracket, and returns it with whether it can form a link or an image.
     pub fn take(&mut self) -> Option<(Bracket, bool)>
         ensures value { result ≡ nearest self.old }
-        ensures others { self.new.standing.items ≡ take (length self.old.standing.items - 1) self.old.standing.items }
-        ensures inactive_below { self.old.inactive_below ≤ length self.old.standing.items → self.new.inactive_below ≡ min self.old.inactive_below (length self.new.standing.items) }
-        ensures brackets { (text : List ℕ) (at : ℕ) → AreBrackets text at self.old.standing.items → AreBrackets text at self.new.standing.items }
-        ensures free { (slots : List Slot) → AreFree slots self.old.standing.items self.old.inactive_below → AreFree slots self.new.standing.items self.new.inactive_below }
-        ensures link { (slots : List Slot) → AreFree slots self.old.standing.items self.old.inactive_below → IfSome result (λ taken. taken.1 ≡ true → taken.0.is_image ≡ false → HoldNoLink slots taken.0.slot) }
-        ensures bracket { (text : List ℕ) (at : ℕ) → AreBrackets text at self.old.standing.items → IfSome result (λ taken. IsBracket text at taken.0) }
+        ensures others { self.new.standing.items
+            ≡ take (length self.old.standing.items - 1) self.old.standing.items }
+        ensures inactive_below { self.old.inactive_below ≤ length self.old.standing.items
+            → self.new.inactive_below
+            ≡ min self.old.inactive_below (length self.new.standing.items) }
+        ensures brackets { (text : List ℕ) (at : ℕ) → AreBrackets text at self.old.standing.items
+            → AreBrackets text at self.new.standing.items }
+        ensures free { (slots : List Slot)
+            → AreFree slots self.old.standing.items self.old.inactive_below
+            → AreFree slots self.new.standing.items self.new.inactive_below }
+        ensures link { (slots : List Slot)
+            → AreFree slots self.old.standing.items self.old.inactive_below
+            → IfSome result
+            (λ taken. taken.1 ≡ true → taken.0.is_image ≡ false → HoldNoLink slots taken.0.slot) }
+        ensures bracket { (text : List ℕ) (at : ℕ) → AreBrackets text at self.old.standing.items
+            → IfSome result (λ taken. IsBracket text at taken.0) }
     {
         let bracket = self.standing.pop()?;
         let forms = bracket.is_image || self.standing.len() >= self.inactive_below;
@@ -79,8 +90,11 @@ impl Brackets {
     pub fn touching(&self, place: usize) -> Option<Bracket>
         ensures value { result ≡ touching place self.now }
         ensures ends { IfSome result (λ first. first.inside ≡ place) }
-        ensures bracket { (text : List ℕ) (at : ℕ) → AreBrackets text at self.now.standing.items → IfSome result (IsBracket text at) }
-        ensures free { (slots : List Slot) → AreFree slots self.now.standing.items self.now.inactive_below → IfSome result (λ first. HoldNoLink slots first.slot) }
+        ensures bracket { (text : List ℕ) (at : ℕ) → AreBrackets text at self.now.standing.items
+            → IfSome result (IsBracket text at) }
+        ensures free { (slots : List Slot)
+            → AreFree slots self.now.standing.items self.now.inactive_below
+            → IfSome result (λ first. HoldNoLink slots first.slot) }
     {
         let count = self.standing.len();
         if count <= self.inactive_below {
@@ -103,9 +117,18 @@ impl Brackets {
         second: Bracket,
     ) -> Result<(), AllocError>
         ensures inactive_below { self.new.inactive_below ≡ self.old.inactive_below }
-        ensures doubled { OnOk result (self.new.standing.items ≡ doubles (shown_options options) single.now second.is_image second.start second.inside self.old.standing.items) }
-        ensures brackets { OnOk result ((text : List ℕ) (at : ℕ) → AreBrackets text at single.now.standing.items → AreBrackets text at self.old.standing.items → IsBracket text at second → AreBrackets text at self.new.standing.items) }
-        ensures free { OnOk result ((slots : List Slot) → AreFree slots single.now.standing.items single.now.inactive_below → AreFree slots self.old.standing.items self.old.inactive_below → AreFree slots self.new.standing.items self.new.inactive_below) }
+        ensures doubled { OnOk result
+            (self.new.standing.items
+            ≡ doubles (shown_options options) single.now second.is_image second.start second.inside
+            self.old.standing.items) }
+        ensures brackets { OnOk result
+            ((text : List ℕ) (at : ℕ) → AreBrackets text at single.now.standing.items
+            → AreBrackets text at self.old.standing.items → IsBracket text at second
+            → AreBrackets text at self.new.standing.items) }
+        ensures free { OnOk result
+            ((slots : List Slot) → AreFree slots single.now.standing.items single.now.inactive_below
+            → AreFree slots self.old.standing.items self.old.inactive_below
+            → AreFree slots self.new.standing.items self.new.inactive_below) }
     {
         if second.is_image || !options.contains(Options::ENABLE_WIKILINKS) {
             return Ok(());
@@ -122,9 +145,13 @@ impl Brackets {
     /// Removes all brackets at the end of the list that end after an offset.
     pub fn drop_after(&mut self, place: usize)
         ensures drops { DropsAfter place self.old.standing.items self.new.standing.items }
-        ensures inactive_below { self.new.inactive_below ≡ min self.old.inactive_below (length self.new.standing.items) }
-        ensures brackets { (text : List ℕ) (at : ℕ) → AreBrackets text at self.old.standing.items → AreBrackets text at self.new.standing.items }
-        ensures free { (slots : List Slot) → AreFree slots self.old.standing.items self.old.inactive_below → AreFree slots self.new.standing.items self.new.inactive_below }
+        ensures inactive_below { self.new.inactive_below
+            ≡ min self.old.inactive_below (length self.new.standing.items) }
+        ensures brackets { (text : List ℕ) (at : ℕ) → AreBrackets text at self.old.standing.items
+            → AreBrackets text at self.new.standing.items }
+        ensures free { (slots : List Slot)
+            → AreFree slots self.old.standing.items self.old.inactive_below
+            → AreFree slots self.new.standing.items self.new.inactive_below }
     {
         let mut count = self.standing.len();
         while 0 < count && place < self.standing[count - 1].inside {
@@ -138,7 +165,8 @@ impl Brackets {
     pub fn deactivate_all(&mut self)
         ensures standing { self.new.standing ≡ self.old.standing }
         ensures inactive_below { self.new.inactive_below ≡ length self.old.standing.items }
-        ensures free { (slots : List Slot) → AreFree slots self.new.standing.items self.new.inactive_below }
+        ensures free { (slots : List Slot)
+            → AreFree slots self.new.standing.items self.new.inactive_below }
     {
         self.inactive_below = self.standing.len();
     }

@@ -76,8 +76,11 @@ impl Delimiters {
     }
 
     pub fn push(&mut self, slot: usize, run: Run) -> Result<(), AllocError>
-        ensures bytes { OnOk result (bytes_of self.new.placed.items ≡ bytes_of self.old.placed.items + run.run_length) }
-        ensures placed { OnOk result (self.new.placed.items ≡ self.old.placed.items ++ (record { slot = slot; run = run } ∷ [])) }
+        ensures bytes { OnOk result
+            (bytes_of self.new.placed.items ≡ bytes_of self.old.placed.items + run.run_length) }
+        ensures placed { OnOk result
+            (self.new.placed.items
+            ≡ self.old.placed.items ++ (record { slot = slot; run = run } ∷ [])) }
         ensures examined { self.new.examined ≡ self.old.examined }
     {
         self.placed.push(PlacedRun { slot, run })?;
@@ -89,8 +92,10 @@ impl Delimiters {
         requires { first ≤ length self.now.placed.items }
         ensures order { first ≤ result }
         ensures within { result ≤ length self.now.placed.items }
-        ensures before { (k : ℕ) (d : Placed) → first ≤ k → k < result → (get_or self.now.placed.items k d).slot < slot }
-        ensures following { (d : Placed) → result < length self.now.placed.items → slot ≤ (get_or self.now.placed.items result d).slot }
+        ensures before { (k : ℕ) (d : Placed) → first ≤ k → k < result
+            → (get_or self.now.placed.items k d).slot < slot }
+        ensures following { (d : Placed) → result < length self.now.placed.items
+            → slot ≤ (get_or self.now.placed.items result d).slot }
     {
         let mut at = first;
         while at < self.placed.len() && self.placed[at].slot < slot {
@@ -123,18 +128,31 @@ impl Delimiters {
         requires whole { AreWhole slots.old.items }
         requires known { AreKnown (drop first self.old.placed.items) }
         requires room { self.old.examined < 2 ^ 127 }
-        ensures examined { self.new.examined ≤ self.old.examined + 15 * length (drop first self.old.placed.items) }
-        ensures least { OnOk result (self.old.examined + least_examined (runs_of (siblings_from 0 (drop first self.old.placed.items))) ≤ self.new.examined) }
-        ensures slots { OnOk result ((text : List ℕ) (place : ℕ) → AreSlots text place slots.old.items → AreSlots text place slots.new.items) }
+        ensures examined { self.new.examined ≤ self.old.examined + 15 * length
+            (drop first self.old.placed.items) }
+        ensures least { OnOk result
+            (self.old.examined + least_examined
+            (runs_of (siblings_from 0 (drop first self.old.placed.items))) ≤ self.new.examined) }
+        ensures slots { OnOk result
+            ((text : List ℕ) (place : ℕ) → AreSlots text place slots.old.items
+            → AreSlots text place slots.new.items) }
         ensures length { OnOk result (length slots.new.items ≡ length slots.old.items) }
         ensures links { OnOk result (NoNewLink slots.old.items slots.new.items) }
-        ensures runs { OnOk result (bytes_of self.new.placed.items ≤ bytes_of self.old.placed.items) }
-        ensures marks { OnOk result ((leaf : LeafText) (texts : List CowStr) (links : List Link) (pairs : List Pair) (spans : Spans)
+        ensures runs { OnOk result
+            (bytes_of self.new.placed.items ≤ bytes_of self.old.placed.items) }
+        ensures marks { OnOk result
+            ((leaf : LeafText) (texts : List CowStr) (links : List Link) (pairs : List Pair)
+            (spans : Spans)
             → IsEmphasis (siblings_from 0 (drop first self.old.placed.items)) pairs spans
             → shown_slots leaf texts links slots.new.items
-            ≡ marked (shown_options options) (places_of (drop first self.old.placed.items)) (marks_by (length (places_of (drop first self.old.placed.items))) pairs) (shown_slots leaf texts links slots.old.items) []) }
+            ≡ marked (shown_options options) (places_of (drop first self.old.placed.items))
+            (marks_by (length (places_of (drop first self.old.placed.items))) pairs)
+            (shown_slots leaf texts links slots.old.items) []) }
         ensures within { OnOk result (EndWithin slots.old.items → EndWithin slots.new.items) }
-        ensures before { OnOk result ((from place : ℕ) → HaveBytes slots.old.items from place (drop first self.old.placed.items) → SameBefore from slots.old.items slots.new.items) }
+        ensures before { OnOk result
+            ((from place : ℕ)
+            → HaveBytes slots.old.items from place (drop first self.old.placed.items)
+            → SameBefore from slots.old.items slots.new.items) }
         ensures names { OnOk result (NamesNoMore slots.old.items slots.new.items) }
         ensures whole { OnOk result (AreWhole slots.new.items) }
         ensures placed { OnOk result (self.new.placed.items ≡ take first self.old.placed.items) }
@@ -167,9 +185,14 @@ impl Delimiters {
         requires bytes { bytes_of self.old.placed.items ≤ bound }
         requires known { AreKnown (drop first self.old.placed.items) }
         requires room { self.old.examined < 2 ^ 127 }
-        ensures examined { self.new.examined ≤ self.old.examined + 15 * length (drop first self.old.placed.items) }
-        ensures least { OnOk result (self.old.examined + least_examined (runs_of (siblings_from 0 (drop first self.old.placed.items))) ≤ self.new.examined) }
-        ensures marks { OnOk result (self.new.marks.items ≡ slots_of (spans_of (siblings_from 0 (drop first self.old.placed.items)))) }
+        ensures examined { self.new.examined ≤ self.old.examined + 15 * length
+            (drop first self.old.placed.items) }
+        ensures least { OnOk result
+            (self.old.examined + least_examined
+            (runs_of (siblings_from 0 (drop first self.old.placed.items))) ≤ self.new.examined) }
+        ensures marks { OnOk result
+            (self.new.marks.items
+            ≡ slots_of (spans_of (siblings_from 0 (drop first self.old.placed.items)))) }
         ensures balanced { OnOk result (AreBalanced [] self.new.marks.items) }
         ensures placed { self.new.placed ≡ self.old.placed }
     {
@@ -198,7 +221,9 @@ impl Delimiters {
 
 /// The run with all its bytes, counted from `at` on.
 fn counted_from(run: Run, at: usize) -> Run
-    ensures { shown_run result ≡ record { delimiter = run.delimiter; run_length = run.run_length; at = at; left = run.run_length; opens = run.opens; closes = run.closes } }
+    ensures { shown_run result
+        ≡
+        record { delimiter = run.delimiter; run_length = run.run_length; at = at; left = run.run_length; opens = run.opens; closes = run.closes } }
 {
     Run {
         at,
@@ -220,7 +245,9 @@ fn gather(
     ensures known { AreKnown (drop first placed.now) → OnOk result (All IsKnown runs.new.items) }
     ensures length { OnOk result (length runs.new.items ≡ length (drop first placed.now)) }
     ensures runs { IfOk result (λ count. AreRuns count (map shown_run runs.new.items)) }
-    ensures value { IfOk result (λ count. (count ≡ places_taken (siblings_from 0 (drop first placed.now))) × (map shown_run runs.new.items ≡ runs_of (siblings_from 0 (drop first placed.now)))) }
+    ensures value { IfOk result
+        (λ count. (count ≡ places_taken (siblings_from 0 (drop first placed.now)))
+        × (map shown_run runs.new.items ≡ runs_of (siblings_from 0 (drop first placed.now)))) }
 {
     runs.clear();
     let mut count = 0;
@@ -255,21 +282,36 @@ fn write_run<'m>(
     slots: &mut Vec<Slot>,
     begun: &mut Vec<usize>,
 ) -> Result<&'m [Mark], AllocError>
-    requires ready { (following : List ℕ) × AreReady slots.old.items (reverse begun.old.items) (run_places placed.slot placed.run.run_length following) marks.now }
+    requires ready { (following : List ℕ)
+        × AreReady slots.old.items (reverse begun.old.items)
+        (run_places placed.slot placed.run.run_length following) marks.now }
     requires marks { placed.run.run_length ≤ length marks.now }
     ensures rest { IfOk result (λ rest. rest.now ≡ drop placed.run.run_length marks.entry.now) }
-    ensures slots { IfOk result (λ rest. (text : List ℕ) (place : ℕ) → AreSlots text place slots.old.items → AreSlots text place slots.new.items) }
+    ensures slots { IfOk result
+        (λ rest. (text : List ℕ) (place : ℕ) → AreSlots text place slots.old.items
+        → AreSlots text place slots.new.items) }
     ensures length { IfOk result (λ rest. length slots.new.items ≡ length slots.old.items) }
     ensures links { IfOk result (λ rest. NoNewLink slots.old.items slots.new.items) }
-    ensures ready { IfOk result (λ rest. (following : List ℕ) → AreReady slots.old.items (reverse begun.old.items) (run_places placed.slot placed.run.run_length following) marks.entry.now
+    ensures ready { IfOk result
+        (λ rest. (following : List ℕ)
+        → AreReady slots.old.items (reverse begun.old.items)
+        (run_places placed.slot placed.run.run_length following) marks.entry.now
         → AreReady slots.new.items (reverse begun.new.items) following rest.now) }
     ensures within { IfOk result (λ rest. EndWithin slots.old.items → EndWithin slots.new.items) }
     ensures names { IfOk result (λ rest. NamesNoMore slots.old.items slots.new.items) }
-    ensures before { IfOk result (λ rest. (low : ℕ) → BeganFrom low (reverse begun.old.items) → low ≤ placed.slot → SameBefore low slots.old.items slots.new.items × BeganFrom low (reverse begun.new.items)) }
-    ensures marks { IfOk result (λ rest. (leaf : LeafText) (texts : List CowStr) (links : List Link) (following : List ℕ)
-        → AreReady slots.old.items (reverse begun.old.items) (run_places placed.slot placed.run.run_length following) marks.entry.now
-        → marked (shown_options options) (run_places placed.slot placed.run.run_length following) (map shown_mark marks.entry.now) (shown_slots leaf texts links slots.old.items) (reverse begun.old.items)
-        ≡ marked (shown_options options) following (map shown_mark rest.now) (shown_slots leaf texts links slots.new.items) (reverse begun.new.items)) }
+    ensures before { IfOk result
+        (λ rest. (low : ℕ) → BeganFrom low (reverse begun.old.items) → low ≤ placed.slot
+        → SameBefore low slots.old.items slots.new.items
+        × BeganFrom low (reverse begun.new.items)) }
+    ensures marks { IfOk result
+        (λ rest. (leaf : LeafText) (texts : List CowStr) (links : List Link) (following : List ℕ)
+        → AreReady slots.old.items (reverse begun.old.items)
+        (run_places placed.slot placed.run.run_length following) marks.entry.now
+        → marked (shown_options options) (run_places placed.slot placed.run.run_length following)
+        (map shown_mark marks.entry.now) (shown_slots leaf texts links slots.old.items)
+        (reverse begun.old.items)
+        ≡ marked (shown_options options) following (map shown_mark rest.now)
+        (shown_slots leaf texts links slots.new.items) (reverse begun.new.items)) }
 {
     for byte in 0..placed.run.run_length {
         write_mark(marks[byte], placed.slot + byte, options, slots, begun)?;
@@ -285,19 +327,32 @@ fn write_mark(
     slots: &mut Vec<Slot>,
     begun: &mut Vec<usize>,
 ) -> Result<(), AllocError>
-    requires { (following : List ℕ) × (others : List Marks) × AreReady slots.old.items (reverse begun.old.items) (slot ∷ following) (mark ∷ others) }
-    ensures slots { OnOk result ((text : List ℕ) (place : ℕ) → AreSlots text place slots.old.items → AreSlots text place slots.new.items) }
+    requires { (following : List ℕ) × (others : List Marks)
+        × AreReady slots.old.items (reverse begun.old.items) (slot ∷ following) (mark ∷ others) }
+    ensures slots { OnOk result
+        ((text : List ℕ) (place : ℕ) → AreSlots text place slots.old.items
+        → AreSlots text place slots.new.items) }
     ensures length { OnOk result (length slots.new.items ≡ length slots.old.items) }
     ensures links { OnOk result (NoNewLink slots.old.items slots.new.items) }
-    ensures ready { OnOk result ((following : List ℕ) (others : List Marks) → AreReady slots.old.items (reverse begun.old.items) (slot ∷ following) (mark ∷ others)
+    ensures ready { OnOk result
+        ((following : List ℕ) (others : List Marks)
+        → AreReady slots.old.items (reverse begun.old.items) (slot ∷ following) (mark ∷ others)
         → AreReady slots.new.items (reverse begun.new.items) following others) }
     ensures within { OnOk result (EndWithin slots.old.items → EndWithin slots.new.items) }
     ensures names { OnOk result (NamesNoMore slots.old.items slots.new.items) }
-    ensures before { OnOk result ((low : ℕ) → BeganFrom low (reverse begun.old.items) → low ≤ slot → SameBefore low slots.old.items slots.new.items × BeganFrom low (reverse begun.new.items)) }
-    ensures marks { OnOk result ((leaf : LeafText) (texts : List CowStr) (links : List Link) (following : List ℕ) (others : List Marks)
+    ensures before { OnOk result
+        ((low : ℕ) → BeganFrom low (reverse begun.old.items) → low ≤ slot
+        → SameBefore low slots.old.items slots.new.items
+        × BeganFrom low (reverse begun.new.items)) }
+    ensures marks { OnOk result
+        ((leaf : LeafText) (texts : List CowStr) (links : List Link) (following : List ℕ)
+        (others : List Marks)
         → AreReady slots.old.items (reverse begun.old.items) (slot ∷ following) (mark ∷ others)
-        → marked (shown_options options) (slot ∷ following) (shown_mark mark ∷ map shown_mark others) (shown_slots leaf texts links slots.old.items) (reverse begun.old.items)
-        ≡ marked (shown_options options) following (map shown_mark others) (shown_slots leaf texts links slots.new.items) (reverse begun.new.items)) }
+        → marked (shown_options options) (slot ∷ following)
+        (shown_mark mark ∷ map shown_mark others) (shown_slots leaf texts links slots.old.items)
+        (reverse begun.old.items)
+        ≡ marked (shown_options options) following (map shown_mark others)
+        (shown_slots leaf texts links slots.new.items) (reverse begun.new.items)) }
 {
     match mark {
         Mark::Single => {}
@@ -313,15 +368,19 @@ fn write_mark(
 
 /// Makes one text from the element that began last up to a slot.
 fn merge_last(slots: &mut Vec<Slot>, slot: usize, begun: &mut Vec<usize>)
-    requires begun { (first : ℕ) × (others : List ℕ) × (reverse begun.old.items ≡ first ∷ others) × (first < slot) }
+    requires begun { (first : ℕ) × (others : List ℕ) × (reverse begun.old.items ≡ first ∷ others)
+        × (first < slot) }
     requires there { slot < length slots.old.items }
     requires text { (d : Slots) → (get_or slots.old.items slot d).kind ≡ kind.Text }
     requires whole { AreWhole slots.old.items }
-    ensures slots { (text : List ℕ) (place : ℕ) → AreSlots text place slots.old.items → AreSlots text place slots.new.items }
+    ensures slots { (text : List ℕ) (place : ℕ) → AreSlots text place slots.old.items
+        → AreSlots text place slots.new.items }
     ensures length { length slots.new.items ≡ length slots.old.items }
     ensures links { NoNewLink slots.old.items slots.new.items }
-    ensures begun { (first : ℕ) (others : List ℕ) → reverse begun.old.items ≡ first ∷ others → reverse begun.new.items ≡ others }
-    ensures value { (first : ℕ) (others : List ℕ) → reverse begun.old.items ≡ first ∷ others → Merges first slot slots.old.items slots.new.items }
+    ensures begun { (first : ℕ) (others : List ℕ) → reverse begun.old.items ≡ first ∷ others
+        → reverse begun.new.items ≡ others }
+    ensures value { (first : ℕ) (others : List ℕ) → reverse begun.old.items ≡ first ∷ others
+        → Merges first slot slots.old.items slots.new.items }
 {
     let Some(first) = begun.pop() else {
         unreachable!()
@@ -332,14 +391,20 @@ fn merge_last(slots: &mut Vec<Slot>, slot: usize, begun: &mut Vec<usize>)
 /// Ends the element that began last, at a slot.
 fn end_last(slots: &mut Vec<Slot>, slot: usize, element: Element, begun: &mut Vec<usize>)
     requires link { is_link element ≡ false }
-    requires begun { (first : ℕ) × (others : List ℕ) × (reverse begun.old.items ≡ first ∷ others) × (first < slot) }
+    requires begun { (first : ℕ) × (others : List ℕ) × (reverse begun.old.items ≡ first ∷ others)
+        × (first < slot) }
     requires there { slot < length slots.old.items }
-    ensures slots { (text : List ℕ) (place : ℕ) → AreSlots text place slots.old.items → AreSlots text place slots.new.items }
+    ensures slots { (text : List ℕ) (place : ℕ) → AreSlots text place slots.old.items
+        → AreSlots text place slots.new.items }
     ensures length { length slots.new.items ≡ length slots.old.items }
     ensures links { NoNewLink slots.old.items slots.new.items }
-    ensures begun { (first : ℕ) (others : List ℕ) → reverse begun.old.items ≡ first ∷ others → reverse begun.new.items ≡ others }
-    ensures value { (first : ℕ) (others : List ℕ) (d : Slots) → reverse begun.old.items ≡ first ∷ others
-        → slots.new.items ≡ set (set slots.old.items slot (ended (get_or slots.old.items slot d))) first (begun_as element (get_or slots.old.items slot d).end (get_or slots.old.items first d)) }
+    ensures begun { (first : ℕ) (others : List ℕ) → reverse begun.old.items ≡ first ∷ others
+        → reverse begun.new.items ≡ others }
+    ensures value { (first : ℕ) (others : List ℕ) (d : Slots)
+        → reverse begun.old.items ≡ first ∷ others
+        → slots.new.items
+        ≡ set (set slots.old.items slot (ended (get_or slots.old.items slot d))) first
+        (begun_as element (get_or slots.old.items slot d).end (get_or slots.old.items first d)) }
 {
     let Some(first) = begun.pop() else {
         unreachable!()
@@ -355,7 +420,9 @@ fn element_of(kind: SpanKind, options: Options) -> Option<Element>
     ensures value { IsElementOf (shown_options options) (shown_kind kind) result }
     ensures links { IfSome result (λ element. is_link element ≡ false) }
     ensures names { IfSome result (λ element. link_of element ≡ None) }
-    ensures tag { IfSome result (λ element. (links : List Link) → span_tag (shown_options options) (shown_kind kind) ≡ Some (shown_element links element)) }
+    ensures tag { IfSome result
+        (λ element. (links : List Link)
+        → span_tag (shown_options options) (shown_kind kind) ≡ Some (shown_element links element)) }
 {
     match kind {
         SpanKind::Emphasis => Some(Element::Emphasis),

@@ -53,7 +53,9 @@ impl Quotes {
     }
 
     pub fn push(&mut self, slot: usize, quote: Quote) -> Result<(), AllocError>
-        ensures { OnOk result (self.new.placed.items ≡ self.old.placed.items ++ (record { slot = slot; quote = quote } ∷ [])) }
+        ensures { OnOk result
+            (self.new.placed.items
+            ≡ self.old.placed.items ++ (record { slot = slot; quote = quote } ∷ [])) }
     {
         self.placed.push(PlacedQuote { slot, quote })?;
         Ok(())
@@ -64,8 +66,10 @@ impl Quotes {
         requires { first ≤ length self.now.placed.items }
         ensures order { first ≤ result }
         ensures within { result ≤ length self.now.placed.items }
-        ensures before { (k : ℕ) (d : PlacedQuote) → first ≤ k → k < result → (get_or self.now.placed.items k d).slot < slot }
-        ensures following { (d : PlacedQuote) → result < length self.now.placed.items → slot ≤ (get_or self.now.placed.items result d).slot }
+        ensures before { (k : ℕ) (d : PlacedQuote) → first ≤ k → k < result
+            → (get_or self.now.placed.items k d).slot < slot }
+        ensures following { (d : PlacedQuote) → result < length self.now.placed.items
+            → slot ≤ (get_or self.now.placed.items result d).slot }
     {
         let mut at = first;
         while at < self.placed.len() && self.placed[at].slot < slot {
@@ -87,12 +91,21 @@ impl Quotes {
     pub fn resolve(&mut self, first: usize, slots: &mut Vec<Slot>) -> Result<(), AllocError>
         requires first { first ≤ length self.old.placed.items }
         requires texts { HaveTexts slots.old.items (drop first self.old.placed.items) }
-        ensures value { OnOk result (slots.new.items ≡ with_characters (drop first self.old.placed.items) (characters_of (drop first self.old.placed.items)) slots.old.items) }
-        ensures slots { OnOk result ((text : List ℕ) (place : ℕ) → AreSlots text place slots.old.items → AreSlots text place slots.new.items) }
+        ensures value { OnOk result
+            (slots.new.items
+            ≡ with_characters (drop first self.old.placed.items)
+            (characters_of (drop first self.old.placed.items)) slots.old.items) }
+        ensures slots { OnOk result
+            ((text : List ℕ) (place : ℕ) → AreSlots text place slots.old.items
+            → AreSlots text place slots.new.items) }
         ensures length { OnOk result (length slots.new.items ≡ length slots.old.items) }
         ensures links { OnOk result (NoNewLink slots.old.items slots.new.items) }
-        ensures quotes { OnOk result ((leaf : LeafText) (texts : List CowStr) (links : List Link)
-            → shown_slots leaf texts links slots.new.items ≡ quoted (map (λ (p : PlacedQuote). p.slot) (drop first self.old.placed.items)) (characters_of (drop first self.old.placed.items)) (shown_slots leaf texts links slots.old.items)) }
+        ensures quotes { OnOk result
+            ((leaf : LeafText) (texts : List CowStr) (links : List Link)
+            → shown_slots leaf texts links slots.new.items
+            ≡ quoted (map (λ (p : PlacedQuote). p.slot) (drop first self.old.placed.items))
+            (characters_of (drop first self.old.placed.items))
+            (shown_slots leaf texts links slots.old.items)) }
         ensures placed { OnOk result (self.new.placed.items ≡ take first self.old.placed.items) }
         ensures succeeds { length self.old.placed.items ≤ first → IsOk result }
     {
@@ -137,7 +150,8 @@ fn write(slots: &mut Vec<Slot>, placed: &[PlacedQuote], characters: &[char])
     requires texts { HaveTexts slots.old.items placed.now }
     requires characters { length characters.now ≡ length placed.now }
     ensures value { slots.new.items ≡ with_characters placed.now characters.now slots.old.items }
-    ensures slots { (text : List ℕ) (place : ℕ) → AreSlots text place slots.old.items → AreSlots text place slots.new.items }
+    ensures slots { (text : List ℕ) (place : ℕ) → AreSlots text place slots.old.items
+        → AreSlots text place slots.new.items }
     ensures length { length slots.new.items ≡ length slots.old.items }
     ensures links { NoNewLink slots.old.items slots.new.items }
 {

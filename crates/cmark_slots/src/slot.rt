@@ -90,7 +90,9 @@ pub fn push_slot(
     start: usize,
     end: usize,
 ) -> Result<(), AllocError>
-    ensures { OnOk result (slots.new.items ≡ slots.old.items ++ (record { kind = kind; start = start; end = end } ∷ [])) }
+    ensures { OnOk result
+        (slots.new.items
+        ≡ slots.old.items ++ (record { kind = kind; start = start; end = end } ∷ [])) }
 {
     if slots.len() >= slots.capacity() {
         make_room(slots)?;
@@ -123,11 +125,14 @@ pub fn push_text(slots: &mut Vec<Slot>, start: usize, end: usize) -> Result<(), 
 /// Makes a slot the start of an element that ends at the offset `end` or later.
 pub fn begin(slots: &mut Vec<Slot>, at: usize, element: Element, end: usize)
     requires there { at < length slots.old.items }
-    ensures slots { (text : List ℕ) (place : ℕ) → AreSlots text place slots.old.items → IsCharBoundary text end → end ≤ place → AreSlots text place slots.new.items }
+    ensures slots { (text : List ℕ) (place : ℕ) → AreSlots text place slots.old.items
+        → IsCharBoundary text end → end ≤ place → AreSlots text place slots.new.items }
     ensures length { length slots.new.items ≡ length slots.old.items }
     ensures links { is_link element ≡ false → NoNewLink slots.old.items slots.new.items }
     ensures following { HoldNoLink slots.old.items at → HoldNoLink slots.new.items (at + 1) }
-    ensures value { (d : Slots) → slots.new.items ≡ set slots.old.items at (begun_as element end (get_or slots.old.items at d)) }
+    ensures value { (d : Slots)
+        → slots.new.items
+        ≡ set slots.old.items at (begun_as element end (get_or slots.old.items at d)) }
 {
     let slot = slots[at];
     slots[at] = Slot {
@@ -142,7 +147,8 @@ pub fn replace_slot(slots: &mut Vec<Slot>, at: usize, slot: Slot)
     requires there { at < length slots.old.items }
     requires kind { begins_link slot.kind ≡ false }
     ensures value { slots.new.items ≡ set slots.old.items at slot }
-    ensures slots { (text : List ℕ) (place : ℕ) → AreSlots text place slots.old.items → IsSlot text place slot → AreSlots text place slots.new.items }
+    ensures slots { (text : List ℕ) (place : ℕ) → AreSlots text place slots.old.items
+        → IsSlot text place slot → AreSlots text place slots.new.items }
     ensures length { length slots.new.items ≡ length slots.old.items }
     ensures links { NoNewLink slots.old.items slots.new.items }
 {
@@ -154,7 +160,9 @@ pub fn put_slot(slots: &mut Vec<Slot>, at: usize, slot: Slot) -> Result<(), Allo
     requires within { at ≤ length slots.old.items }
     requires kind { begins_link slot.kind ≡ false }
     ensures value { OnOk result (slots.new.items ≡ put_at at slot slots.old.items) }
-    ensures slots { OnOk result ((text : List ℕ) (place : ℕ) → AreSlots text place slots.old.items → IsSlot text place slot → AreSlots text place slots.new.items) }
+    ensures slots { OnOk result
+        ((text : List ℕ) (place : ℕ) → AreSlots text place slots.old.items → IsSlot text place slot
+        → AreSlots text place slots.new.items) }
     ensures length { OnOk result (length slots.new.items ≤ length slots.old.items + 1) }
     ensures longer { OnOk result (length slots.old.items ≤ length slots.new.items) }
     ensures links { OnOk result (NoNewLink slots.old.items slots.new.items) }
@@ -170,11 +178,14 @@ pub fn put_slot(slots: &mut Vec<Slot>, at: usize, slot: Slot) -> Result<(), Allo
 /// Makes a slot a used delimiter: the end of an element if `ends`, and otherwise `Nothing`.
 pub fn use_up(slots: &mut Vec<Slot>, at: usize, ends: bool)
     requires there { at < length slots.old.items }
-    ensures slots { (text : List ℕ) (place : ℕ) → AreSlots text place slots.old.items → AreSlots text place slots.new.items }
+    ensures slots { (text : List ℕ) (place : ℕ) → AreSlots text place slots.old.items
+        → AreSlots text place slots.new.items }
     ensures length { length slots.new.items ≡ length slots.old.items }
     ensures links { NoNewLink slots.old.items slots.new.items }
-    ensures hides { (d : Slots) → ends ≡ false → slots.new.items ≡ set slots.old.items at (hidden (get_or slots.old.items at d)) }
-    ensures ends { (d : Slots) → ends ≡ true → slots.new.items ≡ set slots.old.items at (ended (get_or slots.old.items at d)) }
+    ensures hides { (d : Slots) → ends ≡ false
+        → slots.new.items ≡ set slots.old.items at (hidden (get_or slots.old.items at d)) }
+    ensures ends { (d : Slots) → ends ≡ true
+        → slots.new.items ≡ set slots.old.items at (ended (get_or slots.old.items at d)) }
 {
     let slot = slots[at];
     let kind = if ends {
@@ -189,7 +200,8 @@ pub fn use_up(slots: &mut Vec<Slot>, at: usize, ends: bool)
 pub fn become_character(slots: &mut Vec<Slot>, at: usize, character: char)
     requires there { at < length slots.old.items }
     ensures value { slots.new.items ≡ with_character at character slots.old.items }
-    ensures slots { (text : List ℕ) (place : ℕ) → AreSlots text place slots.old.items → AreSlots text place slots.new.items }
+    ensures slots { (text : List ℕ) (place : ℕ) → AreSlots text place slots.old.items
+        → AreSlots text place slots.new.items }
     ensures length { length slots.new.items ≡ length slots.old.items }
     ensures links { NoNewLink slots.old.items slots.new.items }
 {
@@ -207,7 +219,8 @@ pub fn merge(slots: &mut Vec<Slot>, first: usize, last: usize)
     requires within { last < length slots.old.items }
     requires text { (d : Slots) → (get_or slots.old.items last d).kind ≡ kind.Text }
     requires whole { AreWhole slots.old.items }
-    ensures slots { (text : List ℕ) (place : ℕ) → AreSlots text place slots.old.items → AreSlots text place slots.new.items }
+    ensures slots { (text : List ℕ) (place : ℕ) → AreSlots text place slots.old.items
+        → AreSlots text place slots.new.items }
     ensures length { length slots.new.items ≡ length slots.old.items }
     ensures links { NoNewLink slots.old.items slots.new.items }
     ensures value { Merges first last slots.old.items slots.new.items }
@@ -220,10 +233,13 @@ pub fn merge(slots: &mut Vec<Slot>, first: usize, last: usize)
 // Makes a slot the text of all slots up to `last`. It ends at the offset `end` or later.
 fn become_whole(slots: &mut Vec<Slot>, at: usize, last: usize, end: usize)
     requires there { at < length slots.old.items }
-    ensures slots { (text : List ℕ) (place : ℕ) → AreSlots text place slots.old.items → IsCharBoundary text end → end ≤ place → AreSlots text place slots.new.items }
+    ensures slots { (text : List ℕ) (place : ℕ) → AreSlots text place slots.old.items
+        → IsCharBoundary text end → end ≤ place → AreSlots text place slots.new.items }
     ensures length { length slots.new.items ≡ length slots.old.items }
     ensures links { NoNewLink slots.old.items slots.new.items }
-    ensures value { (d : Slots) → slots.new.items ≡ set slots.old.items at (whole_to last end (get_or slots.old.items at d)) }
+    ensures value { (d : Slots)
+        → slots.new.items
+        ≡ set slots.old.items at (whole_to last end (get_or slots.old.items at d)) }
 {
     let slot = slots[at];
     slots[at] = Slot {
@@ -239,7 +255,8 @@ fn use_up_between(slots: &mut Vec<Slot>, first: usize, last: usize)
     requires within { last < length slots.old.items }
     requires text { (d : Slots) → (get_or slots.old.items last d).kind ≡ kind.Text }
     requires whole { AreWhole slots.old.items }
-    ensures slots { (text : List ℕ) (place : ℕ) → AreSlots text place slots.old.items → AreSlots text place slots.new.items }
+    ensures slots { (text : List ℕ) (place : ℕ) → AreSlots text place slots.old.items
+        → AreSlots text place slots.new.items }
     ensures length { length slots.new.items ≡ length slots.old.items }
     ensures links { NoNewLink slots.old.items slots.new.items }
     ensures hides { Hides (first + 1) (last + 1) slots.old.items slots.new.items }
@@ -283,7 +300,8 @@ pub fn hide(slots: &mut Vec<Slot>, from: usize, to: usize)
     requires ordered { from ≤ to }
     requires within { to ≤ length slots.old.items }
     ensures hides { Hides from to slots.old.items slots.new.items }
-    ensures slots { (text : List ℕ) (place : ℕ) → AreSlots text place slots.old.items → AreSlots text place slots.new.items }
+    ensures slots { (text : List ℕ) (place : ℕ) → AreSlots text place slots.old.items
+        → AreSlots text place slots.new.items }
     ensures links { NoNewLink slots.old.items slots.new.items }
 {
     let mut at = from;
@@ -300,7 +318,8 @@ pub fn cut(slots: &mut Vec<Slot>, at: usize, text: &str, place: usize)
     requires slots { (end : ℕ) × AreSlots text.now end slots.old.items }
     requires place { IsCharBoundary text.now place }
     ensures value { slots.new.items ≡ cut_at text.now place at slots.old.items }
-    ensures slots { (end : ℕ) → AreSlots text.now end slots.old.items → AreSlots text.now end slots.new.items }
+    ensures slots { (end : ℕ) → AreSlots text.now end slots.old.items
+        → AreSlots text.now end slots.new.items }
     ensures length { length slots.new.items ≡ length slots.old.items }
     ensures links { NoNewLink slots.old.items slots.new.items }
 {
@@ -315,7 +334,8 @@ fn cut_slot(slot: Slot, text: &str, place: usize) -> Slot
     requires part { IsPart text.now slot.start slot.end }
     requires content { IsContent text.now slot.kind }
     ensures value { result ≡ cut_slot text.now place slot }
-    ensures slot { (end : ℕ) → IsSlot text.now end slot → IsCharBoundary text.now place → IsSlot text.now end result }
+    ensures slot { (end : ℕ) → IsSlot text.now end slot → IsCharBoundary text.now place
+        → IsSlot text.now end result }
     ensures link { begins_link result.kind ≡ begins_link slot.kind }
 {
     if is_inside(slot, place) {

@@ -21,8 +21,11 @@ pub fn text_between<'a>(
     requires read { IsRead leaf.now }
     requires part { IsPart (text_of leaf.now) from to }
     ensures value { IfOk result (λ text. text_bytes text ≡ slice (text_of leaf.now) from to) }
-    ensures lent { place_of leaf.now (to - 1) + 1 ≡ place_of leaf.now from + (to - from) → IfOk result IsBorrowed }
-    ensures source { IfOk result (IsLentBy (slice (source_of leaf.now) (place_of leaf.now from) (place_of leaf.now (to - 1) + 1))) }
+    ensures lent { place_of leaf.now (to - 1) + 1 ≡ place_of leaf.now from + (to - from)
+        → IfOk result IsBorrowed }
+    ensures source { IfOk result
+        (IsLentBy
+        (slice (source_of leaf.now) (place_of leaf.now from) (place_of leaf.now (to - 1) + 1))) }
 {
     match leaf.slice(from, to) {
         Some(text) => Ok(CowStr::Borrowed(text)),

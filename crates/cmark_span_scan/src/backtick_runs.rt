@@ -45,11 +45,17 @@ impl BacktickRuns {
         requires room { self.old.visited < 2 ^ 127 }
         ensures runs { AreRunsOf text.now self.new }
         ensures reached { IsReached at self.old → IsReached (at + 1) self.new }
-        ensures most { IsReached at self.old → at < length text.now → self.new.visited ≤ self.old.visited + may_visit text.now at self.old }
-        ensures pays { IsReached at self.old → at < length text.now → IfOk result (λ found. self.new.visited + may_visit text.now (end_of at found) self.new ≤ self.old.visited + may_visit text.now at self.old) }
-        ensures least { IfOk result (λ found. IfSome found (λ span. self.old.visited < self.new.visited)) }
+        ensures most { IsReached at self.old → at < length text.now
+            → self.new.visited ≤ self.old.visited + may_visit text.now at self.old }
+        ensures pays { IsReached at self.old → at < length text.now
+            → IfOk result
+            (λ found. self.new.visited + may_visit text.now (end_of at found)
+            self.new ≤ self.old.visited + may_visit text.now at self.old) }
+        ensures least { IfOk result
+            (λ found. IfSome found (λ span. self.old.visited < self.new.visited)) }
         ensures grows { self.old.visited ≤ self.new.visited }
-        ensures value { IfOk result (λ found. option_map (shown_code text.now) found ≡ code_in (drop at text.now)) }
+        ensures value { IfOk result
+            (λ found. option_map (shown_code text.now) found ≡ code_in (drop at text.now)) }
         ensures places { IfOk result (λ found. IfSome found (IsCodeAt text.now at)) }
         ensures first { IfOk result (λ found. IfSome found (ClosesFirst text.now at)) }
     {
@@ -69,7 +75,8 @@ impl BacktickRuns {
         requires runs { AreRunsOf text.now self.old }
         requires room { self.old.visited < 2 ^ 127 }
         ensures value { result ≡ true → code_in (drop at text.now) ≡ None }
-        ensures closes { result ≡ false → IfSome self.old.from (λ from. from ≤ at → code_in (drop at text.now) ≢ None) }
+        ensures closes { result ≡ false
+            → IfSome self.old.from (λ from. from ≤ at → code_in (drop at text.now) ≢ None) }
         ensures counts { self.new.visited ≡ self.old.visited + entries_for at self.old }
         ensures others { self.new ≡ record self.old { visited = self.new.visited } }
     {
@@ -93,7 +100,8 @@ impl BacktickRuns {
         ensures grows { self.old.visited ≤ self.new.visited }
         ensures from { OnOk result (self.new.from ≡ Some from) }
         ensures none { OnErr result (self.new.from ≡ None) }
-        ensures counts { OnOk result (self.new.visited ≡ self.old.visited + runs_in false (drop from text.now)) }
+        ensures counts { OnOk result
+            (self.new.visited ≡ self.old.visited + runs_in false (drop from text.now)) }
     {
         self.from = None;
         self.last.clear();
@@ -113,9 +121,13 @@ impl BacktickRuns {
 
 /// Lists a run of `size` backticks at the offset `start`, which is after all runs that are listed.
 fn add_run(last: &mut Vec<usize>, start: usize, size: usize) -> Result<(), AllocError>
-    ensures entries { OnOk result ((k : ℕ) → get_or last.new.items k 0 ≡ (if k == size then start else get_or last.old.items k 0)) }
+    ensures entries { OnOk result
+        ((k : ℕ)
+        → get_or last.new.items k 0 ≡ (if k == size then start else get_or last.old.items k 0)) }
     ensures added { OnOk result (IsListed last.new.items start size) }
-    ensures others { OnOk result ((place other : ℕ) → place ≤ start → IsListed last.old.items place other → IsListed last.new.items place other) }
+    ensures others { OnOk result
+        ((place other : ℕ) → place ≤ start → IsListed last.old.items place other
+        → IsListed last.new.items place other) }
 {
     while last.len() <= size {
         last.push(0)?;

@@ -46,7 +46,8 @@ impl Braces {
     /// Moves past a byte. It is not a brace if a backslash escapes it.
     pub fn pass(&mut self, is_escaped: bool, byte: u8) -> Result<(), AllocError>
         requires room { self.old.next < 18446744073709551615 }
-        ensures braces { OnOk result (shown_braces self.new ≡ after_byte is_escaped byte (shown_braces self.old)) }
+        ensures braces { OnOk result
+            (shown_braces self.new ≡ after_byte is_escaped byte (shown_braces self.old)) }
         ensures next { OnOk result (self.new.next ≤ self.old.next + 1) }
     {
         if is_escaped {
@@ -65,7 +66,8 @@ impl Braces {
     // Enters the next context.
     fn enter(&mut self) -> Result<(), AllocError>
         requires room { self.old.next < 18446744073709551615 }
-        ensures braces { OnOk result (shown_braces self.new ≡ after_byte false 123 (shown_braces self.old)) }
+        ensures braces { OnOk result
+            (shown_braces self.new ≡ after_byte false 123 (shown_braces self.old)) }
         ensures next { OnOk result (self.new.next ≤ self.old.next + 1) }
     {
         self.entered.push((self.next % 256) as u8)?;

@@ -36,10 +36,14 @@ pub(crate) fn backticks(bytes: &[u8]) -> usize
 /// The offset of the first run of exactly `size` backticks. `visited` counts the runs that are looked at, including this one.
 fn find_run(bytes: &[u8], size: usize, visited: &mut u128) -> Option<usize>
     requires { visited.old + length bytes.now < 2 ^ 128 }
-    ensures counts { MatchOption result (visited.new ≡ visited.old + runs_in false bytes.now) (λ at. visited.new + runs_in false (drop at bytes.now) ≡ visited.old + runs_in false bytes.now + 1) }
+    ensures counts { MatchOption result (visited.new ≡ visited.old + runs_in false bytes.now)
+        (λ at. visited.new + runs_in false (drop at bytes.now)
+        ≡ visited.old + runs_in false bytes.now + 1) }
     ensures least { IfSome result (λ at. visited.old < visited.new) }
     ensures grows { visited.old ≤ visited.new }
-    ensures value { option_map (λ at. record { bytes = take at bytes.now; following = drop at bytes.now }) result ≡ up_to_run size false bytes.now }
+    ensures value { option_map
+        (λ at. record { bytes = take at bytes.now; following = drop at bytes.now }) result
+        ≡ up_to_run size false bytes.now }
     ensures within { IfSome result (λ at. at ≤ length bytes.now) }
     ensures run { IfSome result (λ at. backticks (drop at bytes.now) ≡ size) }
 {

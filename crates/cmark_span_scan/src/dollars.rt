@@ -85,11 +85,17 @@ impl Dollars {
         requires room { self.old.visited < 2 ^ 127 }
         ensures dollars { AreDollarsOf text.now self.new }
         ensures reached { IsReached text.now at self.old → IsReached text.now (at + 1) self.new }
-        ensures pays { IsReached text.now at self.old → self.new.visited + may_visit text.now (at + 1) self.new ≤ self.old.visited + may_visit text.now at self.old }
-        ensures least { IfOk result (λ found. IfSome found (λ formula. self.old.visited < self.new.visited)) }
+        ensures pays { IsReached text.now at self.old
+            → self.new.visited + may_visit text.now (at + 1) self.new ≤ self.old.visited + may_visit
+            text.now at self.old }
+        ensures least { IfOk result
+            (λ found. IfSome found (λ formula. self.old.visited < self.new.visited)) }
         ensures grows { self.old.visited ≤ self.new.visited }
-        ensures value { IfOk result (λ found. option_map (shown_formula text.now) found ≡ formula_at text.now at) }
-        ensures kind { IfOk result (λ found. IfSome found (λ formula. formula.is_display ≡ first_is is_dollar (drop (at + 1) text.now))) }
+        ensures value { IfOk result
+            (λ found. option_map (shown_formula text.now) found ≡ formula_at text.now at) }
+        ensures kind { IfOk result
+            (λ found. IfSome found
+            (λ formula. formula.is_display ≡ first_is is_dollar (drop (at + 1) text.now))) }
         ensures places { IfOk result (λ found. IfSome found (IsFormulaAt text.now at)) }
     {
         let bytes = text.as_bytes();
@@ -113,7 +119,9 @@ impl Dollars {
         ensures listed { OnOk result (self.new.is_listed ≡ true) }
         ensures counts { OnOk result (Lists text.now self.old self.new) }
         ensures grows { self.old.visited ≤ self.new.visited }
-        ensures none { OnErr result ((self.new.visited ≡ self.old.visited) × (self.new.is_listed ≡ false) × (self.old.is_listed ≡ false)) }
+        ensures none { OnErr result
+            ((self.new.visited ≡ self.old.visited) × (self.new.is_listed ≡ false)
+            × (self.old.is_listed ≡ false)) }
     {
         if self.is_listed {
             return Ok(());
@@ -134,12 +142,14 @@ impl Dollars {
         requires within { at < length text.now }
         requires dollar { slice_index text.now at ≡ 36 }
         requires room { self.old.visited < 2 ^ 127 + 2 ^ 100 }
-        ensures value { result ≡ closing (at + 1) (context_of (braces_at text.now at)) (dollars_in text.now) }
+        ensures value { result
+            ≡ closing (at + 1) (context_of (braces_at text.now at)) (dollars_in text.now) }
         ensures dollars { AreDollarsOf text.now self.new }
         ensures listed { self.new.is_listed ≡ true }
         ensures reached { self.new.reached ≡ prefix_len (stands_before at) (dollars_in text.now) }
         ensures within { self.new.reached < length (dollars_in text.now) }
-        ensures pays { IsReached text.now at self.old → self.new.visited + self.old.reached ≡ self.old.visited + self.new.reached + 1 }
+        ensures pays { IsReached text.now at self.old
+            → self.new.visited + self.old.reached ≡ self.old.visited + self.new.reached + 1 }
         ensures least { self.old.visited < self.new.visited }
     {
         let first = self.first_index(text, at);
@@ -167,7 +177,8 @@ impl Dollars {
         requires listed { self.now.listed.items ≡ dollars_in text.now }
         requires within { at < length text.now }
         requires dollar { slice_index text.now at ≡ 36 }
-        requires first { prefix_len (stands_before at) self.now.listed.items ≡ first + prefix_len (stands_before at) (drop first self.now.listed.items) }
+        requires first { prefix_len (stands_before at) self.now.listed.items
+            ≡ first + prefix_len (stands_before at) (drop first self.now.listed.items) }
         requires first_within { first ≤ length self.now.listed.items }
         ensures value { result ≡ prefix_len (stands_before at) self.now.listed.items }
         ensures within { result < length self.now.listed.items }
@@ -185,9 +196,11 @@ impl Dollars {
         requires listed { self.now.listed.items ≡ dollars_in text.now }
         requires within { at < length text.now }
         requires dollar { slice_index text.now at ≡ 36 }
-        ensures value { prefix_len (stands_before at) self.now.listed.items ≡ result + prefix_len (stands_before at) (drop result self.now.listed.items) }
+        ensures value { prefix_len (stands_before at) self.now.listed.items
+            ≡ result + prefix_len (stands_before at) (drop result self.now.listed.items) }
         ensures within { result ≤ length self.now.listed.items }
-        ensures reached { self.now.reached ≤ prefix_len (stands_before at) (dollars_in text.now) → result ≡ self.now.reached }
+        ensures reached { self.now.reached ≤ prefix_len (stands_before at) (dollars_in text.now)
+            → result ≡ self.now.reached }
     {
         if self.reached < self.listed.len() && self.listed[self.reached].place <= at {
             return self.reached;
@@ -235,7 +248,10 @@ fn set_head(
     index: usize,
     none: usize,
 ) -> Result<(), AllocError>
-    ensures { OnOk result ((k : ℕ) → get_or heads.new.items k none ≡ (if k == context then index else get_or heads.old.items k none)) }
+    ensures { OnOk result
+        ((k : ℕ)
+        → get_or heads.new.items k none
+        ≡ (if k == context then index else get_or heads.old.items k none)) }
 {
     while heads.len() <= context {
         heads.push(none)?;
@@ -270,7 +286,9 @@ fn list_dollar(
     is_escaped: bool,
     byte: u8,
 ) -> Result<(), AllocError>
-    ensures { OnOk result (listed.new.items ≡ listed.old.items ++ dollar_here at is_escaped (shown_braces braces.now) byte) }
+    ensures { OnOk result
+        (listed.new.items
+        ≡ listed.old.items ++ dollar_here at is_escaped (shown_braces braces.now) byte) }
 {
     if byte == b'$' {
         let context = braces.context();
@@ -324,7 +342,9 @@ fn signs_of(is_display: bool) -> usize
 fn closes(bytes: &[u8], closer: usize, is_display: bool) -> bool
     requires low { 0 < closer }
     requires within { closer < length bytes.now }
-    ensures { result ≡ closes_formula is_display (get_or bytes.now (closer - 1) 0) (drop (closer + 1) bytes.now) }
+    ensures { result
+        ≡ closes_formula is_display (get_or bytes.now (closer - 1) 0)
+        (drop (closer + 1) bytes.now) }
 {
     if is_display {
         is_dollar_at(bytes, closer + 1)
@@ -341,9 +361,15 @@ fn formula_up_to(text: &str, start: usize, closer: usize, is_display: bool) -> O
     requires ordered { start ≤ closer }
     requires within { closer < length text.now }
     requires dollar { slice_index text.now closer ≡ 36 }
-    ensures value { option_map (shown_formula text.now) result ≡ (if closes_formula is_display (get_or text.now (closer - 1) 0) (drop (closer + 1) text.now) then Some (record { bytes = slice text.now start closer; following = drop (closer + signs_of is_display) text.now }) else None) }
+    ensures value { option_map (shown_formula text.now) result
+        ≡
+        (if closes_formula is_display (get_or text.now (closer - 1) 0) (drop (closer + 1) text.now)
+        then Some
+        (record { bytes = slice text.now start closer; following = drop (closer + signs_of is_display) text.now })
+        else None) }
     ensures kind { IfSome result (λ formula. formula.is_display ≡ is_display) }
-    ensures places { (at : ℕ) → start ≡ at + signs_of is_display → IfSome result (IsFormulaAt text.now at) }
+    ensures places { (at : ℕ) → start ≡ at + signs_of is_display
+        → IfSome result (IsFormulaAt text.now at) }
 {
     if !closes(text.as_bytes(), closer, is_display) {
         return None;

@@ -22,7 +22,8 @@ fn starts(bytes: &[u8], prefix: &[u8]) -> bool
 /// processing instruction, a declaration or a CDATA section.
 pub fn inline_html(text: &str, at: usize) -> Option<usize>
     requires { IsCharBoundary text.now at }
-    ensures value { option_map (λ end. drop end text.now) result ≡ after_inline_html (drop at text.now) }
+    ensures value { option_map (λ end. drop end text.now) result
+        ≡ after_inline_html (drop at text.now) }
     ensures further { IfSome result (λ end. at < end) }
     ensures ends { IfSome result (λ end. IsCharBoundary text.now end) }
 {
@@ -43,12 +44,15 @@ pub fn inline_html(text: &str, at: usize) -> Option<usize>
 pub fn inline_markup(text: &str, at: usize, guard: &mut HtmlScanGuard) -> HtmlFind
     requires place { IsCharBoundary text.now at }
     requires marks { AreMarks text.now (at + 2) guard.old }
-    ensures value { option_map (λ end. drop end text.now) result.end ≡ after_markup (drop at text.now) }
+    ensures value { option_map (λ end. drop end text.now) result.end
+        ≡ after_markup (drop at text.now) }
     ensures passed { IfSome result.end (λ end. at + 2 + result.passed ≡ end) }
     ensures ends { IfSome result.end (λ end. IsCharBoundary text.now end) }
     ensures marks { (later : ℕ) → at + 2 ≤ later → AreMarks text.now later guard.new }
     ensures few { result.passed ≤ length text.now }
-    ensures pays { MatchOption result.end (result.passed + may_pass (length text.now) (length text.now) guard.new ≤ 7 + may_pass (length text.now) (length text.now) guard.old) (λ end. guard.new ≡ guard.old) }
+    ensures pays { MatchOption result.end
+        (result.passed + may_pass (length text.now) (length text.now) guard.new ≤ 7 + may_pass
+        (length text.now) (length text.now) guard.old) (λ end. guard.new ≡ guard.old) }
 {
     let bytes = text.as_bytes();
     let rest = &bytes[at..];

@@ -27,7 +27,8 @@ struct LineEnding {
 
 /// The first line ending.
 fn find_line_ending(text: &str) -> Option<LineEnding>
-    ensures { MatchOption result (HasNoEnd text.now) (λ found. EndsLine text.now found.start found.end) }
+    ensures { MatchOption result (HasNoEnd text.now)
+        (λ found. EndsLine text.now found.start found.end) }
 {
     let bytes = text.as_bytes();
     let start = find_line_end(bytes)?;

@@ -115,7 +115,8 @@ pub fn next_special(table: &[bool; 256], bytes: &[u8], at: usize) -> usize
     requires { at ≤ length bytes.now }
     ensures value { result ≡ next_in table.now bytes.now at }
     ensures within { result ≤ length bytes.now }
-    ensures boundary { (o : options.Options) → IsTableOf o table.now → IsCharBoundary bytes.now result }
+    ensures boundary { (o : options.Options) → IsTableOf o table.now
+        → IsCharBoundary bytes.now result }
 {
     at + plain_size(table, &bytes[at..])
 }

@@ -78,7 +78,7 @@ module _ (limit : ℕ) (options : Options) (lookup : Lookup) (filtered : Event �
   rest = document_after text options lookup from
 
   -- two parts that define nothing
-  undefined-whole : HasNoDefinitions earlier → HasNoDefinitions rest → HasNoDefinitions whole
+  pub undefined-whole : HasNoDefinitions earlier → HasNoDefinitions rest → HasNoDefinitions whole
   undefined-whole h k = record {
     definitions = λ folded.
         ap (first_with fold folded) (tail-references text options lookup from joined) ∙ first-append folded (references earlier) (references rest)
@@ -145,7 +145,7 @@ module _ (limit : ℕ) (options : Options) (lookup : Lookup) (filtered : Event �
   abbrev read : Profile
   read = profile_within limit options lookup false
 
-  cut-is-joined : (cut : ℕ) → IsSettledAt options text cut → IsJoinedAt options lookup text cut
+  pub cut-is-joined : (cut : ℕ) → IsSettledAt options text cut → IsJoinedAt options lookup text cut
   cut-is-joined cut h = subst (λ t. IsJoinedAt options lookup t cut) (append-nil text) (stays-joined options text cut h lookup [])
 
   pub rest-same : (from : ℕ) (settled other tail : List ℕ) (cut at : ℕ) → settled ≡ other → cut ≡ at → IsRestFrom filtered limit text options lookup from other tail at → IsRestFrom filtered limit text options lookup from settled tail cut

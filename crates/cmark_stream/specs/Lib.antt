@@ -1,2 +1,4 @@
+pub mod Chunks
+pub mod Faults
 pub mod Rests
 pub mod Streams

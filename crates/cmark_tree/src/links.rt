@@ -124,7 +124,8 @@ impl Links {
     pub fn set_next(&mut self, at: usize, to: usize)
         requires at { at < length (links_of self.old) }
         requires to { to ≤ links_room self.old }
-        ensures links { (l : Link ℕ) → slice_get (links_of self.old) at ≡ Some l → links_of self.new ≡ slice_set (links_of self.old) at (linked_next to l) }
+        ensures links { (l : Link ℕ) → slice_get (links_of self.old) at ≡ Some l
+            → links_of self.new ≡ slice_set (links_of self.old) at (linked_next to l) }
         ensures count { length (links_of self.new) ≡ length (links_of self.old) }
         ensures room { links_room self.new ≡ links_room self.old }
     {
@@ -138,7 +139,8 @@ impl Links {
     pub fn set_child(&mut self, at: usize, to: usize)
         requires at { at < length (links_of self.old) }
         requires to { to ≤ links_room self.old }
-        ensures links { (l : Link ℕ) → slice_get (links_of self.old) at ≡ Some l → links_of self.new ≡ slice_set (links_of self.old) at (linked_child to l) }
+        ensures links { (l : Link ℕ) → slice_get (links_of self.old) at ≡ Some l
+            → links_of self.new ≡ slice_set (links_of self.old) at (linked_child to l) }
         ensures count { length (links_of self.new) ≡ length (links_of self.old) }
         ensures room { links_room self.new ≡ links_room self.old }
     {

@@ -64,7 +64,8 @@ fn link_of(ix: Option<TreeIndex>) -> usize
 // The sibling before `last`, in the row of siblings that begins with `head`; 0 if there is none.
 fn sibling_before<T: Drop>(nodes: &Nodes<T>, head: usize, last: usize) -> usize
     requires { IsAmong nodes.now head last }
-    ensures { (done : Forest (Placed T)) (p : Placed T) (inside after : Forest (Placed T)) → IsChildren nodes.now (join done (Node p inside after)) head → p.ix ≡ last
+    ensures { (done : Forest (Placed T)) (p : Placed T) (inside after : Forest (Placed T))
+        → IsChildren nodes.now (join done (Node p inside after)) head → p.ix ≡ last
         → last_place done ≡ result }
 {
     let mut before = 0;
@@ -98,7 +99,9 @@ impl<T: Drop> Tree<T> {
     /// may be no node at that place yet. Returns the number of the new node. If memory is refused nothing changes.
     pub fn append(&mut self, item: T) -> Result<TreeIndex, AllocError>
         requires { IsOpen self.old }
-        ensures ok { IfOk result (λ i. (z : Zip T) → Holds self.old z → CanAppend z → Holds self.new (appended i.ix item z)) }
+        ensures ok { IfOk result
+            (λ i. (z : Zip T) → Holds self.old z → CanAppend z
+            → Holds self.new (appended i.ix item z)) }
         ensures new { IfOk result (λ i. i.ix ≡ suc (tree_len self.old)) }
         ensures len { OnOk result (tree_len self.new ≡ suc (tree_len self.old)) }
         ensures err { OnErr result (IsUnchanged self.old self.new) }
@@ -118,7 +121,8 @@ impl<T: Drop> Tree<T> {
     /// Moves down to the focus's first child, or to no focus if it has no child. If memory is refused nothing changes.
     pub fn push(&mut self) -> Result<(), AllocError>
         requires { IsAtNode self.old }
-        ensures ok { OnOk result ((z : Zip T) → Holds self.old z → HasFocus z → Holds self.new (pushed z)) }
+        ensures ok { OnOk result
+            ((z : Zip T) → Holds self.old z → HasFocus z → Holds self.new (pushed z)) }
         ensures nodes { KeepsNodes self.old self.new }
         ensures err { OnErr result (IsUnchanged self.old self.new) }
     {
@@ -156,8 +160,10 @@ impl<T: Drop> Tree<T> {
     /// focus.
     pub fn next_sibling(&mut self, ix: TreeIndex) -> Option<TreeIndex>
         requires { IsAtSibling self.old ix.ix }
-        ensures past { (z : Zip T) (s : Sibling z ix.ix) → Holds self.old z → Holds self.new (past z ix.ix s) }
-        ensures result { (z : Zip T) (s : Sibling z ix.ix) → Holds self.old z → result ≡ focus_of s.after }
+        ensures past { (z : Zip T) (s : Sibling z ix.ix) → Holds self.old z
+            → Holds self.new (past z ix.ix s) }
+        ensures result { (z : Zip T) (s : Sibling z ix.ix) → Holds self.old z
+            → result ≡ focus_of s.after }
         ensures nodes { KeepsNodes self.old self.new }
     {
         let next = self.nodes.next(ix.ix);
@@ -194,8 +200,12 @@ impl<T: Drop> Tree<T> {
     #[inline(always)]
     pub fn open(&mut self, item: T) -> Result<(), AllocError>
         requires { IsPlaced self.old }
-        ensures ok { OnOk result ((here : Forest T) (up : List (Opened T)) → Is self.old here up → Is self.new Nil (record { left = here; item = item } ∷ up)) }
-        ensures err { OnErr result ((here : Forest T) (up : List (Opened T)) → Is self.old here up → Is self.new here up ⊎ Is self.new (join here (one item Nil)) up) }
+        ensures ok { OnOk result
+            ((here : Forest T) (up : List (Opened T)) → Is self.old here up
+            → Is self.new Nil (record { left = here; item = item } ∷ up)) }
+        ensures err { OnErr result
+            ((here : Forest T) (up : List (Opened T)) → Is self.old here up
+            → Is self.new here up ⊎ Is self.new (join here (one item Nil)) up) }
     {
         self.append(item)?;
         self.push()?;
@@ -205,7 +215,9 @@ impl<T: Drop> Tree<T> {
     /// Adds a node without children after the focus; it becomes the focus. If memory is refused the tree is unchanged.
     pub fn add(&mut self, item: T) -> Result<TreeIndex, AllocError>
         requires { IsPlaced self.old }
-        ensures ok { OnOk result ((here : Forest T) (up : List (Opened T)) → Is self.old here up → Is self.new (join here (one item Nil)) up) }
+        ensures ok { OnOk result
+            ((here : Forest T) (up : List (Opened T)) → Is self.old here up
+            → Is self.new (join here (one item Nil)) up) }
         ensures new { IfOk result (λ i. i.ix ≡ suc (tree_len self.old)) }
         ensures err { OnErr result (IsUnchanged self.old self.new) }
     {
@@ -215,7 +227,8 @@ impl<T: Drop> Tree<T> {
 
     /// Closes the innermost open node, which then is the focus.
     pub fn close(&mut self)
-        ensures { (here : Forest T) (v : Opened T) (up : List (Opened T)) → Is self.old here (v ∷ up) → Is self.new (closed v here) up }
+        ensures { (here : Forest T) (v : Opened T) (up : List (Opened T))
+            → Is self.old here (v ∷ up) → Is self.new (closed v here) up }
     {
         self.pop();
     }
@@ -226,11 +239,16 @@ impl<T: Drop> Tree<T> {
     /// If memory is refused, either the tree is unchanged, or the new node is around the sibling, closed, and is the focus.
     pub fn enclose(&mut self, item: T) -> Result<(), AllocError>
         requires { IsPlaced self.old }
-        ensures ok { OnOk result ((here : Forest T) (x : T) (inside : Forest T) (up : List (Opened T)) → Is self.old (join here (one x inside)) up
+        ensures ok { OnOk result
+            ((here : Forest T) (x : T) (inside : Forest T) (up : List (Opened T))
+            → Is self.old (join here (one x inside)) up
             → Is self.new (one x inside) (record { left = here; item = item } ∷ up)) }
         ensures none { (up : List (Opened T)) → Is self.old Nil up → Is self.new Nil up }
-        ensures err { OnErr result ((here : Forest T) (x : T) (inside : Forest T) (up : List (Opened T)) → Is self.old (join here (one x inside)) up
-            → Is self.new (join here (one x inside)) up ⊎ Is self.new (join here (one item (one x inside))) up) }
+        ensures err { OnErr result
+            ((here : Forest T) (x : T) (inside : Forest T) (up : List (Opened T))
+            → Is self.old (join here (one x inside)) up
+            → Is self.new (join here (one x inside)) up
+            ⊎ Is self.new (join here (one item (one x inside))) up) }
     {
         if self.cur == 0 {
             return Ok(());
@@ -244,9 +262,11 @@ impl<T: Drop> Tree<T> {
     /// proportional to the number of children. With no open node nothing changes.
     pub fn release(&mut self)
         requires { IsPlaced self.old }
-        ensures released { (here : Forest T) (x : T) (inside : Forest T) (v : Opened T) (up : List (Opened T)) → Is self.old (join here (one x inside)) (v ∷ up)
+        ensures released { (here : Forest T) (x : T) (inside : Forest T) (v : Opened T)
+            (up : List (Opened T)) → Is self.old (join here (one x inside)) (v ∷ up)
             → Is self.new (join (closed v here) (one x inside)) up }
-        ensures none { (v : Opened T) (up : List (Opened T)) → Is self.old Nil (v ∷ up) → Is self.new (closed v Nil) up }
+        ensures none { (v : Opened T) (up : List (Opened T)) → Is self.old Nil (v ∷ up)
+            → Is self.new (closed v Nil) up }
         ensures top { (here : Forest T) → Is self.old here [] → Is self.new here [] }
     {
         let Some(parent) = self.peek_up() else {
@@ -310,7 +330,9 @@ impl<T: Drop> Tree<T> {
     /// not be inside `to`.
     pub fn set_next(&mut self, ix: TreeIndex, to: Option<TreeIndex>)
         requires { CanLinkNext self.old ix.ix (place_of to) }
-        ensures forest { (z : Zip T) (g : Forest (Placed T)) → CanLink self.old z ix.ix (place_of to) g (next_relinked ix.ix g z) → Holds self.new (next_relinked ix.ix g z) }
+        ensures forest { (z : Zip T) (g : Forest (Placed T))
+            → CanLink self.old z ix.ix (place_of to) g (next_relinked ix.ix g z)
+            → Holds self.new (next_relinked ix.ix g z) }
         ensures nodes { IsChanged self.old.nodes self.new.nodes ix.ix (with_next (place_of to)) }
         ensures path { KeepsPath self.old self.new }
     {
@@ -320,7 +342,9 @@ impl<T: Drop> Tree<T> {
     /// Sets the first child of a node, under the conditions of `set_next`.
     pub fn set_child(&mut self, ix: TreeIndex, to: Option<TreeIndex>)
         requires { CanLinkChild self.old ix.ix (place_of to) }
-        ensures forest { (z : Zip T) (g : Forest (Placed T)) → CanLink self.old z ix.ix (place_of to) g (child_relinked ix.ix g z) → Holds self.new (child_relinked ix.ix g z) }
+        ensures forest { (z : Zip T) (g : Forest (Placed T))
+            → CanLink self.old z ix.ix (place_of to) g (child_relinked ix.ix g z)
+            → Holds self.new (child_relinked ix.ix g z) }
         ensures nodes { IsChanged self.old.nodes self.new.nodes ix.ix (with_child (place_of to)) }
         ensures path { KeepsPath self.old self.new }
     {

@@ -67,7 +67,8 @@ struct Cut {
 // The place at which the siblings from `head` on are cut.
 fn cut_place<T: TreeSpan>(nodes: &Nodes<T>, head: usize, to: usize) -> Cut
     requires { (f : Forest (Placed T)) × IsChildren nodes.now f head }
-    ensures { (f : Forest (Placed T)) → IsChildren nodes.now f head → IsCut T.spans to f result.kept result.at }
+    ensures { (f : Forest (Placed T)) → IsChildren nodes.now f head
+        → IsCut T.spans to f result.kept result.at }
 {
     let mut cut = Cut { kept: 0, at: head };
     for _step in 0..nodes.count() {
@@ -88,8 +89,10 @@ fn cut_place<T: TreeSpan>(nodes: &Nodes<T>, head: usize, to: usize) -> Cut
 // Shortens the item of a node that does not end before `to`. Returns whether any of it is left.
 fn shorten_at<T: TreeSpan>(nodes: &mut Nodes<T>, at: usize, to: usize) -> bool
     requires number { HasNumber nodes.old at }
-    requires inside { (e : Entry T) → node_at nodes.old at ≡ Some e → T.spans.start e.item ≡ to → T.spans.escaped e.item ≡ true → 0 < to }
-    ensures { (e : Entry T) → node_at nodes.old at ≡ Some e → IsShortened T.spans to nodes.old nodes.new at e.item result }
+    requires inside { (e : Entry T) → node_at nodes.old at ≡ Some e → T.spans.start e.item ≡ to
+        → T.spans.escaped e.item ≡ true → 0 < to }
+    ensures { (e : Entry T) → node_at nodes.old at ≡ Some e
+        → IsShortened T.spans to nodes.old nodes.new at e.item result }
 {
     let item = nodes.item_mut(at);
     shorten(item, to)
@@ -99,7 +102,8 @@ fn shorten_at<T: TreeSpan>(nodes: &mut Nodes<T>, at: usize, to: usize) -> bool
 fn start_at<T: TreeSpan>(nodes: &Nodes<T>, at: usize) -> Option<usize>
     requires { (at ≡ 0 → ⊥) → HasNumber nodes.now at }
     ensures none { at ≡ 0 → result ≡ None }
-    ensures some { (at ≡ 0 → ⊥) → (e : Entry T) → node_at nodes.now at ≡ Some e → result ≡ Some (T.spans.start e.item) }
+    ensures some { (at ≡ 0 → ⊥) → (e : Entry T) → node_at nodes.now at ≡ Some e
+        → result ≡ Some (T.spans.start e.item) }
 {
     if at == 0 {
         return None;
@@ -113,7 +117,8 @@ impl<T: TreeSpan> Tree<T> {
     /// that backslash. The last remaining child is the focus.
     pub fn truncate_siblings(&mut self, end: usize)
         requires { CanTruncate T.spans self.old }
-        ensures { (z : Zip T) → Holds self.old z → HasParent z.up → Holds self.new (siblings_truncated T.spans end z) }
+        ensures { (z : Zip T) → Holds self.old z → HasParent z.up
+            → Holds self.new (siblings_truncated T.spans end z) }
     {
         let Some(parent) = self.peek_up() else {
             return;
@@ -132,9 +137,12 @@ impl<T: TreeSpan> Tree<T> {
     /// child, or `None` if each child ends before `end`. The last remaining child is the focus. If no node is open nothing changes.
     pub fn cut_siblings(&mut self, end: usize) -> Option<usize>
         requires { IsPlaced self.old }
-        ensures kept { (here : Forest T) (v : Opened T) (up : List (Opened T)) → Is self.old here (v ∷ up) → Is self.new (ending_before T.spans end here) (v ∷ up) }
-        ensures start { (here : Forest T) (v : Opened T) (up : List (Opened T)) → Is self.old here (v ∷ up) → result ≡ reaching_start T.spans end here }
-        ensures unopened { (here : Forest T) → Is self.old here [] → (self.new ≡ self.old) × (result ≡ None) }
+        ensures kept { (here : Forest T) (v : Opened T) (up : List (Opened T))
+            → Is self.old here (v ∷ up) → Is self.new (ending_before T.spans end here) (v ∷ up) }
+        ensures start { (here : Forest T) (v : Opened T) (up : List (Opened T))
+            → Is self.old here (v ∷ up) → result ≡ reaching_start T.spans end here }
+        ensures unopened { (here : Forest T) → Is self.old here []
+            → (self.new ≡ self.old) × (result ≡ None) }
         ensures placed { IsPlaced self.new }
     {
         let parent = self.peek_up()?;
@@ -147,7 +155,10 @@ impl<T: TreeSpan> Tree<T> {
     // The parent's children end with this one, which is the focus; if it is 0, there are none.
     fn end_siblings(&mut self, parent: TreeIndex, last: usize)
         requires { CanEnd self.old parent last }
-        ensures { (done rest : Forest (Placed T)) (up : List (Level T)) → IsForest (entry_at self.old) self.old.first (plug up (join done rest)) → self.old.spine.items ≡ spine_of up → parent_of up ≡ Some parent → last_place done ≡ last → Holds self.new (at_last done up) }
+        ensures { (done rest : Forest (Placed T)) (up : List (Level T))
+            → IsForest (entry_at self.old) self.old.first (plug up (join done rest))
+            → self.old.spine.items ≡ spine_of up → parent_of up ≡ Some parent
+            → last_place done ≡ last → Holds self.new (at_last done up) }
     {
         if last == 0 {
             self.nodes.set_child(parent.ix, 0);

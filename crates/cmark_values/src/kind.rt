@@ -74,7 +74,8 @@ impl<'a> CodeBlockKind<'a> {
 
     /// A copy of the kind. Memory is taken only for an owned info string that does not fit into an `InlineStr`.
     pub fn clone(&self, alloc: Global) -> Result<CodeBlockKind<'a>, AllocError>
-        ensures value { IfOk result (λ copy. shown_code_block_kind copy ≡ shown_code_block_kind self.now) }
+        ensures value { IfOk result
+            (λ copy. shown_code_block_kind copy ≡ shown_code_block_kind self.now) }
         ensures succeeds { KindCopiesInPlace self.now → IsOk result }
     {
         match self {
@@ -85,7 +86,8 @@ impl<'a> CodeBlockKind<'a> {
 
     /// This kind as a value that borrows nothing.
     pub fn into_static(self, alloc: Global) -> Result<CodeBlockKind<'static>, AllocError>
-        ensures value { IfOk result (λ made. shown_code_block_kind made ≡ shown_code_block_kind self.entry) }
+        ensures value { IfOk result
+            (λ made. shown_code_block_kind made ≡ shown_code_block_kind self.entry) }
         ensures succeeds { KindStaysInPlace self.entry → IsOk result }
     {
         match self {

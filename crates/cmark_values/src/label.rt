@@ -251,8 +251,11 @@ fn normalized(alloc: Global, label: &str) -> Result<String, AllocError>
 
 /// Appends the word, after a space unless it is the first.
 fn push_word(text: &mut String, word: &str) -> Result<(), AllocError>
-    ensures first { OnOk result (length (string_bytes text.old) ≡ 0 → string_bytes text.new ≡ word.now) }
-    ensures further { OnOk result (0 < length (string_bytes text.old) → string_bytes text.new ≡ string_bytes text.old ++ (32 ∷ word.now)) }
+    ensures first { OnOk result
+        (length (string_bytes text.old) ≡ 0 → string_bytes text.new ≡ word.now) }
+    ensures further { OnOk result
+        (0 < length (string_bytes text.old)
+        → string_bytes text.new ≡ string_bytes text.old ++ (32 ∷ word.now)) }
 {
     if !text.is_empty() {
         text.push(' ')?;

@@ -51,7 +51,8 @@ impl Options {
 
     /// Whether footnotes are read in GitHub's form: `ENABLE_FOOTNOTES` is set, and the older form is not chosen.
     pub fn has_gfm_footnotes(&self) -> bool
-        ensures { let options = shown_options self.now in result ≡ (options.footnotes && not options.old_footnotes) }
+        ensures { let options = shown_options self.now in result
+            ≡ (options.footnotes && not options.old_footnotes) }
     {
         self.contains(Options::ENABLE_FOOTNOTES) && !self.contains(Options::ENABLE_OLD_FOOTNOTES)
     }

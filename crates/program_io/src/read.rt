@@ -26,10 +26,13 @@ pub fn read_all<R: Read>(
     reader: &mut Watched<R>,
     limit: u64,
 ) -> Result<Vec<u8>, RunFault>
-    ensures all { IfOk result (λ bytes. Consumes (R.remaining (watched_end reader.old)) (R.remaining (watched_end reader.new)) bytes.items) }
+    ensures all { IfOk result
+        (λ bytes. Consumes (R.remaining (watched_end reader.old))
+        (R.remaining (watched_end reader.new)) bytes.items) }
     ensures at_end { OnOk result (IsAtEnd (R.remaining (watched_end reader.new))) }
     ensures within { IfOk result (λ bytes. vec_len bytes ≤ limit) }
-    ensures notes { OnOk result (((watched_notes reader.new).ended ≡ true) × ReadsOn limit (watched_notes reader.new)) }
+    ensures notes { OnOk result
+        (((watched_notes reader.new).ended ≡ true) × ReadsOn limit (watched_notes reader.new)) }
     ensures fault { IfErr result (ReadStops limit (watched_notes reader.new)) }
     ensures fresh { Cleared (watched_resets reader.old) (watched_resets reader.new) }
 {

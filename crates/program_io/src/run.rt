@@ -26,8 +26,8 @@ pub fn run<R: Read, W: Write, P: Render>(
     writer: &mut Watched<W>,
     renderer: &P,
 ) -> Result<(), RunFault>
-    ensures run { RunsBetween R.remaining W.contents (P.renders renderer.now) (P.refuses renderer.now)
-        reader.old reader.new writer.old writer.new result }
+    ensures run { RunsBetween R.remaining W.contents (P.renders renderer.now)
+        (P.refuses renderer.now) reader.old reader.new writer.old writer.new result }
     ensures fresh_reader { Cleared (watched_resets reader.old) (watched_resets reader.new) }
     ensures fresh_writer { Cleared (watched_resets writer.old) (watched_resets writer.new) }
 {

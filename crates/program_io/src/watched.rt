@@ -149,7 +149,8 @@ impl<R: Read> Read for Watched<R> {
 
     fn read(&mut self, buf: &mut [u8]) -> io::Result<usize>
         ensures bound { ReadsAtMost result buf.new }
-        ensures bytes { ReadConsumes (R.remaining (watched_end self.old)) (R.remaining (watched_end self.new)) result buf.new }
+        ensures bytes { ReadConsumes (R.remaining (watched_end self.old))
+            (R.remaining (watched_end self.new)) result buf.new }
         ensures notes { watched_notes self.new ≡ noted_read (watched_notes self.old) result }
         ensures resets { watched_resets self.new ≡ watched_resets self.old }
     {
@@ -168,7 +169,8 @@ impl<W: Write> Write for Watched<W> {
 
     fn write(&mut self, buf: &[u8]) -> io::Result<usize>
         ensures bound { WritesAtMost result buf.now }
-        ensures bytes { WriteAppends (W.contents (watched_end self.old)) (W.contents (watched_end self.new)) result buf.now }
+        ensures bytes { WriteAppends (W.contents (watched_end self.old))
+            (W.contents (watched_end self.new)) result buf.now }
         ensures notes { watched_notes self.new ≡ noted_write (watched_notes self.old) result }
         ensures resets { watched_resets self.new ≡ watched_resets self.old }
     {
@@ -182,7 +184,8 @@ impl<W: Write> Write for Watched<W> {
     }
 
     fn flush(&mut self) -> io::Result<()>
-        ensures bytes { Keeps (W.contents (watched_end self.old)) (W.contents (watched_end self.new)) }
+        ensures bytes { Keeps (W.contents (watched_end self.old))
+            (W.contents (watched_end self.new)) }
         ensures notes { watched_notes self.new ≡ noted_flush (watched_notes self.old) result }
         ensures resets { watched_resets self.new ≡ watched_resets self.old }
     {

@@ -16,8 +16,12 @@ use std::io::Write;
 /// The notes of the writer are cleared first. Fails with `Write` if a write or the flush failed, if a write took no byte, or if `PATIENCE`
 /// writes in a row were interrupted. A beginning of the text was then written.
 pub fn write_text<W: Write>(writer: &mut Watched<W>, text: &[u8]) -> Result<(), RunFault>
-    ensures all { OnOk result (Appends (W.contents (watched_end writer.old)) (W.contents (watched_end writer.new)) text.now) }
-    ensures front { OnErr result (AppendsFrontOf (W.contents (watched_end writer.old)) (W.contents (watched_end writer.new)) text.now) }
+    ensures all { OnOk result
+        (Appends (W.contents (watched_end writer.old)) (W.contents (watched_end writer.new))
+        text.now) }
+    ensures front { OnErr result
+        (AppendsFrontOf (W.contents (watched_end writer.old)) (W.contents (watched_end writer.new))
+        text.now) }
     ensures flushed { OnOk result ((watched_notes writer.new).ended ≡ true) }
     ensures fault { IfErr result (WriteStops (watched_notes writer.new)) }
     ensures fresh { Cleared (watched_resets writer.old) (watched_resets writer.new) }

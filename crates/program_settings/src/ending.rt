@@ -23,8 +23,8 @@ pub fn finish<H: Eprint, W: Write>(
     writer: &mut Watched<W>,
     ended: Result<(), Stop>,
 ) -> ExitCode
-    ensures { EndsWith (W.contents (watched_end writer.old)) (W.contents (watched_end writer.new)) (watched_notes writer.new)
-        ended (exit_status result) }
+    ensures { EndsWith (W.contents (watched_end writer.old)) (W.contents (watched_end writer.new))
+        (watched_notes writer.new) ended (exit_status result) }
 {
     let name = program.name();
     let fault = match ended {

@@ -117,7 +117,8 @@ pub fn with_flags<'a>(
     mut command: Command<'a>,
     flags: &[LineFlag],
 ) -> Result<Command<'a>, AllocError>
-    ensures { IfOk result (λ c. app_of c ≡ with_flag_rules (app_of command.entry) (map shown_flag flags.now)) }
+    ensures { IfOk result
+        (λ c. app_of c ≡ with_flag_rules (app_of command.entry) (map shown_flag flags.now)) }
 {
     for flag in flags {
         command = command.arg(flag_arg(alloc, *flag))?;
@@ -155,7 +156,8 @@ pub fn has_flag(matches: &ArgMatches<'_>, name: &str) -> bool
 
 /// Returns the options of the given flags that the words had.
 pub fn options_given(matches: &ArgMatches<'_>, flags: &[LineFlag]) -> Options
-    ensures { option_bits result ≡ bits_given (map shown_flag flags.now) (rows_of (found_of matches.now)) }
+    ensures { option_bits result
+        ≡ bits_given (map shown_flag flags.now) (rows_of (found_of matches.now)) }
 {
     let mut options = Options::empty();
     for flag in flags {

@@ -95,7 +95,8 @@ fn with_safe_flag<'a>(
     command: Command<'a>,
     program: Program,
 ) -> Result<Command<'a>, AllocError>
-    ensures { IfOk result (λ c. app_of c ≡ with_safe_rule (writes_html program) (app_of command.entry)) }
+    ensures { IfOk result
+        (λ c. app_of c ≡ with_safe_rule (writes_html program) (app_of command.entry)) }
 {
     if !program.writes_html() {
         return Ok(command);
@@ -128,9 +129,11 @@ fn file_arg<'a>(alloc: Global) -> Arg<'a>
 
 /// Returns the settings that the matches of the words ask for.
 fn settings_of(alloc: Global, matches: &ArgMatches<'_>) -> Result<Settings, AllocError>
-    ensures options { IfOk result (λ s. option_bits s.options ≡ bits_given flags (rows_of (found_of matches.now))) }
+    ensures options { IfOk result
+        (λ s. option_bits s.options ≡ bits_given flags (rows_of (found_of matches.now))) }
     ensures safe { IfOk result (λ s. s.safe ≡ is_safe_given (rows_of (found_of matches.now))) }
-    ensures file { IfOk result (λ s. option_map string_bytes s.entities ≡ file_given (rows_of (found_of matches.now))) }
+    ensures file { IfOk result
+        (λ s. option_map string_bytes s.entities ≡ file_given (rows_of (found_of matches.now))) }
 {
     let entities = match text_given(matches, "entities") {
         Some(file) => Some(String::from_str(alloc, file)?),
@@ -173,11 +176,15 @@ pub fn parse_line<'a, S: AsStr>(
 ) -> Result<Settings, LineFault>
     ensures options { IfOk result (λ s. option_bits s.options
         ≡ bits_given flags (matches_of (line_command program) (map S.text words.entry.now))) }
-    ensures safe { IfOk result (λ s. s.safe ≡ is_safe_given (matches_of (line_command program) (map S.text words.entry.now))) }
+    ensures safe { IfOk result
+        (λ s. s.safe
+        ≡ is_safe_given (matches_of (line_command program) (map S.text words.entry.now))) }
     ensures file { IfOk result (λ s. option_map string_bytes s.entities
         ≡ file_given (matches_of (line_command program) (map S.text words.entry.now))) }
-    ensures faults { AnswersBy (fault_of (line_command program) (map S.text words.entry.now)) result }
-    ensures passes { takes (line_command program) (map S.text words.entry.now) ≡ true → IfErr result (λ f. f ≡ Memory) }
+    ensures faults { AnswersBy (fault_of (line_command program) (map S.text words.entry.now))
+        result }
+    ensures passes { takes (line_command program) (map S.text words.entry.now) ≡ true
+        → IfErr result (λ f. f ≡ Memory) }
 {
     // Most runs have no word but the program's own name. They need no command.
     if let [_] = words {
@@ -196,11 +203,15 @@ fn read_words<'a, S: AsStr>(
 ) -> Result<Settings, LineFault>
     ensures options { IfOk result (λ s. option_bits s.options
         ≡ bits_given flags (matches_of (line_command program) (map S.text words.entry.now))) }
-    ensures safe { IfOk result (λ s. s.safe ≡ is_safe_given (matches_of (line_command program) (map S.text words.entry.now))) }
+    ensures safe { IfOk result
+        (λ s. s.safe
+        ≡ is_safe_given (matches_of (line_command program) (map S.text words.entry.now))) }
     ensures file { IfOk result (λ s. option_map string_bytes s.entities
         ≡ file_given (matches_of (line_command program) (map S.text words.entry.now))) }
-    ensures faults { AnswersBy (fault_of (line_command program) (map S.text words.entry.now)) result }
-    ensures passes { takes (line_command program) (map S.text words.entry.now) ≡ true → IfErr result (λ f. f ≡ Memory) }
+    ensures faults { AnswersBy (fault_of (line_command program) (map S.text words.entry.now))
+        result }
+    ensures passes { takes (line_command program) (map S.text words.entry.now) ≡ true
+        → IfErr result (λ f. f ≡ Memory) }
 {
     let command = line_reader(alloc, program)?;
     match command.try_get_matches_from(words) {

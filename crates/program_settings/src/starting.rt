@@ -92,11 +92,23 @@ pub fn read_entity_file<R: Read>(
     alloc: Global,
     reader: &mut Watched<R>,
 ) -> Result<NamedEntities, RunFault>
-    ensures names { IfOk result (λ found. (bytes : List ℕ) × ReadsAll (R.remaining (watched_end reader.old)) (R.remaining (watched_end reader.new)) bytes
-        × ((names : Members) × Spells bytes names × ((name : List ℕ) → looked_up found name ≡ entity_of names name))) }
-    ensures fault { IfErr result (λ fault. (fault ≡ Memory) ⊎ ((fault ≡ Entities) × (ReadStops input_limit (watched_notes reader.new) Read
-        ⊎ ((bytes : List ℕ) × ReadsAll (R.remaining (watched_end reader.old)) (R.remaining (watched_end reader.new)) bytes
-        × ((names : Members) → ¬ (Spells bytes names)))))) }
+    ensures names { IfOk result
+        (λ found. (bytes : List ℕ)
+        × ReadsAll (R.remaining (watched_end reader.old)) (R.remaining (watched_end reader.new))
+        bytes
+        ×
+        ((names : Members) × Spells bytes names
+        × ((name : List ℕ) → looked_up found name ≡ entity_of names name))) }
+    ensures fault { IfErr result
+        (λ fault. (fault ≡ Memory)
+        ⊎
+        ((fault ≡ Entities)
+        ×
+        (ReadStops input_limit (watched_notes reader.new) Read
+        ⊎
+        ((bytes : List ℕ)
+        × ReadsAll (R.remaining (watched_end reader.old)) (R.remaining (watched_end reader.new))
+        bytes × ((names : Members) → ¬ (Spells bytes names)))))) }
 {
     let bytes = match read_all(alloc, reader, INPUT_LIMIT) {
         Ok(bytes) => bytes,
@@ -154,9 +166,12 @@ fn look_up<R: Read + Drop>(
     alloc: Global,
     file: Option<Watched<R>>,
 ) -> Result<NamedEntities, RunFault>
-    ensures basic { file ≡ None → IfOk result (λ found. (name : List ℕ) → looked_up found name ≡ basic_entity name) }
+    ensures basic { file ≡ None
+        → IfOk result (λ found. (name : List ℕ) → looked_up found name ≡ basic_entity name) }
     ensures succeeds { file ≡ None → IsOk result }
-    ensures names { IfSome file (λ reader. IfSome (R.remaining (watched_end reader)) (λ bytes. IfOk result (HasNamesOf bytes))) }
+    ensures names { IfSome file
+        (λ reader. IfSome (R.remaining (watched_end reader))
+        (λ bytes. IfOk result (HasNamesOf bytes))) }
     ensures fault { IfErr result IsEarly }
 {
     let Some(mut reader) = file else {
@@ -174,7 +189,8 @@ pub fn start_with<H: Files + AllocGlobal, S: AsStr>(
 ) -> Result<RunSettings, Stop>
     ensures options { IfOk result (λ s. option_bits s.options
         ≡ bits_given flags (matches_of (line_command program) (map S.text words.now))) }
-    ensures safe { IfOk result (λ s. s.safe ≡ is_safe_given (matches_of (line_command program) (map S.text words.now))) }
+    ensures safe { IfOk result
+        (λ s. s.safe ≡ is_safe_given (matches_of (line_command program) (map S.text words.now))) }
     ensures basic { file_given (matches_of (line_command program) (map S.text words.now)) ≡ None
         → IfOk result (λ s. (entity : List ℕ) → looked_up s.entities entity ≡ basic_entity entity) }
     ensures stops { StartsBy (fault_of (line_command program) (map S.text words.now)) result }

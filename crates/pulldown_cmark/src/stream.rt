@@ -1,3 +1,3 @@
 //! A text that grows at its end, with its HTML.
 
-pub use cmark_stream::{Change, Stream};
+pub use cmark_stream::{Change, Stream, StreamFault};

@@ -1,6 +1,6 @@
 -- The flat records of a walk's events.
 use Rattle.std.specs.Prelude.{Ok, Some, None}
-use Rattle.std.proofs.Common.{◌≡◌, ◌⊎◌, inl, inr, ℕ, true, List, [], ◌∷◌, ◌++◌, Option, refl, sym, ap, ◌∙◌, append-nil, subst}
+use Rattle.std.proofs.Common.{◌≡◌, ℕ, true, List, [], ◌∷◌, ◌++◌, Option, refl, sym, ap, ◌∙◌, append-nil, subst}
 use Rattle.cmark_flat.specs.Flat.{flat, records}
 use Rattle.cmark_flat.specs.Records.{spelled}
 use Rattle.cmark_flat.proofs.FlatSteps.{flat_more}
@@ -19,9 +19,6 @@ use Rattle.cmark_parser.specs.Parsing.{Asks, CanGo, GivesAs, GivesStep, Passes, 
 use Rattle.cmark_parser.proofs.ParseSteps.{none-answered}
 use Rattle.cmark_parser.proofs.RenderSteps.{asks-on, passes-on}
 use Rattle.cmark_event_walk.specs.Callback.{AnswersIfAny}
-use Rattle.cmark_event_walk.specs.Walking.{as_next}
-use Rattle.cmark_event_walk.specs.declared.coming.Coming.{Coming}
-use Rattle.cmark_event_walk.specs.declared.coming.Coming.TheVariants as coming
 use Rattle.cmark_text.specs.Ranged.{shown_ranged}
 use Rattle.cmark_text.specs.declared.ranged.Ranged.{Ranged as Item}
 use Rattle.cmark_text.specs.declared.short.Next.TheVariants as next
@@ -44,12 +41,6 @@ module _ {E F : Type 0} (Says : F → BrokenLink → Option (CowStr × CowStr) �
 
   pub none_written : (parser : Parser E F) (output : List ℕ) → output ≡ [] → CanGo replacement parser → WritesFlat parser parser output
   none_written parser output none can = record { given = []; passes = record { taken = []; asks = refl; back = λ rest events r. r }; output_is = none; can = can }
-
-  -- a short event is given, of the spans or of the blocks
-  pub short_given : (parser new : Parser E F) (c : Coming) (short : Short) (start end : ℕ) → (c ≡ coming.Span short start end) ⊎ (c ≡ coming.Block short start end) → GivesAs Says replacement parser (as_next c) new
-      → GivesAs Says replacement parser (next.Short short start end) new
-  short_given parser new c short start end (inl e) h = subst (λ n. GivesAs Says replacement parser (as_next n) new) e h
-  short_given parser new c short start end (inr e) h = subst (λ n. GivesAs Says replacement parser (as_next n) new) e h
 
   -- an event that owns nothing
   pub short_more : (first parser new : Parser E F) (short : Short) (start end : ℕ) (mid after : List ℕ) → WritesFlat first parser mid → GivesAs Says replacement parser (next.Short short start end) new

@@ -10,7 +10,8 @@ ghost use Rattle.pulldown_cmark_c.specs.Flat.{AreFlatOf, AreFlatOfRest, RenderAn
 use crate::options::{Entities, are_known, refuse_unknown};
 use bitflags::Flags;
 use cmark_flat::{DecodeError, append_given, append_short, render};
-use cmark_parser::{Coming, OffsetIter, Parser};
+use cmark_parser::{OffsetIter, Parser};
+use cmark_text::Next;
 use cmark_values::{EntityLookup, Options};
 use program_io::{NO_MEMORY, NOT_UTF8, hand_over};
 use std::alloc::{AllocError, Global};
@@ -94,11 +95,9 @@ fn flat_of_rest<'a, E: EntityLookup>(
     let mut output = Vec::new(alloc);
     loop {
         match iter.next_short()? {
-            Coming::Span(short, start, end) | Coming::Block(short, start, end) => {
-                append_short(&mut output, short, start, end)?
-            }
-            Coming::Over => return Ok(output),
-            Coming::Long => {
+            Next::Short(short, start, end) => append_short(&mut output, short, start, end)?,
+            Next::Over => return Ok(output),
+            Next::Long => {
                 let Some(item) = iter.next_ranged() else {
                     return Ok(output);
                 };

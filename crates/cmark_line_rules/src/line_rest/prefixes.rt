@@ -33,7 +33,8 @@ impl<'a> LineRest<'a> {
     /// are no alerts.
     #[inline]
     pub fn alert_kind(&self, gfm: bool) -> Option<BlockQuoteKind>
-        ensures { (options : Options) → options.gfm ≡ gfm → option_map shown_block_quote_kind result ≡ alert_in options (row_of self.now) }
+        ensures { (options : Options) → options.gfm ≡ gfm
+            → option_map shown_block_quote_kind result ≡ alert_in options (row_of self.now) }
     {
         if !gfm {
             return None;
@@ -47,7 +48,8 @@ impl<'a> LineRest<'a> {
     /// own). With `tasklists` false there are no task markers.
     #[inline]
     pub fn task_marker(self, tasklists: bool) -> Option<(bool, LineRest<'a>)>
-        ensures task { (options : Options) → options.tasklists ≡ tasklists → option_map is_checked result ≡ task_in options (row_of self.entry) }
+        ensures task { (options : Options) → options.tasklists ≡ tasklists
+            → option_map is_checked result ≡ task_in options (row_of self.entry) }
         ensures following { IfSome result (IsAfterBox (row_of self.entry)) }
     {
         if !tasklists {
@@ -61,7 +63,9 @@ impl<'a> LineRest<'a> {
     /// The line after `width` columns of spaces and tabs, or after fewer if nothing follows them.
     #[inline]
     pub(crate) fn after_width(self, width: usize) -> Option<LineRest<'a>>
-        ensures { (delimiter : ℕ) (number : Option ℕ) (task : Option Bool) → option_map row_of result ≡ keeps (Item delimiter number width task) false (row_of self.entry) }
+        ensures { (delimiter : ℕ) (number : Option ℕ) (task : Option Bool)
+            → option_map row_of result
+            ≡ keeps (Item delimiter number width task) false (row_of self.entry) }
     {
         let mut front = self.front;
         if !front.scan_space(width) && !front.is_at_eol() {
@@ -74,7 +78,8 @@ impl<'a> LineRest<'a> {
     /// nothing follows them. In the old style it is the whole line, marked as held, if the line is not blank (this profile's own).
     #[inline]
     pub(crate) fn after_footnote(self, old: bool) -> Option<LineRest<'a>>
-        ensures { (label : List ℕ) (size : ℕ) → option_map row_of result ≡ keeps (Footnote label old size) false (row_of self.entry) }
+        ensures { (label : List ℕ) (size : ℕ)
+            → option_map row_of result ≡ keeps (Footnote label old size) false (row_of self.entry) }
     {
         if !old {
             return self.after_width(4);
@@ -90,7 +95,8 @@ impl<'a> LineRest<'a> {
     /// The number of bytes of a footnote definition's label, and the line after the blanks that follow the marker (this profile's own). The
     /// line begins the definition, indented by at most three columns.
     pub(crate) fn after_footnote_marker(self) -> Option<(usize, LineRest<'a>)>
-        ensures label { option_map (label_shown (row_of self.entry)) result ≡ begun_label (row_of self.entry) }
+        ensures label { option_map (label_shown (row_of self.entry)) result
+            ≡ begun_label (row_of self.entry) }
         ensures inside { IfSome result (EntersFootnote (row_of self.entry)) }
         ensures closed { IfSome result (IsMarkerClosed (row_of self.entry)) }
     {

@@ -20,8 +20,10 @@ impl<'a> LineStart<'a> {
     /// `>`, nothing is taken. Returns whether it was taken.
     #[inline]
     pub fn scan_blockquote_marker(&mut self) -> bool
-        ensures found { (at line_end : ℕ) → result ≡ begins_block_quote (row_from at line_end self.old) }
-        ensures rest { (at line_end : ℕ) → row_from at line_end self.new ≡ after_block_quote (row_from at line_end self.old) }
+        ensures found { (at line_end : ℕ)
+            → result ≡ begins_block_quote (row_from at line_end self.old) }
+        ensures rest { (at line_end : ℕ)
+            → row_from at line_end self.new ≡ after_block_quote (row_from at line_end self.old) }
         ensures stays { OnFalse result (self.new ≡ self.old) }
     {
         if !self.goes_on_with(b'>') {
@@ -35,8 +37,10 @@ impl<'a> LineStart<'a> {
     /// Takes the rest of the line, if it is the tag of an alert (this profile's own): `[!NOTE]`, `[!TIP]`, `[!IMPORTANT]`, `[!WARNING]` or
     /// `[!CAUTION]`, in any case, and then only blanks. Else nothing is taken.
     pub fn scan_blockquote_tag(&mut self) -> Option<BlockQuoteKind>
-        ensures found { (at line_end : ℕ) → option_map shown_block_quote_kind result ≡ alert_in (row_from at line_end self.old) }
-        ensures rest { (at line_end : ℕ) → row_from at line_end self.new ≡ after_alert (row_from at line_end self.old) }
+        ensures found { (at line_end : ℕ)
+            → option_map shown_block_quote_kind result ≡ alert_in (row_from at line_end self.old) }
+        ensures rest { (at line_end : ℕ)
+            → row_from at line_end self.new ≡ after_alert (row_from at line_end self.old) }
         ensures stays { result ≡ None → self.new ≡ self.old }
     {
         let (kind, size) = scan_alert(self.ahead())?;
@@ -51,8 +55,13 @@ impl<'a> LineStart<'a> {
     /// The width is the sum of the indent, which was taken before, the marker and those blanks, and is at most `usize::MAX`. If no list
     /// item begins, or there is a thematic break, nothing is taken. Before `10) x`, with no indent, the result is `(b')', 10, 4)`.
     pub fn scan_list_marker_with_indent(&mut self, indent: usize) -> Option<(u8, u64, usize)>
-        ensures found { (at line_end : ℕ) → result ≡ option_map plain_numbers (item_numbers indent (item_in (row_from at line_end self.old))) }
-        ensures rest { (at line_end : ℕ) → row_from at line_end self.new ≡ entered (item_in (row_from at line_end self.old)) (row_from at line_end self.old) }
+        ensures found { (at line_end : ℕ)
+            → result
+            ≡ option_map plain_numbers
+            (item_numbers indent (item_in (row_from at line_end self.old))) }
+        ensures rest { (at line_end : ℕ)
+            → row_from at line_end self.new
+            ≡ entered (item_in (row_from at line_end self.old)) (row_from at line_end self.old) }
         ensures stays { result ≡ None → self.new ≡ self.old }
     {
         let (delimiter, number, width) = self.scan_item_marker(indent)?;
@@ -63,8 +72,11 @@ impl<'a> LineStart<'a> {
     /// Some(10), 4)`.
     #[inline]
     pub fn scan_item_marker(&mut self, indent: usize) -> Option<(u8, Option<u64>, usize)>
-        ensures found { (at line_end : ℕ) → result ≡ item_numbers indent (item_in (row_from at line_end self.old)) }
-        ensures rest { (at line_end : ℕ) → row_from at line_end self.new ≡ entered (item_in (row_from at line_end self.old)) (row_from at line_end self.old) }
+        ensures found { (at line_end : ℕ)
+            → result ≡ item_numbers indent (item_in (row_from at line_end self.old)) }
+        ensures rest { (at line_end : ℕ)
+            → row_from at line_end self.new
+            ≡ entered (item_in (row_from at line_end self.old)) (row_from at line_end self.old) }
         ensures stays { result ≡ None → self.new ≡ self.old }
     {
         let marker = scan_listitem(self.ahead())?;
@@ -88,8 +100,11 @@ impl<'a> LineStart<'a> {
         &mut self,
         indent: usize,
     ) -> Option<usize>
-        ensures found { (at line_end : ℕ) → result ≡ option_map (sum_up_to_most indent) (definition_in (row_from at line_end self.old)) }
-        ensures rest { (at line_end : ℕ) → row_from at line_end self.new ≡ after_definition (row_from at line_end self.old) }
+        ensures found { (at line_end : ℕ)
+            → result
+            ≡ option_map (sum_up_to_most indent) (definition_in (row_from at line_end self.old)) }
+        ensures rest { (at line_end : ℕ)
+            → row_from at line_end self.new ≡ after_definition (row_from at line_end self.old) }
         ensures stays { result ≡ None → self.new ≡ self.old }
     {
         if !self.goes_on_with(b':') {
@@ -105,7 +120,8 @@ impl<'a> LineStart<'a> {
     #[inline]
     pub fn scan_task_list_marker(&mut self) -> Option<bool>
         ensures found { (at line_end : ℕ) → result ≡ task_in (row_from at line_end self.old) }
-        ensures rest { (at line_end : ℕ) → row_from at line_end self.new ≡ after_task (row_from at line_end self.old) }
+        ensures rest { (at line_end : ℕ)
+            → row_from at line_end self.new ≡ after_task (row_from at line_end self.old) }
         ensures stays { result ≡ None → self.new ≡ self.old }
     {
         let checked = scan_task(self.ahead())?;
@@ -116,9 +132,15 @@ impl<'a> LineStart<'a> {
     /// Takes the marker of a footnote definition (this profile's own), `[^`, a label on one line and `]:`, and all blanks after it. Returns
     /// the number of bytes of the label, which begins after the first two bytes. If there is no marker, nothing is taken.
     pub fn scan_footnote_marker(&mut self) -> Option<usize>
-        ensures found { (at line_end : ℕ) → option_map (marked (words_of (row_from at line_end self.old))) result ≡ footnote_at (row_from at line_end self.old) }
-        ensures closed { (at line_end : ℕ) → IfSome result (IsClosed (words_of (row_from at line_end self.old))) }
-        ensures rest { (at line_end : ℕ) → row_from at line_end self.new ≡ after_footnote (footnote_at (row_from at line_end self.old)) (row_from at line_end self.old) }
+        ensures found { (at line_end : ℕ)
+            → option_map (marked (words_of (row_from at line_end self.old))) result
+            ≡ footnote_at (row_from at line_end self.old) }
+        ensures closed { (at line_end : ℕ)
+            → IfSome result (IsClosed (words_of (row_from at line_end self.old))) }
+        ensures rest { (at line_end : ℕ)
+            → row_from at line_end self.new
+            ≡ after_footnote (footnote_at (row_from at line_end self.old))
+            (row_from at line_end self.old) }
         ensures stays { result ≡ None → self.new ≡ self.old }
     {
         let size = scan_footnote_marker(self.ahead())?;
@@ -132,7 +154,8 @@ impl<'a> LineStart<'a> {
     #[inline]
     fn scan_padding(&mut self) -> usize
         ensures count { (at : ℕ) → result ≡ padding (columns_from at self.old) }
-        ensures rest { (at line_end : ℕ) → row_from at line_end self.new ≡ without result (row_from at line_end self.old) }
+        ensures rest { (at line_end : ℕ)
+            → row_from at line_end self.new ≡ without result (row_from at line_end self.old) }
         ensures few { result ≤ 4 }
     {
         let mut following = *self;

@@ -1,9 +1,14 @@
-use Rattle.std.proofs.Common.{string_bytes, subst}
+use Rattle.std.specs.Prelude.{not}
+use Rattle.std.proofs.Common.{◌≡◌, ℕ, Bool, true, false, true≢false, string_bytes, refl, sym, ap, ◌∙◌, subst}
 use Rattle.std.proofs.lemmas.Result.{on_ok_weaker}
 use Rattle.cmark_html.specs.Writer.{writing}
-use Rattle.cmark_event_walk.specs.Walking.{as_next}
-use Rattle.cmark_parser.specs.Parsing.{GivesAs}
+use Rattle.cmark_text.specs.declared.short.Short.{Short}
+use Rattle.cmark_event_walk.specs.declared.coming.Coming.{Coming}
+use Rattle.cmark_event_walk.specs.declared.coming.Coming.TheVariants as lines
+use Rattle.cmark_event_walk.specs.Walking.{are_lines}
+use Rattle.cmark_parser.specs.Parsing.{GivesComing}
 use Rattle.cmark_parser.specs.Rendering.{WritesLong, WritesSome, written}
+use Rattle.cmark_parser.proofs.LineSteps.{text-written}
 use Rattle.cmark_parser.proofs.RenderSteps.{all-written, joined, long-kept, none-open, none-written, short-written}
 use Rattle.cmark_parser.proofs.html.write_all.Goals as goal
 
@@ -28,7 +33,7 @@ loop-short-preserved-in-Continue-branch-3 g c =
     let mid = written (writing c.loop-short.writer) (string_bytes c.loop-short.out) in
     let new = written (writing c.write_short.new.writer) (string_bytes c.write_short.new.out) in
     let e = c.in_ok-write_short-in-Span.ensures in
-    let h = subst (λ n. GivesAs Says replacement parser (as_next n) following) c.in-Span.is c.in_ok-short.ensures.gives in (
+    let h = subst (λ n. GivesComing Says replacement parser n following) c.in-Span.is c.in_ok-short.ensures.gives in (
       joined Says replacement filtered c.args.parser.now parser following old mid new c.loop-short.invariant.0 (short-written Says replacement filtered parser following short made _ _ mid new h c.short_of.ensures c.loop-short.invariant.1 e.writes.ok e.state),
       none-open mid.writing new.writing made e.state,
       c.in_ok-short.ensures.ready,
@@ -47,9 +52,33 @@ loop-short-preserved-in-Continue-branch-4 g c =
     let mid = written (writing c.loop-short.writer) (string_bytes c.loop-short.out) in
     let new = written (writing c.write_short-in-Block.new.writer) (string_bytes c.write_short-in-Block.new.out) in
     let e = c.in_ok-write_short-in-Block.ensures in
-    let h = subst (λ n. GivesAs Says replacement parser (as_next n) following) c.in-Block.is c.in_ok-short.ensures.gives in (
+    let h = subst (λ n. GivesComing Says replacement parser n following) c.in-Block.is c.in_ok-short.ensures.gives in (
       joined Says replacement filtered c.args.parser.now parser following old mid new c.loop-short.invariant.0 (short-written Says replacement filtered parser following short made _ _ mid new h c.short_of-in-Block.ensures c.loop-short.invariant.1 e.writes.ok e.state),
       none-open mid.writing new.writing made e.state,
+      c.in_ok-short.ensures.ready,
+    )
+
+-- the events of several lines are returned only outside of metadata blocks
+shown-lines : (in_metadata : Bool) (coming : Coming) (text : Short) (start end : ℕ) → coming ≡ lines.Lines text start end → (not in_metadata ≡ false → are_lines coming ≡ false) → in_metadata ≡ false
+shown-lines false coming text start end is joins = refl
+shown-lines true coming text start end is joins = absurd (true≢false (sym (ap are_lines is) ∙ joins refl))
+
+pub loop-short-preserved-in-Continue-branch-5 : goal.loop-short-preserved-in-Continue-branch-5
+loop-short-preserved-in-Continue-branch-5 g c =
+    let Says = g.F.BrokenLinkCallback.answers in
+    let replacement = g.E.EntityLookup.replacement in
+    let filtered = g.T.Filter.filtered c.args.filter.now in
+    let parser = c.loop-short.parser in
+    let following = c.next_short.new.self in
+    let old = written (writing c.args.writer.now) (string_bytes c.args.out.now) in
+    let mid = written (writing c.loop-short.writer) (string_bytes c.loop-short.out) in
+    let new = written (writing c.write_short-in-Lines.new.writer) (string_bytes c.write_short-in-Lines.new.out) in
+    let e = c.in_ok-write_short-in-Lines.ensures in
+    let h = subst (λ n. GivesComing Says replacement parser n following) c.in-Lines.is c.in_ok-short.ensures.gives in
+    let shown = shown-lines mid.writing.in_metadata c.in_ok-short.field-0 c.in-Lines.text _ _ c.in-Lines.is c.in_ok-short.ensures.joins in (
+      joined Says replacement filtered c.args.parser.now parser following old mid new c.loop-short.invariant.0
+          (text-written filtered (g.met.T.Filter.keeps_texts c.args.filter.now) (g.met.T.Filter.keeps_soft_breaks c.args.filter.now) Says replacement parser following c.in-Lines.text mid new h c.loop-short.invariant.1 shown e.writes.ok e.state),
+      none-open mid.writing new.writing c.in-Lines.text e.state,
       c.in_ok-short.ensures.ready,
     )
 
@@ -64,7 +93,7 @@ loop-short-preserved g c =
     let old = written (writing c.args.writer.now) (string_bytes c.args.out.now) in
     let mid = written (writing c.loop-short.writer) (string_bytes c.loop-short.out) in
     let new = written (writing c.write_long.new.writer) (string_bytes c.write_long.new.out) in
-    let h = subst (λ n. GivesAs Says replacement parser (as_next n) following) c.in-Long.is c.in_ok-short.ensures.gives in
+    let h = subst (λ n. GivesComing Says replacement parser n following) c.in-Long.is c.in_ok-short.ensures.gives in
     let kept = joined Says replacement filtered first parser following old mid mid c.loop-short.invariant.0 (long-kept Says replacement filtered parser following mid h) in
     let wrote = subst (λ b. WritesLong Says replacement filtered b following mid c.write_long.new.parser new) c.if-not-is_given.false c.in_ok-is_given-in-Long.ensures.writes in
     (joined Says replacement filtered first following c.write_long.new.parser old mid new kept wrote.some, wrote.closed, c.in_ok-is_given-in-Long.ensures.ready)
@@ -80,7 +109,7 @@ returns-then-not-is_given g c =
     let old = written (writing c.args.writer.now) (string_bytes c.args.out.now) in
     let mid = written (writing c.loop-short.writer) (string_bytes c.loop-short.out) in
     let new = written (writing c.write_long.new.writer) (string_bytes c.write_long.new.out) in
-    let h = subst (λ n. GivesAs Says replacement parser (as_next n) following) c.in-Long.is c.in_ok-short.ensures.gives in
+    let h = subst (λ n. GivesComing Says replacement parser n following) c.in-Long.is c.in_ok-short.ensures.gives in
     let kept = joined Says replacement filtered first parser following old mid mid c.loop-short.invariant.0 (long-kept Says replacement filtered parser following mid h) in
     let wrote = subst (λ b. WritesLong Says replacement filtered b following mid c.write_long.new.parser new) c.if-not-is_given.true c.in_ok-is_given-in-Long.ensures.writes in
     on_ok_weaker c.finish.result
@@ -95,6 +124,6 @@ returns-in-Over g c =
     let following = c.next_short.new.self in
     let old = written (writing c.args.writer.now) (string_bytes c.args.out.now) in
     let mid = written (writing c.loop-short.writer) (string_bytes c.loop-short.out) in
-    let h = subst (λ n. GivesAs Says replacement parser (as_next n) following) c.in-Over.is c.in_ok-short.ensures.gives in
+    let h = subst (λ n. GivesComing Says replacement parser n following) c.in-Over.is c.in_ok-short.ensures.gives in
     on_ok_weaker c.finish-in-Over.result
     (all-written Says replacement filtered c.args.parser.now parser following h.answers.taken old (string_bytes c.finish-in-Over.new.out) mid c.loop-short.invariant.0 h.answers.asks h.answers.none) c.finish-in-Over.ensures.ok

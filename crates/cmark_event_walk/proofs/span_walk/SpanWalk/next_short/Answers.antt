@@ -1,5 +1,5 @@
 use Rattle.std.specs.Prelude.{is_some}
-use Rattle.std.proofs.Common.{[], ◌∷◌, refl, sym, ap, ◌∙◌, subst}
+use Rattle.std.proofs.Common.{◌≡◌, Bool, true, false, true≢false, [], ◌∷◌, refl, sym, ap, ◌∙◌, subst}
 use Rattle.cmark_grammar.specs.Event.{Ranged, Text}
 use Rattle.cmark_grammar.specs.SpanDocuments.{Content, Given as GivenOf}
 use Rattle.cmark_inline_model.specs.SpecialBytes.{is_special}
@@ -12,9 +12,12 @@ use Rattle.cmark_block_walk.specs.declared.reading.Brief.{Brief}
 use Rattle.cmark_block_walk.specs.Walking as walking
 use Rattle.cmark_block_walk.specs.Walking.{lines_of}
 use Rattle.cmark_block_walk.proofs.WalkSteps.{on-err}
+use Rattle.cmark_event_walk.specs.Plain.{ArePlain}
+use Rattle.cmark_event_walk.specs.declared.plain.Lines.{Lines}
+use Rattle.cmark_event_walk.specs.declared.plain.Lines.TheVariants as count
 use Rattle.cmark_event_walk.specs.Walking.{ArePlaced, GivesInLeaf, HasRange, KeepsAfterLeaf, LeavesFewer, LeavesLeaf}
 use Rattle.cmark_event_walk.proofs.EndSteps.{blocks-begin, leaf-keeps, text-begins}
-use Rattle.cmark_event_walk.proofs.Readings.{asked-on, asked-same, ends-on, event-passes, leaf-passes, long-passes, met-same, over-ends, passes-none, passes-on, plain-passes, plain-range}
+use Rattle.cmark_event_walk.proofs.Readings.{asked-on, asked-same, ends-on, event-passes, leaf-passes, lines-given, long-passes, met-same, over-ends, passes-none, passes-on, plain-passes, plain-range}
 use Rattle.cmark_event_walk.proofs.StopSteps.{stops-here, stops-leaf}
 use Rattle.cmark_event_walk.proofs.Walks.{before-leaf, following-at, lasts-leaf, lasts-none, less-since, met-by, met-fewer, most-since, over-at, same-at}
 use Rattle.cmark_event_walk.proofs.span_walk.SpanWalk.next_short.Goals as goal
@@ -140,8 +143,8 @@ plain_text-requires g c κs =
     let before = before-leaf mid walk lines out m.text c.in-Leaf.is_cell _ s.0 gives.0 gives.1 s.1 gives.2 gives.3 gives.4 gives.5 refl in
     ((refl, tt), before.lines.in_turn)
 
-pub returns-in-Some-clause-stands : goal.returns-in-Some-clause-stands
-returns-in-Some-clause-stands g c =
+pub returns-in-One-clause-stands : goal.returns-in-One-clause-stands
+returns-in-One-clause-stands g c =
     let old = c.args.self.now in
     let head = c.loop-span.self in
     let mid = c.next_in_leaf.new.self in
@@ -155,8 +158,8 @@ returns-in-Some-clause-stands g c =
     let gives = given s.0 s.1.blocks.remains in
     (gives.1, following-at mid walk lines out m.text _ s.0 (Content gives.0) gives.1 s.1 gives.2 gives.4 refl)
 
-pub returns-in-Some-clause-given : goal.returns-in-Some-clause-given
-returns-in-Some-clause-given g c = λ reader r.
+pub returns-in-One-clause-given : goal.returns-in-One-clause-given
+returns-in-One-clause-given g c = λ reader r.
     let old = c.args.self.now in
     let head = c.loop-span.self in
     let mid = c.next_in_leaf.new.self in
@@ -173,7 +176,7 @@ returns-in-Some-clause-given g c = λ reader r.
     let gives = given by.left by.stands.blocks.remains in
     let only = c.in-Some.ensures.line in
     let special = by.stands.blocks.special in
-    let plain = c.in-Some.ensures.plain reader.options reader.lookup gives.0.is_cell (λ byte less. special byte less ∙ ap (λ o. is_special o byte) (sym by.same.options_are)) in
+    let plain = subst (ArePlain mid.special (excerpt_bytes c.in-Some.text)) c.in-One.is c.in-Some.ensures.plain reader.options reader.lookup gives.0.is_cell (λ byte less. special byte less ∙ ap (λ o. is_special o byte) (sym by.same.options_are)) in
     let source = e.around.source ∙ c.loop-span.invariant.lasts.source in
     record {
       given = ranged_short (short.Text c.in-Some.text) only.line.start only.line.content_end;
@@ -183,8 +186,8 @@ returns-in-Some-clause-given g c = λ reader r.
       passes = passes-on g.F.BrokenLinkCallback.answers g.E.EntityLookup.replacement reader old mid _ _ q (plain-passes g.F.BrokenLinkCallback.answers g.E.EntityLookup.replacement reader mid walk lines out m.text m.definitions _ gives.0 gives.1 (excerpt_bytes c.in-Some.text) c.in-Some.start c.in-Some.end by gives.2 gives.4 refl only gives.3.are plain);
     }
 
-pub returns-in-Some-clause-fewer : goal.returns-in-Some-clause-fewer
-returns-in-Some-clause-fewer g c =
+pub returns-in-One-clause-fewer : goal.returns-in-One-clause-fewer
+returns-in-One-clause-fewer g c =
     let old = c.args.self.now in
     let head = c.loop-span.self in
     let mid = c.next_in_leaf.new.self in
@@ -197,6 +200,76 @@ returns-in-Some-clause-fewer g c =
     let given = subst (λ (b : Brief). walking.GivesBrief mid.walk b lines.items walk) c.in-Leaf.is m.given in
     let gives = given s.0 s.1.blocks.remains in
     met-fewer mid walk lines out m.text old head _ s.0 (Content gives.0) gives.1 s.1 gives.2 c.loop-span.invariant.lasts e.most e.few e.slots e.around.budget refl
+
+pub returns-in-Several-clause-stands : goal.returns-in-Several-clause-stands
+returns-in-Several-clause-stands g c =
+    let old = c.args.self.now in
+    let head = c.loop-span.self in
+    let mid = c.next_in_leaf.new.self in
+    let walk = c.next_short.new.self in
+    let lines = c.next_short.new.lines in
+    let e = c.in-Ok.ensures in
+    let m = c.in-Ok-next_short.ensures in
+    let out = subst (λ (n : Next). LeavesLeaf n mid) c.in-Over.is e.outside in
+    let s = e.stands in
+    let given = subst (λ (b : Brief). walking.GivesBrief mid.walk b lines.items walk) c.in-Leaf.is m.given in
+    let gives = given s.0 s.1.blocks.remains in
+    (gives.1, following-at mid walk lines out m.text _ s.0 (Content gives.0) gives.1 s.1 gives.2 gives.4 refl)
+
+pub returns-in-Several-clause-given : goal.returns-in-Several-clause-given
+returns-in-Several-clause-given g c = λ reader r.
+    let old = c.args.self.now in
+    let head = c.loop-span.self in
+    let mid = c.next_in_leaf.new.self in
+    let walk = c.next_short.new.self in
+    let lines = c.next_short.new.lines in
+    let e = c.in-Ok.ensures in
+    let m = c.in-Ok-next_short.ensures in
+    let out = subst (λ (n : Next). LeavesLeaf n mid) c.in-Over.is e.outside in
+    let given = subst (λ (b : Brief). walking.GivesBrief mid.walk b lines.items walk) c.in-Leaf.is m.given in
+    let p = c.loop-span.invariant.reads reader r in
+    let none = subst (λ (n : Next). GivesInLeaf g.F.BrokenLinkCallback.answers g.E.EntityLookup.replacement reader head n mid) c.in-Over.is (e.given reader p.read_by) in
+    let q = passes-on g.F.BrokenLinkCallback.answers g.E.EntityLookup.replacement reader old head mid [] p none in
+    let by = q.read_by in
+    let gives = given by.left by.stands.blocks.remains in
+    let only = c.in-Some.ensures.line in
+    let special = by.stands.blocks.special in
+    let plain = subst (ArePlain mid.special (excerpt_bytes c.in-Some.text)) c.in-Several.is c.in-Some.ensures.plain in
+    let are = plain.are reader.options reader.lookup gives.0.is_cell (λ byte less. special byte less ∙ ap (λ o. is_special o byte) (sym by.same.options_are)) in
+    let found = lines-given g.F.BrokenLinkCallback.answers g.E.EntityLookup.replacement reader mid walk lines out m.text m.definitions _ gives.0 gives.1 (excerpt_bytes c.in-Some.text) c.in-Some.start c.in-Some.end by gives.2 gives.4 refl only gives.3.are plain.lines plain.last are in
+    record {
+      start = found.start;
+      lines = found.lines;
+      last = found.last;
+      text_is = found.text_is;
+      some = found.some;
+      passes = passes-on g.F.BrokenLinkCallback.answers g.E.EntityLookup.replacement reader old mid _ _ q found.passes;
+    }
+
+pub returns-in-Several-clause-fewer : goal.returns-in-Several-clause-fewer
+returns-in-Several-clause-fewer g c =
+    let old = c.args.self.now in
+    let head = c.loop-span.self in
+    let mid = c.next_in_leaf.new.self in
+    let walk = c.next_short.new.self in
+    let lines = c.next_short.new.lines in
+    let e = c.in-Ok.ensures in
+    let m = c.in-Ok-next_short.ensures in
+    let out = subst (λ (n : Next). LeavesLeaf n mid) c.in-Over.is e.outside in
+    let s = e.stands in
+    let given = subst (λ (b : Brief). walking.GivesBrief mid.walk b lines.items walk) c.in-Leaf.is m.given in
+    let gives = given s.0 s.1.blocks.remains in
+    met-fewer mid walk lines out m.text old head _ s.0 (Content gives.0) gives.1 s.1 gives.2 c.loop-span.invariant.lasts e.most e.few e.slots e.around.budget refl
+
+one-not-several : count.One ≡ count.Several → ⊥
+one-not-several e = true≢false (ap is_one e)
+  where
+    is_one : Lines → Bool
+    is_one count.One = true
+    is_one count.Several = false
+
+pub returns-in-Several-clause-joins : goal.returns-in-Several-clause-joins
+returns-in-Several-clause-joins g c single = absurd (one-not-several (sym (c.in-Some.ensures.joins single) ∙ c.in-Several.is))
 
 pub enter_leaf-requires : goal.enter_leaf-requires
 enter_leaf-requires g c κs =

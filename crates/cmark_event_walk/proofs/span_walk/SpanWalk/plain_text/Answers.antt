@@ -2,8 +2,8 @@ use Rattle.std.proofs.Common.{◌≡◌, ◌-◌, ◌<◌, ◌≤◌, List, [], 
 use Rattle.cmark_leaf_text.specs.Reads.{source_of}
 use Rattle.cmark_leaf_text.specs.Stretches.{AreLines, IsLine}
 use Rattle.cmark_leaf_text.specs.declared.stretch.LeafLine.{LeafLine}
-use Rattle.cmark_inline.specs.PlainStretches.{StandUpTo}
 use Rattle.cmark_text.specs.Excerpt.{excerpt_bytes}
+use Rattle.cmark_event_walk.specs.Plain.{ArePlain}
 use Rattle.cmark_event_walk.proofs.span_walk.SpanWalk.plain_text.Goals as goal
 
 abbrev no_line : LeafLine
@@ -15,14 +15,15 @@ one-line source [] h some few = absurd (omega (arith, some))
 one-line source (x ∷ []) h some few = (h.0, refl)
 one-line source (x ∷ (y ∷ more)) h some few = absurd (omega (arith, few))
 
--- no special byte is before the end of the text
 pub returns-clause-plain : goal.returns-clause-plain
-returns-clause-plain g c options lookup is_cell set =
+returns-clause-plain g c =
     let text = c.source_at-text.result.now in
-    let end : c.next.result ≡ length text = omega (arith, c.if-next-text.false, c.next.ensures.within) in
-    let same : text ≡ excerpt_bytes c.new-excerpt.result = cc in
-    subst (λ (bytes : List ℕ). StandUpTo options lookup is_cell bytes 0 (length bytes)) same
-    (subst (λ bytes. StandUpTo options lookup is_cell bytes 0 (length text)) c.as_bytes.ensures.value (subst (StandUpTo options lookup is_cell c.as_bytes.result.now 0) end (c.next.ensures.plain options lookup is_cell set)))
+    let special = c.args.self.now.special in
+    let same : text ≡ excerpt_bytes c.new.result = cc in
+    subst (λ bytes. ArePlain special bytes c.in_ok-lines.lines) same (subst (λ bytes. ArePlain special bytes c.in_ok-lines.lines) c.as_bytes.ensures.value c.in_ok-lines.ensures.plain)
+
+pub returns-clause-joins : goal.returns-clause-joins
+returns-clause-joins g c = c.in_ok-lines.ensures.joins
 
 pub source_at-text-requires : goal.source_at-text-requires
 source_at-text-requires g c =
@@ -47,5 +48,5 @@ returns-clause-line g c =
       end_is = refl;
       alone = sym c.as_slice.ensures.value ∙ one.1;
       part = record { some = c.if-line.false; within = omega (arith, one.0.ending, one.0.within); starts = one.0.starts; ends = one.0.stops };
-      is = c.new-excerpt.ensures ∙ ap (take (line.content_end - line.start)) c.source_ahead-ahead.ensures;
+      is = c.new.ensures ∙ ap (take (line.content_end - line.start)) c.source_ahead-ahead.ensures;
     }

@@ -43,3 +43,6 @@ returns-clause-safe g c = refresh-safe g.E.EntityLookup.replacement c.args.self.
 
 pub returns-clause-schemes : goal.returns-clause-schemes
 returns-clause-schemes g c = (refresh-keeps g.E.EntityLookup.replacement c.args.self.now c.read_on.new.self c.read_on.result c.read_on.ensures).schemes
+
+pub returns-clause-begun : goal.returns-clause-begun
+returns-clause-begun g c = (refresh-keeps g.E.EntityLookup.replacement c.args.self.now c.read_on.new.self c.read_on.result c.read_on.ensures).begun

@@ -1,4 +1,4 @@
-//! A closure that is asked for references without a definition.
+//! A closure that is asked about references without a definition.
 
 ghost use Rattle.std.specs.Prelude.{◌≡◌, ◌≤◌, IfSome};
 ghost use Rattle.cmark_grammar.specs.Entities.{basic_entity};
@@ -10,9 +10,8 @@ use pulldown_cmark::{
     BasicEntities, BrokenLinkCallback, CowStr, Event, FnCallback, Options, Parser, Tag,
 };
 use std::alloc::{AllocError, Global};
-use std::test::Fail;
 
-/// Whether an event is the start of a link to this page.
+// Whether an event is the start of a link to this page.
 fn leads_to(event: &Event<'_>, page: &str) -> bool {
     match event {
         Event::Start(Tag::Link { dest_url, .. }) => dest_url.as_str() == page,
@@ -20,7 +19,7 @@ fn leads_to(event: &Event<'_>, page: &str) -> bool {
     }
 }
 
-/// How many of the events that a parser still returns begin a link to `page`.
+// The number of links to `page` that the rest of a parser's events begin.
 fn links_to<'a, F: BrokenLinkCallback<'a> + Drop>(
     parser: &mut Parser<'a, BasicEntities, F>,
     page: &str,
@@ -37,8 +36,8 @@ fn links_to<'a, F: BrokenLinkCallback<'a> + Drop>(
     Ok(links)
 }
 
-/// How many references without a definition a text has, and how many links to `page`, if each of these references leads there.
-fn asked_and_links<'x>(
+/// Returns how many references without a definition a text has, and how many links to `page`, if each of these references leads there.
+pub fn asked_and_links<'x>(
     alloc: Global,
     text: &'x str,
     page: &'x str,
@@ -63,11 +62,4 @@ fn asked_and_links<'x>(
     let links = links_to(&mut parser, page);
     drop(parser);
     Ok((asked, links?))
-}
-
-#[test]
-fn a_closure_answers_to_the_end(rt: HostRuntime) -> Result<(), Fail> {
-    let found = asked_and_links(rt.alloc(), "[a] [b][c] [d](e)\n\n![f] *[g][]*", "/page")?;
-    assert_eq!(rt; found, (4, 3));
-    Ok(())
 }
