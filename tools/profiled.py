@@ -43,7 +43,8 @@ class Tools:
 
     def lack(self):
         """What is missing, or nothing."""
-        if not self.merger or f"LLVM version {self.major}." not in subprocess.run([self.merger, "--version"], capture_output=True, text=True, check=True).stdout:
+        # Versions before 16 know no --version and fail.
+        if not self.merger or f"LLVM version {self.major}." not in subprocess.run([self.merger, "--version"], capture_output=True, text=True).stdout:
             return f"llvm-profdata of LLVM {self.major} (Debian: llvm-{self.major})"
         if not self.runtime.exists():
             return f"the runtime of profiles of LLVM {self.major} (Debian: libclang-rt-{self.major}-dev)"
