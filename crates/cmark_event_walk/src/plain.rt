@@ -58,7 +58,10 @@ fn is_lone_line_feed(bytes: &[u8], at: usize) -> bool
     requires within { at < length bytes.now }
     ensures { result ≡ is_lone_line_feed bytes.now at }
 {
+    if bytes[at] != b'\n' {
+        return false;
+    }
     let follows_blank = is_blank(bytes[at - 1]);
     let precedes_blank = at + 1 < bytes.len() && is_blank(bytes[at + 1]);
-    bytes[at] == b'\n' && !follows_blank && !precedes_blank
+    !follows_blank && !precedes_blank
 }

@@ -72,8 +72,8 @@ loop-short-preserved-in-Continue-branch-5 g c =
     let following = c.next_short.new.self in
     let old = written (writing c.args.writer.now) (string_bytes c.args.out.now) in
     let mid = written (writing c.loop-short.writer) (string_bytes c.loop-short.out) in
-    let new = written (writing c.write_short-in-Lines.new.writer) (string_bytes c.write_short-in-Lines.new.out) in
-    let e = c.in_ok-write_short-in-Lines.ensures in
+    let new = written (writing c.write_lines.new.writer) (string_bytes c.write_lines.new.out) in
+    let e = c.in_ok-write_lines-in-Lines.ensures in
     let h = subst (λ n. GivesComing Says replacement parser n following) c.in-Lines.is c.in_ok-short.ensures.gives in
     let shown = shown-lines mid.writing.in_metadata c.in_ok-short.field-0 c.in-Lines.text _ _ c.in-Lines.is c.in_ok-short.ensures.joins in (
       joined Says replacement filtered c.args.parser.now parser following old mid new c.loop-short.invariant.0
