@@ -37,13 +37,17 @@ module _ {E : Type 0} (replacement : E → Lookup) (old : Stream E) where
     begun = h.begun;
   }
 
-  pub stream-pushed : (is_ok : Bool) (text : String Global) (more : List ℕ) → IsUtf8 more → string_bytes text ≡ (if is_ok then text_of old ++ more else text_of old) → IsStream replacement old → IsStream replacement (record old { text = text })
+  stream-pushed : (is_ok : Bool) (text : String Global) (more : List ℕ) → IsUtf8 more → string_bytes text ≡ (if is_ok then text_of old ++ more else text_of old) → IsStream replacement old → IsStream replacement (record old { text = text })
   stream-pushed true text more utf8 e h = stream-grown text more utf8 e h
   stream-pushed false text more utf8 e h = stream-grown text [] ([], (refl, refl)) (e ∙ sym (append-nil (text_of old))) h
 
   -- nothing but the text and what is kept of a character differs
   kept-html : (text : String Global) (begun : ArrayVec ℕ) → IsStream replacement (record old { text = text; begun = begun }) → KeepsHtml replacement old (record old { text = text; begun = begun })
   kept-html text begun good = record { settled = refl; tail = refl; options = refl; entities = refl; limit = refl; schemes = refl; cut = refl; read = refl; good = good }
+
+  -- a chunk was appended, or memory for it was refused
+  pub html-kept : (is_ok : Bool) (text : String Global) (more : List ℕ) → IsUtf8 more → string_bytes text ≡ (if is_ok then text_of old ++ more else text_of old) → IsStream replacement old → KeepsHtml replacement old (record old { text = text })
+  html-kept is_ok text more utf8 e h = kept-html text old.begun (stream-pushed is_ok text more utf8 e h)
 
   -- the whole characters of some bytes were appended
   pub bytes-appended : (bytes piece : List ℕ) (text : String Global) (begun : ArrayVec ℕ) → IsCutInto bytes piece begun.items → string_bytes text ≡ text_of old ++ piece → IsStream replacement old
@@ -136,20 +140,30 @@ module _ {E : Type 0} (replacement : E → Lookup) (s : Stream E) where
 module _ {E : Type 0} (replacement : E → Lookup) (old : Stream E) (h : IsStream replacement old) where
   -- refused before anything changed
   pub refused-first : Refused replacement old old
-  refused-first = record { keeps = record { text = refl; begun = refl; options = refl; entities = refl; limit = refl; schemes = refl }; settled = refl; tail = refl; unread = refl; good = h }
+  refused-first = record {
+    text = record { text = refl; begun = refl; options = refl; entities = refl; limit = refl; schemes = refl };
+    html = record { settled = refl; tail = refl; options = refl; entities = refl; limit = refl; schemes = refl; cut = refl; read = refl; good = h };
+  }
 
   -- refused where the settled HTML was to grow
   pub refused-last : (settled : String Global) → string_bytes settled ≡ settled_of old → Refused replacement old (record old { settled = settled })
   refused-last settled e = record {
-    keeps = record { text = refl; begun = refl; options = refl; entities = refl; limit = refl; schemes = refl };
-    settled = e;
-    tail = refl;
-    unread = refl;
-    good = record {
-      shown = subst (IsShownUpTo (profile_of replacement old) (filter_of old) (text_of old) old.cut) (sym e) h.shown;
-      opened = h.opened;
-      unread = h.unread;
-      begun = h.begun;
+    text = record { text = refl; begun = refl; options = refl; entities = refl; limit = refl; schemes = refl };
+    html = record {
+      settled = e;
+      tail = refl;
+      options = refl;
+      entities = refl;
+      limit = refl;
+      schemes = refl;
+      cut = refl;
+      read = refl;
+      good = record {
+        shown = subst (IsShownUpTo (profile_of replacement old) (filter_of old) (text_of old) old.cut) (sym e) h.shown;
+        opened = h.opened;
+        unread = h.unread;
+        begun = h.begun;
+      };
     };
   }
 
@@ -204,11 +218,11 @@ module _ {E : Type 0} (replacement : E → Lookup) (old : Stream E) (h : IsStrea
 module _ {E : Type 0} (replacement : E → Lookup) (old new : Stream E) where
   pub refresh-keeps : (result : Result Change AllocError) → Refreshes replacement old result new → KeepsText old new
   refresh-keeps (Ok change) h = h.keeps
-  refresh-keeps (Err e) h = h.keeps
+  refresh-keeps (Err e) h = h.text
 
   pub refresh-good : (result : Result Change AllocError) → Refreshes replacement old result new → IsStream replacement new
   refresh-good (Ok change) h = h.good
-  refresh-good (Err e) h = h.good
+  refresh-good (Err e) h = h.html.good
 
   pub refresh-shows : (result : Result Change AllocError) → Refreshes replacement old result new → OnOk result (IsShown replacement old (settled_of new ++ tail_of new))
   refresh-shows (Ok change) h = h.shown
@@ -231,18 +245,10 @@ module _ {E : Type 0} (replacement : E → Lookup) (old new : Stream E) where
   refresh-tells (Ok change) h = h.tells
   refresh-tells (Err e) h = tt
 
-  pub refresh-settled : (result : Result Change AllocError) → Refreshes replacement old result new → OnErr result (settled_of new ≡ settled_of old)
-  refresh-settled (Ok change) h = tt
-  refresh-settled (Err e) h = h.settled
-
-  pub refresh-tail : (result : Result Change AllocError) → Refreshes replacement old result new → OnErr result (tail_of new ≡ tail_of old)
-  refresh-tail (Ok change) h = tt
-  refresh-tail (Err e) h = h.tail
-
   pub refresh-read : (result : Result Change AllocError) → Refreshes replacement old result new → OnOk result (new.read ≡ length (text_of new))
   refresh-read (Ok change) h = h.read
   refresh-read (Err e) h = tt
 
-  pub refresh-unread : (result : Result Change AllocError) → Refreshes replacement old result new → OnErr result (new.read ≡ old.read)
-  refresh-unread (Ok change) h = tt
-  refresh-unread (Err e) h = h.unread
+  pub refresh-refused : (result : Result Change AllocError) → Refreshes replacement old result new → OnErr result (KeepsHtml replacement old new)
+  refresh-refused (Ok change) h = tt
+  refresh-refused (Err e) h = h.html

@@ -106,7 +106,7 @@ module _ {E : Type 0} (replacement : E → Lookup) where
     pub read : stream.read ≡ 0
     pub good : IsStream stream
 
-  -- only the text and the part of a character differ
+  -- the HTML, the settings and the cut are the same; the text and the part of a character may differ
   pub record KeepsHtml (old new : Stream E) : Type 0 where
     pub settled : settled_of new ≡ settled_of old
     pub tail : tail_of new ≡ tail_of old
@@ -152,11 +152,8 @@ module _ {E : Type 0} (replacement : E → Lookup) where
 
   -- a refresh for which memory was refused: the text and the HTML are the same
   pub record Refused (old new : Stream E) : Type 0 where
-    pub keeps : KeepsText old new
-    pub settled : settled_of new ≡ settled_of old
-    pub tail : tail_of new ≡ tail_of old
-    pub unread : new.read ≡ old.read
-    pub good : IsStream new
+    pub text : KeepsText old new
+    pub html : KeepsHtml old new
 
   abbrev pub Refreshes : Stream E → Result Change AllocError → Stream E → Type 0
   Refreshes old (Ok change) new = Refreshed old change new

@@ -73,7 +73,7 @@ impl<'e, E: EntityLookup> Stream<'e, E> {
     ghost use Rattle.cmark_safe.specs.SafeHtml.{IsSafe};
     ghost use Rattle.cmark_values.specs.Shown.{shown_options};
     ghost use Rattle.cmark_stream.specs.Chunks.{IsNeverUtf8};
-    ghost use Rattle.cmark_stream.specs.Streams.{Appends, Begins, Completes, IsDue, IsRest, IsShown, IsStream, Refreshed, Refreshes, Tells, begun_of, bytes_of, filter_of, lookup_of, options_of, schemes_of, settled_of, tail_of, text_of};
+    ghost use Rattle.cmark_stream.specs.Streams.{Appends, Begins, Completes, IsDue, IsRest, IsShown, IsStream, KeepsHtml, KeepsText, Refreshed, Refreshes, Tells, begun_of, bytes_of, filter_of, lookup_of, options_of, schemes_of, settled_of, tail_of, text_of};
     ghost use Rattle.cmark_stream.specs.declared.fault.StreamFault.TheVariants.{NotUtf8};
 
     /// The empty text, with the options with which it is read. `entities` maps entity names to their characters. `limit` is the reference
@@ -175,15 +175,7 @@ impl<'e, E: EntityLookup> Stream<'e, E> {
         ensures not_utf8 { IsErrOf result NotUtf8 ↔ (begun_of self.old ≢ []) }
         ensures refused { OnErr result (text_of self.new ≡ text_of self.old) }
         ensures begun { begun_of self.new ≡ begun_of self.old }
-        ensures settled { settled_of self.new ≡ settled_of self.old }
-        ensures tail { tail_of self.new ≡ tail_of self.old }
-        ensures options { options_of self.new ≡ options_of self.old }
-        ensures entities { lookup_of E.replacement self.new ≡ lookup_of E.replacement self.old }
-        ensures limit { self.new.limit ≡ self.old.limit }
-        ensures schemes { schemes_of self.new ≡ schemes_of self.old }
-        ensures cut { self.new.cut ≡ self.old.cut }
-        ensures read { self.new.read ≡ self.old.read }
-        ensures good { IsStream E.replacement self.new }
+        ensures html { KeepsHtml E.replacement self.old self.new }
     {
         if self.ends_inside_character() {
             return Err(StreamFault::NotUtf8);
@@ -203,15 +195,7 @@ impl<'e, E: EntityLookup> Stream<'e, E> {
         ensures not_utf8 { IsErrOf result NotUtf8 → IsNeverUtf8 (bytes_of self.old ++ chunk.now) }
         ensures refused { OnErr result (text_of self.new ≡ text_of self.old) }
         ensures begun { OnErr result (begun_of self.new ≡ begun_of self.old) }
-        ensures settled { settled_of self.new ≡ settled_of self.old }
-        ensures tail { tail_of self.new ≡ tail_of self.old }
-        ensures options { options_of self.new ≡ options_of self.old }
-        ensures entities { lookup_of E.replacement self.new ≡ lookup_of E.replacement self.old }
-        ensures limit { self.new.limit ≡ self.old.limit }
-        ensures schemes { schemes_of self.new ≡ schemes_of self.old }
-        ensures cut { self.new.cut ≡ self.old.cut }
-        ensures read { self.new.read ≡ self.old.read }
-        ensures good { IsStream E.replacement self.new }
+        ensures html { KeepsHtml E.replacement self.old self.new }
     {
         if !self.ends_inside_character() {
             return self.append(chunk);
@@ -322,16 +306,9 @@ impl<'e, E: EntityLookup> Stream<'e, E> {
             → OnOk result (IsSafe schemes (settled_of self.new ++ tail_of self.new)) }
         ensures grown { IfOk result
             (λ change. Tells change (settled_of self.old) (settled_of self.new)) }
-        ensures text { text_of self.new ≡ text_of self.old }
-        ensures options { options_of self.new ≡ options_of self.old }
-        ensures entities { lookup_of E.replacement self.new ≡ lookup_of E.replacement self.old }
-        ensures limit { self.new.limit ≡ self.old.limit }
-        ensures schemes { schemes_of self.new ≡ schemes_of self.old }
-        ensures begun { begun_of self.new ≡ begun_of self.old }
-        ensures settled { OnErr result (settled_of self.new ≡ settled_of self.old) }
-        ensures tail { OnErr result (tail_of self.new ≡ tail_of self.old) }
+        ensures text { KeepsText self.old self.new }
+        ensures refused { OnErr result (KeepsHtml E.replacement self.old self.new) }
         ensures read { OnOk result (self.new.read ≡ length (text_of self.new)) }
-        ensures unread { OnErr result (self.new.read ≡ self.old.read) }
         ensures good { IsStream E.replacement self.new }
     {
         self.read_on()

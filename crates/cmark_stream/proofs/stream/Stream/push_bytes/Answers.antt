@@ -15,11 +15,11 @@ returns-then-not-ends_inside_character-clause-not_utf8 g c =
     (after-none (begun_of c.args.self.now) c.args.chunk.now (none-begun c.ends_inside_character.result (begun_of c.args.self.now) c.ends_inside_character.ensures c.if-not-ends_inside_character.true))
     c.append.new.self c.append.result c.append.ensures
 
-pub returns-then-not-ends_inside_character-clause-good : goal.returns-then-not-ends_inside_character-clause-good
-returns-then-not-ends_inside_character-clause-good g c =
-    (bytes-keep g.E.EntityLookup.replacement c.args.self.now c.args.chunk.now c.args.chunk.now
+pub returns-then-not-ends_inside_character-clause-html : goal.returns-then-not-ends_inside_character-clause-html
+returns-then-not-ends_inside_character-clause-html g c =
+    bytes-keep g.E.EntityLookup.replacement c.args.self.now c.args.chunk.now c.args.chunk.now
     (after-none (begun_of c.args.self.now) c.args.chunk.now (none-begun c.ends_inside_character.result (begun_of c.args.self.now) c.ends_inside_character.ensures c.if-not-ends_inside_character.true))
-    c.append.new.self c.append.result c.append.ensures).good
+    c.append.new.self c.append.result c.append.ensures
 
 pub returns-clause-bytes : goal.returns-clause-bytes
 returns-clause-bytes g c =
@@ -30,5 +30,11 @@ returns-clause-bytes g c =
 pub returns-clause-not_utf8 : goal.returns-clause-not_utf8
 returns-clause-not_utf8 g c =
     bytes-never g.E.EntityLookup.replacement c.args.self.now c.args.chunk.now c.as_slice-2.result.now
+    (c.as_slice-2.ensures.value ∙ c.in_ok-bytes.ensures ∙ ap (λ l. l ++ c.args.chunk.now) c.as_slice.ensures.value)
+    c.append-2.new.self c.append-2.result c.append-2.ensures
+
+pub returns-clause-html : goal.returns-clause-html
+returns-clause-html g c =
+    bytes-keep g.E.EntityLookup.replacement c.args.self.now c.args.chunk.now c.as_slice-2.result.now
     (c.as_slice-2.ensures.value ∙ c.in_ok-bytes.ensures ∙ ap (λ l. l ++ c.args.chunk.now) c.as_slice.ensures.value)
     c.append-2.new.self c.append-2.result c.append-2.ensures
