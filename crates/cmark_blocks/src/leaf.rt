@@ -29,6 +29,7 @@ impl<'a, E: EntityLookup> Pass<'a, E> {
     }
 
     /// Closes the open leaf, if any.
+    #[inline(always)]
     pub(crate) fn close_leaf(&mut self) -> Result<(), AllocError>
         requires { IsGood self.old }
         ensures good { IsGood self.new }

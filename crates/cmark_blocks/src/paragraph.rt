@@ -39,6 +39,7 @@ impl<'a, E: EntityLookup> Pass<'a, E> {
     ghost use Rattle.cmark_blocks.specs.Steps.{IsAfterParagraph, AddsLine, BeginsParagraph, FeedsLeaf, ClosesLeaf};
 
     /// Begins a paragraph on a line, with no leaf open.
+    #[inline(always)]
     pub(crate) fn begin_paragraph(&mut self, rest: LineRest<'a>) -> Result<(), AllocError>
         requires good { IsGood self.old }
         requires line { IsRead self.old.text.now rest }

@@ -97,6 +97,7 @@ impl<T: Drop> Tree<T> {
 
     /// Adds a node after the focus; with no focus, as the parent's first child, or as the first tree. The new node becomes the focus. There
     /// may be no node at that place yet. Returns the number of the new node. If memory is refused nothing changes.
+    #[inline(always)]
     pub fn append(&mut self, item: T) -> Result<TreeIndex, AllocError>
         requires { IsOpen self.old }
         ensures ok { IfOk result
