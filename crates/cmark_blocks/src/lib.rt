@@ -25,6 +25,7 @@ mod siblings;
 mod state;
 mod table;
 mod thematic_break;
+mod undecided;
 
 pub use cmark_span_scan::{LoopInstruction, iterate_special_bytes, special_bytes};
 pub use cuts::last_cut;

@@ -16,9 +16,8 @@ use Rattle.cmark_stream_model.specs.Tails.{IsJoinedAt}
 use Rattle.cmark_stream_model.proofs.EndsApart.{ends-grow}
 use Rattle.cmark_stream_model.proofs.GrowingLines.{lines-append}
 use Rattle.cmark_stream_model.proofs.Leading.{lines-continue}
-use Rattle.cmark_stream_model.proofs.SettledCuts.{complete-row, stays-joined, whole-first}
+use Rattle.cmark_stream_model.proofs.SettledCuts.{complete-row, settled-cut, stays-joined, whole-first}
 use Rattle.cmark_stream_model.proofs.TailFacts.{joined-at}
-use Rattle.cmark_stream_model.proofs.TestedCuts.{tested-cut}
 use Rattle.cmark_stream_model.proofs.WholeLines.{whole-longer}
 
 abbrev row-of : Row → List Row → Row
@@ -43,7 +42,7 @@ module _ (options : Options) (lookup : Lookup) (text : List ℕ) (from : ℕ) (h
       are = ap (λ n. rows_from n (lines middle)) size ∙ first
 
       cut : IsCut options front r rs
-      cut = tested-cut options h.metadata h.definitions front r rs h.resolved (h.parts (shown rs)) (h.begins (shown rs))
+      cut = settled-cut options h rs
 
       ends : continues (last_list None (blocks_at options 0 front)) (blocks_at options (length front) middle) ≡ false
       ends =

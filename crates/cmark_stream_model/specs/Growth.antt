@@ -11,6 +11,8 @@ use Rattle.cmark_grammar.specs.Questions.{Saying}
 use Rattle.cmark_grammar.specs.Readers.{Reader}
 use Rattle.cmark_grammar.specs.SpanDocuments.{Segment, ReadsAll}
 use Rattle.cmark_grammar.specs.Lines.{lines, ends_line}
+use Rattle.cmark_grammar.specs.Metadata.{is_ended, metadata_kind}
+use Rattle.cmark_grammar.specs.MetadataBlockKind.{MetadataBlockKind}
 use Rattle.cmark_grammar.specs.Options.{Options}
 use Rattle.cmark_grammar.specs.Places.{Apart}
 use Rattle.cmark_grammar.specs.Columns.{Column}
@@ -115,7 +117,24 @@ abbrev pub are_resolved : List Row → Bool
 are_resolved [] = true
 are_resolved (r ∷ rs) = (are_blind r.columns || has_blank_line rs) && are_resolved rs
 
--- no metadata is read; the end of metadata is searched for in all later lines
+-- these lines decide whether a block of metadata begins before them: the first of them is blank or ends it, or a later one ends it
+abbrev pub decide_kind : MetadataBlockKind → List Row → Bool
+decide_kind kind [] = false
+decide_kind kind (r ∷ rs) = is_blank_line r || is_ended kind (r ∷ rs)
+
+abbrev pub decide : Option MetadataBlockKind → List Row → Bool
+decide None rs = true
+decide (Some kind) rs = decide_kind kind rs
+
+module _ (options : Options) where
+  -- Lines that decide by themselves which of them begin metadata, though further lines follow. The end of metadata is searched for in all later
+  -- lines. So each line that continues no open block, and may begin metadata, has its end among these lines
+  abbrev pub AreDecided : (following : List Row) → OpenLines → List Row → Type 0
+  AreDecided following o [] = Unit {0}
+  AreDecided following o (r ∷ rs) =
+      (Parts options o r (shown (rs ++ following)) → decide (metadata_kind options r) rs ≡ true) × AreDecided following (lines_feed options o r (shown (rs ++ following))) rs
+
+-- no metadata is read
 abbrev pub HasNoMetadata : Options → Type 0
 HasNoMetadata options = (options.yaml_style_metadata_blocks ≡ false) × (options.pluses_delimited_metadata_blocks ≡ false)
 

@@ -10,9 +10,6 @@ use Rattle.cmark_blocks.proofs.ReferenceSteps.{no_reference}
 use Rattle.cmark_blocks.proofs.SearchSteps.{starts-here}
 use Rattle.cmark_blocks.proofs.cuts.last_cut.Goals as goal
 
-pub returns-then-reads_metadata-clause-stays : goal.returns-then-reads_metadata-clause-stays
-returns-then-reads_metadata-clause-stays c = λ settled. stays-joined (shown_options c.args.options) c.args.text.now c.args.from settled
-
 pub returns-then-reads_definition_lists-clause-stays : goal.returns-then-reads_definition_lists-clause-stays
 returns-then-reads_definition_lists-clause-stays c = λ settled. stays-joined (shown_options c.args.options) c.args.text.now c.args.from settled
 
@@ -20,12 +17,6 @@ pub find_cut-requires-clause-starts : goal.find_cut-requires-clause-starts
 find_cut-requires-clause-starts c =
     starts-here c.args.text.now (shown_options c.args.options) _ c.args.from c.in_ok-pass.pass
     (c.in_ok-pass.ensures.runs [] [] (λ folded. no_reference c.new-definitions.result folded (c.new-definitions.ensures folded)) c.new-footnotes.ensures)
-
-pub find_cut-requires-clause-metadata : goal.find_cut-requires-clause-metadata
-find_cut-requires-clause-metadata c =
-    let runs = c.in_ok-pass.ensures.runs [] [] (λ folded. no_reference c.new-definitions.result folded (c.new-definitions.ensures folded)) c.new-footnotes.ensures in
-    let options = shown_options c.args.options in
-    subst HasNoMetadata (sym runs.options_is) (neither options.yaml_style_metadata_blocks options.pluses_delimited_metadata_blocks (sym c.reads_metadata.ensures ∙ c.if-reads_metadata.false))
 
 pub find_cut-requires-clause-definitions : goal.find_cut-requires-clause-definitions
 find_cut-requires-clause-definitions c =
