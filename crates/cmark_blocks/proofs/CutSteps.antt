@@ -18,7 +18,8 @@ use Rattle.cmark_block_model.specs.OpenBlocks.{takes_lazy}
 use Rattle.cmark_block_model.proofs.Mirror.{Fits, is_looked_up, leaf_left, verbatim_leaf, leaf_at, containers_at, bare_at, pass_at}
 use Rattle.cmark_block_model.proofs.Replay.{Level, entered, replay}
 use Rattle.cmark_blocks.proofs.LineFacts.{takes-lazy, bare-flag, only-one}
-use Rattle.cmark_stream_model.specs.Growth.{Parts, is_outside_of_lists, last_list}
+use Rattle.cmark_stream_model.specs.Growth.{Parts, is_outside_of_lists, last_list, may_continue}
+use Rattle.cmark_stream_model.proofs.FirstLines.{outside-any, apart-any}
 use Rattle.cmark_stream_model.proofs.Fronts.{Steady}
 use Rattle.cmark_stream_model.proofs.SettledCuts.{last-join}
 use Rattle.cmark_line_rules.proofs.LazyRows.{whole-texts}
@@ -32,7 +33,7 @@ use Rattle.cmark_line_rules.specs.declared.opening.Opening.TheVariants as openin
 use Rattle.cmark_line_rules.specs.declared.container.ContainerStart.TheVariants as start
 use Rattle.cmark_blocks.specs.Shown.{ShowsContainers}
 use Rattle.cmark_blocks.specs.declared.state.OpenContainer.{OpenContainer}
-use Rattle.cmark_blocks.specs.Cuts.{is_outside, stops, is_missed, ends_leaf, ends_paragraph, ends_outer, ends_all}
+use Rattle.cmark_blocks.specs.Cuts.{is_outside, is_apart, stops, is_missed, ends_leaf, ends_paragraph, ends_outer, ends_all}
 
 pub both-true : (a b : Bool) → (a && b) ≡ true → (a ≡ true) × (b ≡ true)
 both-true true b e = (refl, e)
@@ -292,6 +293,32 @@ outside-metadata (Some kind) ahead o e = go (holds_metadata kind ahead)
     go true = refl
     go false = e
 
+-- a line with an opening continues no list, whatever is ahead
+pub opened-apart : (titles : Bool) (list : Option ℕ) (options : Options) (r : Row) (ahead : List Row) (o : Opened) → is_apart titles o ≡ true → may_continue titles list (opened options o r ahead) ≡ false
+opened-apart titles list options r ahead opening.Blank e = absurd (true≢false (sym e))
+opened-apart titles list options r ahead (opening.Nests (start.BlockQuote rest)) e = apart-any titles list (opened options (opening.Nests (start.BlockQuote rest)) r ahead) refl
+opened-apart titles list options r ahead (opening.Nests (start.Item item rest)) e = absurd (true≢false (sym e))
+opened-apart titles list options r ahead (opening.Nests (start.Footnote footnote rest)) e = apart-any titles list (opened options (opening.Nests (start.Footnote footnote rest)) r ahead) refl
+opened-apart titles list options r ahead opening.IndentedCode e = apart-any titles list (opened options opening.IndentedCode r ahead) refl
+opened-apart titles list options r ahead (opening.Html kind) e = apart-any titles list (opened options (opening.Html kind) r ahead) refl
+opened-apart titles list options r ahead opening.ThematicBreak e = apart-any titles list (opened options opening.ThematicBreak r ahead) refl
+opened-apart titles list options r ahead (opening.AtxHeading level) e = apart-any titles list (opened options (opening.AtxHeading level) r ahead) refl
+opened-apart titles list options r ahead (opening.FencedCode indent fence) e = apart-any titles list (opened options (opening.FencedCode indent fence) r ahead) refl
+opened-apart true list options r ahead opening.Bracket e = absurd (true≢false (sym e))
+opened-apart false list options r ahead opening.Bracket e = outside-any list (opened options opening.Bracket r ahead) (sym (outside-opened options r ahead opening.Bracket))
+opened-apart true list options r ahead opening.Plain e = absurd (true≢false (sym e))
+opened-apart false list options r ahead opening.Plain e = outside-any list (opened options opening.Plain r ahead) (sym (outside-opened options r ahead opening.Plain))
+
+-- nor if the line may begin metadata
+pub metadata-apart : (titles : Bool) (list : Option ℕ) (kind : Option MetadataBlockKind) (ahead : List Row) (o : Opening) → may_continue titles list o ≡ false → may_continue titles list (or_else (metadata_begun kind ahead) o) ≡ false
+metadata-apart titles None kind ahead o e = refl
+metadata-apart titles (Some d) None ahead o e = e
+metadata-apart titles (Some d) (Some kind) ahead o e = go (holds_metadata kind ahead)
+  where
+    go : (z : Bool) → may_continue titles (Some d) (or_else (if z then Takes (MetadataBlock kind) (counted (metadata_continuation kind) ahead) else Plain) o) ≡ false
+    go true = refl
+    go false = e
+
 -- if no container is open, the model has none
 pub none-open : (cs : List OpenContainer) (ms : List model.OpenContainer) → length cs ≡ 0 → ShowsContainers cs ms → ms ≡ []
 none-open [] [] e s = refl
@@ -320,7 +347,3 @@ only-first text options lookup (c ∷ cs) (n ∷ ms) m others s e = only-one tex
     rest : List model.OpenContainer → List model.OpenContainer
     rest [] = []
     rest (x ∷ xs) = xs
-
-pub neither : (a b : Bool) → (a || b) ≡ false → (a ≡ false) × (b ≡ false)
-neither true b e = absurd (true≢false e)
-neither false b e = (refl, e)

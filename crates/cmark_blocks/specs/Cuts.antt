@@ -45,6 +45,20 @@ is_outside (opening.FencedCode indent fence) = true
 is_outside opening.Bracket = true
 is_outside opening.Plain = true
 
+-- the line begins a block that continues no list; if there are titles, a paragraph may continue one
+abbrev pub is_apart : (titles : Bool) → Opening → Bool
+is_apart titles opening.Blank = false
+is_apart titles (opening.Nests (start.BlockQuote rest)) = true
+is_apart titles (opening.Nests (start.Item item rest)) = false
+is_apart titles (opening.Nests (start.Footnote footnote rest)) = true
+is_apart titles opening.IndentedCode = true
+is_apart titles (opening.Html kind) = true
+is_apart titles opening.ThematicBreak = true
+is_apart titles (opening.AtxHeading level) = true
+is_apart titles (opening.FencedCode indent fence) = true
+is_apart titles opening.Bracket = not titles
+is_apart titles opening.Plain = not titles
+
 -- what the search leaves undecided about metadata
 abbrev pub shown_undecided : Undecided → undecided.Undecided
 shown_undecided state.Nothing = undecided.Nothing

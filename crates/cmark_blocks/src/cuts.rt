@@ -11,17 +11,17 @@ ghost use Rattle.cmark_grammar.specs.Rows.{Row};
 ghost use Rattle.cmark_line_rules.specs.Continuations.{shown_continuation};
 ghost use Rattle.cmark_line_rules.specs.Rests.{row_of};
 ghost use Rattle.cmark_line_rules.specs.Starts.{Shows};
-ghost use Rattle.cmark_stream_model.specs.Growth.{HasNoMetadata, is_outside_of_lists, looks_ahead};
+ghost use Rattle.cmark_stream_model.specs.Growth.{looks_ahead};
 ghost use Rattle.cmark_stream_model.specs.Settled.{IsSettledAt, StaysJoinedAt};
 ghost use Rattle.cmark_stream_model.specs.Undecided.{is_nothing};
 ghost use Rattle.cmark_values.specs.Shown.{shown_options};
-ghost use Rattle.cmark_blocks.specs.Cuts.{stops, is_outside, is_missed, shown_undecided, EndsLeaf};
+ghost use Rattle.cmark_blocks.specs.Cuts.{stops, is_missed, shown_undecided, EndsLeaf};
 
+use crate::list_facts::{ListFacts, list_facts};
 use crate::state::{OpenLeaf, Pass};
 use crate::undecided::Undecided;
 use cmark_line_rules::{
-    CodeOrHtml, Container, ContainerStart, Continuation, LineRest, Opening, begins_with_pipe,
-    interrupts, reads_definition_lists, underlines, what_opens,
+    CodeOrHtml, Container, Continuation, LineRest, begins_with_pipe, interrupts, underlines,
 };
 use cmark_references::{FootnoteDefs, RefDefs};
 use cmark_values::{BasicEntities, EntityLookup, Options};
@@ -45,35 +45,6 @@ fn is_blind(line: LineRest<'_>) -> bool
     ensures { result ≡ list_all (λ b. not (looks_ahead b)) (bytes_of (row_of line.entry).columns) }
 {
     line.bytes().iter().all(|byte| is_blind_byte(*byte))
-}
-
-/// Whether a line with this opening begins no item of a list.
-fn is_outside(opening: Opening<'_>) -> bool
-    ensures { result ≡ is_outside opening.entry }
-{
-    match opening {
-        Opening::Blank => false,
-        Opening::Nests(start) => !matches!(start, ContainerStart::Item(_, _)),
-        Opening::IndentedCode
-        | Opening::Html(_)
-        | Opening::ThematicBreak
-        | Opening::AtxHeading(_)
-        | Opening::FencedCode { .. }
-        | Opening::Bracket
-        | Opening::Plain => true,
-    }
-}
-
-/// Whether the line begins a block that is no item of a list, if it begins one after all open blocks.
-fn begins_outside_of_lists(line: LineRest<'_>, options: Options) -> bool
-    ensures none { HasNoMetadata (shown_options options) → (ahead : List Row)
-        → result
-        ≡ is_outside_of_lists (opens_at (shown_options options) Apart (row_of line.entry) ahead) }
-    ensures outside { result ≡ true → (ahead : List Row)
-        → is_outside_of_lists (opens_at (shown_options options) Apart (row_of line.entry) ahead)
-        ≡ true }
-{
-    is_outside(what_opens(line, options))
 }
 
 /// Whether a block has ended before a line.
@@ -116,13 +87,12 @@ fn misses(container: Container, bare: bool, line: LineRest<'_>) -> bool
 struct LineFacts {
     /// Whether it begins a block after all open ones.
     begins: bool,
-    /// Whether it is no item of a list, if it begins a block.
-    is_outside: bool,
     /// Whether it is complete, and no later line decides whether it begins a block.
     is_decided: bool,
     is_blank: bool,
     /// Whether no later line decides what the line is.
     is_blind: bool,
+    lists: ListFacts,
 }
 
 /// The search for cuts, between two lines.
@@ -132,7 +102,7 @@ struct CutSearch {
     cut: usize,
     /// Whether no further line decides what the lines so far are, metadata aside.
     is_resolved: bool,
-    /// Whether the last block may be an item of a list.
+    /// Whether the last block may be an item of a list, or a definition.
     after_item: bool,
     /// What the lines so far leave undecided about metadata.
     undecided: Undecided,
@@ -152,10 +122,13 @@ impl CutSearch {
             ≡
             (line.begins &&
             ((self.is_resolved && is_nothing (shown_undecided self.undecided)) &&
-            (line.is_decided && (line.is_outside || not self.after_item)))) }
+            (line.is_decided && (not line.lists.is_marked &&
+            (line.lists.is_apart || not self.after_item))))) }
     {
         line.begins
-            && (self.is_settled() && (line.is_decided && (line.is_outside || !self.after_item)))
+            && (self.is_settled()
+                && (line.is_decided
+                    && (!line.lists.is_marked && (line.lists.is_apart || !self.after_item))))
     }
 
     /// The last cut after the next line, which begins at the byte offset `at`.
@@ -164,18 +137,18 @@ impl CutSearch {
             ≡
             (if line.begins &&
             ((self.is_resolved && is_nothing (shown_undecided self.undecided)) &&
-            (line.is_decided && (line.is_outside || not self.after_item))) then at else
-            self.cut) }
+            (line.is_decided && (not line.lists.is_marked &&
+            (line.lists.is_apart || not self.after_item)))) then at else self.cut) }
     {
         if self.has_cut(line) { at } else { self.cut }
     }
 
-    /// Whether the last block after the next line may be an item of a list.
+    /// Whether the last block after the next line may be an item of a list, or a definition.
     fn item_after(self, line: LineFacts) -> bool
-        ensures { result ≡ (if line.begins then not line.is_outside else self.after_item) }
+        ensures { result ≡ (if line.begins then not line.lists.is_outside else self.after_item) }
     {
         if line.begins {
-            !line.is_outside
+            !line.lists.is_outside
         } else {
             self.after_item
         }
@@ -194,12 +167,12 @@ impl CutSearch {
             ≡
             (if line.begins &&
             ((self.is_resolved && is_nothing (shown_undecided self.undecided)) &&
-            (line.is_decided && (line.is_outside || not self.after_item))) then at else
-            self.cut) }
+            (line.is_decided && (not line.lists.is_marked &&
+            (line.lists.is_apart || not self.after_item)))) then at else self.cut) }
         ensures resolved { result.is_resolved
             ≡ (line.is_blind && (line.is_blank || self.is_resolved)) }
         ensures after_item { result.after_item
-            ≡ (if line.begins then not line.is_outside else self.after_item) }
+            ≡ (if line.begins then not line.lists.is_outside else self.after_item) }
         ensures undecided { result.undecided ≡ undecided }
     {
         let cut = self.cut_after(at, line);
@@ -215,7 +188,7 @@ impl CutSearch {
 }
 
 impl<'a, E: EntityLookup> Pass<'a, E> {
-    ghost use Rattle.std.specs.Prelude.{◌≡◌, ◌≤◌, ◌<◌, ◌&&◌, not, true, false, List, IfOk, IsCharBoundary, nat_lt, nat_le, length};
+    ghost use Rattle.std.specs.Prelude.{◌≡◌, ◌≤◌, ◌<◌, ◌&&◌, not, true, false, ℕ, List, Option, IfOk, IsCharBoundary, nat_lt, nat_le, length};
     ghost use Rattle.std.specs.List.{list_all};
     ghost use Rattle.cmark_blocks.specs.Cuts.{ends_paragraph, ends_outer, ends_all, Tells, StartsAt};
     ghost use Rattle.cmark_grammar.specs.Columns.{bytes_of};
@@ -225,7 +198,8 @@ impl<'a, E: EntityLookup> Pass<'a, E> {
     ghost use Rattle.cmark_grammar.specs.TableRows.{begins_with_pipe};
     ghost use Rattle.cmark_leaf_nodes.specs.TextColumns.{IsRead};
     ghost use Rattle.cmark_line_rules.specs.Rests.{row_of};
-    ghost use Rattle.cmark_stream_model.specs.Growth.{is_outside_of_lists, looks_ahead};
+    ghost use Rattle.cmark_grammar.specs.DefinitionLists.{begins_definition};
+    ghost use Rattle.cmark_stream_model.specs.Growth.{is_outside_of_lists, looks_ahead, may_continue};
     ghost use Rattle.cmark_stream_model.specs.Settled.{IsSettledAt};
     ghost use Rattle.cmark_values.specs.Shown.{shown_options};
     ghost use Rattle.cmark_blocks.specs.Runs.{IsGood};
@@ -307,10 +281,18 @@ impl<'a, E: EntityLookup> Pass<'a, E> {
         ensures begins { Tells E.replacement self.now line.entry result.begins
             (λ text options lookup m r ahead. not (is_blank_line r) && ends_all text options lookup
             m r ahead) }
-        ensures is_outside { result.is_outside ≡ true → (ahead : List Row)
+        ensures is_marked { result.lists.is_marked
+            ≡ begins_definition (shown_options self.now.options) (row_of line.entry) }
+        ensures is_outside { result.lists.is_outside ≡ true → (ahead : List Row)
             → is_outside_of_lists
             (opens_at (shown_options self.now.options) Apart (row_of line.entry) ahead)
             ≡ true }
+        ensures is_unmarked { result.lists.is_outside ≡ true
+            → begins_definition (shown_options self.now.options) (row_of line.entry) ≡ false }
+        ensures is_apart { result.lists.is_apart ≡ true → (list : Option ℕ) (ahead : List Row)
+            → may_continue (shown_options self.now.options).definition_list list
+            (opens_at (shown_options self.now.options) Apart (row_of line.entry) ahead)
+            ≡ false }
         ensures is_decided { result.is_decided
             ≡
             (not
@@ -322,16 +304,16 @@ impl<'a, E: EntityLookup> Pass<'a, E> {
             ≡ list_all (λ b. not (looks_ahead b)) (bytes_of (row_of line.entry).columns) }
     {
         let begins = self.begins_apart(line);
-        let is_outside = begins_outside_of_lists(line, self.options);
+        let lists = list_facts(line, self.options);
         let is_decided = self.is_decided(line);
         let is_blank = line.is_blank();
         let is_blind = is_blind(line);
         LineFacts {
             begins,
-            is_outside,
             is_decided,
             is_blank,
             is_blind,
+            lists,
         }
     }
 
@@ -340,7 +322,6 @@ impl<'a, E: EntityLookup> Pass<'a, E> {
     fn find_cut(&mut self, from: usize) -> Result<usize, AllocError>
         requires good { IsGood self.old }
         requires starts { StartsAt E.replacement from self.old }
-        requires definitions { (shown_options self.old.options).definition_list ≡ false }
         ensures settled { IsSettledAt (shown_options self.old.options) self.old.text.now from
             → IfOk result (IsSettledAt (shown_options self.old.options) self.old.text.now) }
         ensures boundary { IfOk result (IsCharBoundary self.old.text.now) }
@@ -373,9 +354,9 @@ impl<'a, E: EntityLookup> Pass<'a, E> {
 ///
 /// The search misses some cuts:
 ///
-/// - It finds no cut if definition lists are read.
-/// - It finds no cut after a line that may begin metadata whose end may still come.
 /// - It finds no cut before a line that begins with a pipe, that no further byte follows, or that may continue a list.
+/// - If definition lists are read, it finds no cut before a line with a definition's marker, or before a paragraph after a list.
+/// - It finds no cut after a line that may begin metadata whose end may still come.
 /// - After a line with a bracket or a pipe it finds no cut up to the next blank line.
 ///
 /// Reads each line after `from` once, as the block pass does. Fails only if memory is refused.
@@ -394,9 +375,6 @@ pub fn last_cut(
     ensures order { IsSettledAt (shown_options options) text.now from
         → IfOk result (λ cut. from ≤ cut) }
 {
-    if reads_definition_lists(options) {
-        return Ok(from);
-    }
     let definitions = RefDefs::new(alloc);
     let footnotes = FootnoteDefs::new(alloc);
     let entities = BasicEntities;

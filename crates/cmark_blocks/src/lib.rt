@@ -17,6 +17,7 @@ pub mod laws;
 mod leaf;
 mod line;
 mod list;
+mod list_facts;
 mod metadata;
 mod paragraph;
 mod prefixes;

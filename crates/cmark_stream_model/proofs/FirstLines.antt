@@ -9,8 +9,8 @@ use Rattle.cmark_grammar.specs.Leaves.{Fence, is_thematic_break, is_atx_heading,
 use Rattle.cmark_grammar.specs.HtmlBlocks.{html_kind, holds_end}
 use Rattle.cmark_grammar.specs.LinkDefinitions.{Defined, definition_in, bytes_over}
 use Rattle.cmark_grammar.specs.Footnotes.{footnotes_in}
-use Rattle.cmark_grammar.specs.Containers.{Container, BlockQuote, Item, Footnote, ListDefinition, container_of, enter, is_bare_start}
-use Rattle.cmark_grammar.specs.DefinitionLists.{begins_definition, is_definition}
+use Rattle.cmark_grammar.specs.Containers.{Container, BlockQuote, Item, Footnote, ListDefinition, begins_with, width_with, container_of, enter, is_bare_start}
+use Rattle.cmark_grammar.specs.DefinitionLists.{is_marker, begins_definition, is_definition}
 use Rattle.cmark_grammar.specs.Metadata.{metadata_of, metadata_if, metadata_kind, holds_metadata, metadata_continuation}
 use Rattle.cmark_grammar.specs.MetadataBlockKind.{MetadataBlockKind}
 use Rattle.cmark_grammar.specs.Columns.{Column, space, tab, is_blank_byte, without_indent, bytes_of}
@@ -19,14 +19,14 @@ use Rattle.cmark_grammar.specs.Openings.{Leaf, ThematicBreak, AtxHeading, Indent
 use Rattle.cmark_grammar.specs.Blocks.{Blocks, Nil, BlankLine, Paragraph, LeafBlock, join, place_in}
 use Rattle.cmark_block_model.specs.BlocksModel.{within, place_after}
 use Rattle.cmark_block_model.specs.BlocksByLine.{OpenLines, Between, AfterTag, InParagraph, InLeaf, InVerbatim, InContainer, close_lines, lines_take_lazy, html_begun, leaf_begun, lines_begin_as, lines_begin_in, lines_begin}
-use Rattle.cmark_stream_model.specs.Growth.{is_blank, Parts, are_blind, has_blank_line, are_resolved, is_outside_of_lists, last_list, may_continue}
+use Rattle.cmark_stream_model.specs.Growth.{is_blank, Parts, are_blind, has_blank_line, are_resolved, is_outside_of_lists, stands_apart, last_list, may_continue}
 use Rattle.cmark_stream_model.proofs.GrowingTables.{same-apart}
 use Rattle.cmark_stream_model.proofs.SettledCuts.{resolved-append, last-join}
-use Rattle.cmark_stream_model.proofs.Walls.{bare-following, bare-blank}
+use Rattle.cmark_stream_model.proofs.Walls.{bare-following, bare-blank, blank-words}
 
 -- ## Lists
 
-pub outside-any : (list : Option ℕ) (o : Opening) → is_outside_of_lists o ≡ true → may_continue list o ≡ false
+pub outside-any : (list : Option ℕ) (o : Opening) → is_outside_of_lists o ≡ true → may_continue false list o ≡ false
 outside-any None o e = refl
 outside-any (Some d) Blank e = absurd (true≢false (sym e))
 outside-any (Some d) (Nests (BlockQuote alert)) e = refl
@@ -35,6 +35,16 @@ outside-any (Some d) (Nests (Footnote label old size)) e = refl
 outside-any (Some d) (Nests (ListDefinition width)) e = absurd (true≢false (sym e))
 outside-any (Some d) (Takes leaf more) e = refl
 outside-any (Some d) Plain e = refl
+
+pub apart-any : (titles : Bool) (list : Option ℕ) (o : Opening) → stands_apart o ≡ true → may_continue titles list o ≡ false
+apart-any titles None o e = refl
+apart-any titles (Some d) Blank e = absurd (true≢false (sym e))
+apart-any titles (Some d) (Nests (BlockQuote alert)) e = refl
+apart-any titles (Some d) (Nests (Item delimiter number width task)) e = absurd (true≢false (sym e))
+apart-any titles (Some d) (Nests (Footnote label old size)) e = refl
+apart-any titles (Some d) (Nests (ListDefinition width)) e = absurd (true≢false (sym e))
+apart-any titles (Some d) (Takes leaf more) e = refl
+apart-any titles (Some d) Plain e = absurd (true≢false (sym e))
 
 -- ## Blank lines
 
@@ -203,16 +213,26 @@ module _ (options : Options) where
   outside-none list (Takes leaf more) inside closed r e = leaf-none list leaf more closed r
   outside-none list Plain inside closed r e = last-join options list closed (Paragraph r [] Nil)
 
-  pub outside-begins : options.definition_list ≡ false → (list : Option ℕ) (closed : Blocks) (r : Row) (ahead : List Row) → is_outside_of_lists (opens_at options Apart r ahead) ≡ true → last_list list (close_lines (lines_begin options closed r ahead)) ≡ None
+  pub outside-begins : (list : Option ℕ) (closed : Blocks) (r : Row) (ahead : List Row) → begins_definition options r ≡ false → is_outside_of_lists (opens_at options Apart r ahead) ≡ true → last_list list (close_lines (lines_begin options closed r ahead)) ≡ None
   unfolding lines_begin
-  outside-begins off list closed r ahead e =
-      outside-none list (opens_at options (place_after Apart closed) r ahead) (inside_as r ahead) closed r (ap is_outside_of_lists (same-apart options closed r ahead off) ∙ e)
+  outside-begins list closed r ahead unmarked e =
+      outside-none list (opens_at options (place_after Apart closed) r ahead) (inside_as r ahead) closed r (ap is_outside_of_lists (same-apart options closed r ahead unmarked) ∙ e)
 
-  pub blank-begins : options.definition_list ≡ false → (list : Option ℕ) (closed : Blocks) (r : Row) (ahead : List Row) → r.lazy ≡ false → is_blank_line r ≡ true
+  -- a blank line has no definition's marker
+  pub blank-unmarked : (r : Row) → is_blank_line r ≡ true → begins_definition options r ≡ false
+  blank-unmarked r e =
+      ap (λ w. is_marker (if options.definition_list && (not r.lazy && nat_le (indent_of r) 3) then (if begins_with 58 w then Some (width_with 1 r) else None) else None)) (blank-words options r e)
+      ∙ go (options.definition_list && (not r.lazy && nat_le (indent_of r) 3))
+    where
+      go : (z : Bool) → is_marker (if z then None else None) ≡ false
+      go true = refl
+      go false = refl
+
+  pub blank-begins : (list : Option ℕ) (closed : Blocks) (r : Row) (ahead : List Row) → r.lazy ≡ false → is_blank_line r ≡ true
       → last_list list (close_lines (lines_begin options closed r ahead)) ≡ last_list list closed
   unfolding lines_begin
-  blank-begins off list closed r ahead whole e =
-      ap (λ o. last_list list (close_lines (lines_begin_as o (inside_as r ahead) closed r))) (same-apart options closed r ahead off ∙ blank-opening r whole e ahead)
+  blank-begins list closed r ahead whole e =
+      ap (λ o. last_list list (close_lines (lines_begin_as o (inside_as r ahead) closed r))) (same-apart options closed r ahead (blank-unmarked r e) ∙ blank-opening r whole e ahead)
       ∙ last-join options list closed (BlankLine r Nil)
 
   -- ## Lines that end what is open, whatever is ahead

@@ -1,13 +1,13 @@
 -- Metadata begins only on whole lines: a line inside a container has lost a column, is held, or lacks a prefix.
-use Rattle.std.proofs.Common.{◌≡◌, ◌⊎◌, inl, inr, ⊎_elim, ℕ, zero, suc, ◌+◌, ◌-◌, ◌≤◌, ◌<◌, Bool, true, false, ◌==◌, ◌&&◌, ◌||◌, not, List, [], ◌∷◌, ◌++◌, length, drop, refl, sym, ap, ◌∙◌, subst, Option, Some, None, arith, ne_eqb, true≢false}
+use Rattle.std.proofs.Common.{◌≡◌, ◌⊎◌, inl, inr, ⊎_elim, ℕ, zero, suc, ◌+◌, ◌-◌, ◌<◌, Bool, true, false, ◌==◌, ◌&&◌, ◌||◌, not, List, [], ◌∷◌, ◌++◌, length, drop, refl, ap, ◌∙◌, subst, Option, Some, None, arith, ne_eqb}
 use Rattle.std.specs.Prelude.{if◌then◌else◌, nat_le}
-use Rattle.cmark_grammar.specs.Columns.{Column, tab, expand, tab_columns, to_tab_stop, bytes_of, is_blank, without_indent}
+use Rattle.cmark_grammar.specs.Columns.{Column, tab, expand, tab_columns, to_tab_stop, bytes_of}
 use Rattle.cmark_grammar.specs.Lines.{content}
 use Rattle.cmark_grammar.specs.MetadataBlockKind.{MetadataBlockKind}
 use Rattle.cmark_grammar.specs.Metadata.{metadata_of, metadata_if, metadata_kind}
 use Rattle.cmark_grammar.specs.Options.{Options}
 use Rattle.cmark_grammar.specs.Places.{Place, Apart, AfterLazy}
-use Rattle.cmark_grammar.specs.Rows.{Row, row_at, without, hold, lazy_row, place, first_place, begin_of, is_blank_line, is_whole_line, indent_of, rows_from, words_of}
+use Rattle.cmark_grammar.specs.Rows.{Row, row_at, without, hold, place, first_place, begin_of, is_blank_line, is_whole_line, indent_of, rows_from, words_of}
 use Rattle.cmark_grammar.specs.HtmlBlocks.{holds_end}
 use Rattle.cmark_grammar.specs.Leaves.{Continuation, GoesOn, Closes, Waits, Stops, underlines}
 use Rattle.cmark_grammar.specs.Containers.{Container, BlockQuote, Item, Footnote, ListDefinition, is_block_quote, block_quote_width, marker_width, width_of, enter, keep_as, keeps, strip_as, strip, is_alert, is_bare_start, bare_after}

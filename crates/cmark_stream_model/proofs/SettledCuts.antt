@@ -4,6 +4,7 @@ use Rattle.std.proofs.lemmas.List.{append_cancel_right, take-append-le, drop-app
 use Rattle.cmark_grammar.specs.Answers.{Lookup}
 use Rattle.cmark_grammar.specs.BlockDocument as document
 use Rattle.cmark_block_model.specs.DocumentModel.{document as document_in}
+use Rattle.cmark_grammar.specs.DefinitionLists.{begins_definition}
 use Rattle.cmark_grammar.specs.Lines.{lines}
 use Rattle.cmark_grammar.specs.Options.{Options}
 use Rattle.cmark_grammar.specs.Places.{Apart}
@@ -62,7 +63,7 @@ module _ (options : Options) where
   pub settled-stays : (text more : List ℕ) (at : ℕ) → IsSettledCut options text at → IsSettledCut options (text ++ more) at
   settled-stays text more at h = record {
     line = h.line;
-    definitions = h.definitions;
+    unmarked = h.unmarked;
     within = omega (arith, h.within, length-append-le text more);
     apart =
         ap (λ f. ends_whole f (drop at (text ++ more))) same
@@ -72,7 +73,7 @@ module _ (options : Options) where
     settled = λ following. subst (λ f. fed_before options following (Between Nil) (rows f) ≡ open_after options f) (sym same) (h.settled following);
     parts = λ ahead. subst (λ f. Parts options (open_after options f) (row_at at h.line) ahead) (sym same) (h.parts ahead);
     begins = h.begins;
-    ends_list = λ ahead. ap (λ f. may_continue (last_list None (blocks_at options 0 f)) (opens_at options Apart (row_at at h.line) ahead)) same ∙ h.ends_list ahead;
+    ends_list = λ ahead. ap (λ f. may_continue options.definition_list (last_list None (blocks_at options 0 f)) (opens_at options Apart (row_at at h.line) ahead)) same ∙ h.ends_list ahead;
   }
     where
       same : take at (text ++ more) ≡ take at text
@@ -90,7 +91,7 @@ module _ (options : Options) where
   settled-cut {text} {at} h rs = record {
     settled = h.settled (row_at at h.line ∷ rs);
     parts = h.parts (shown rs);
-    same = same-apart options (close_lines (open_after options (take at text))) (row_at at h.line) (shown rs) h.definitions;
+    same = same-apart options (close_lines (open_after options (take at text))) (row_at at h.line) (shown rs) h.unmarked;
     begins = h.begins (shown rs);
   }
 
@@ -100,7 +101,7 @@ module _ (options : Options) where
   settled-joined text at lookup h =
       subst (λ t. IsJoinedAt options lookup t at) (take-append-drop at text)
       (subst (λ n. IsJoinedAt options lookup (front ++ tail) n) size
-      (joined-at options lookup front tail (ends-grow options h.definitions lookup front tail r rs h.apart first cut ends)))
+      (joined-at options lookup front tail (ends-grow options lookup front tail r rs h.apart first cut ends)))
     where
       front : List ℕ
       front = take at text
@@ -126,7 +127,7 @@ module _ (options : Options) where
       ends : continues (last_list None (blocks_at options 0 (take at text))) (blocks_at options (length (take at text)) (drop at text)) ≡ false
       ends =
           ap (λ ls. continues (last_list None (blocks_at options 0 front)) (close_lines (lines_feed_all options (Between Nil) ls))) first
-          ∙ lines-continue options h.definitions r rs (last_list None (blocks_at options 0 front)) (h.ends_list (shown rs))
+          ∙ lines-continue options r rs (last_list None (blocks_at options 0 front)) (h.ends_list (shown rs))
 
   -- the beginning of a text
   empty-document : (lookup : Lookup) → document_in [] options lookup ≡ document.Nil
@@ -188,7 +189,7 @@ module _ (options : Options) where
 
   -- what the search for a further cut has found at an offset, after these rows
   pub record Found (text : List ℕ) (from at : ℕ) (done : List Row) (line : List ℕ) : Type 0 where
-    pub definitions : options.definition_list ≡ false
+    pub unmarked : begins_definition options (row_at at line) ≡ false
     pub within : at ≤ length text
     pub split : rows_from from (lines (drop from text)) ≡ done ++ rows_from at (lines (drop at text))
     pub apart : ends_whole (take at text) (drop at text) ≡ true
@@ -196,7 +197,7 @@ module _ (options : Options) where
     pub settled : (following : List Row) → fed_before options following (Between Nil) done ≡ lines_feed_all options (Between Nil) done
     pub parts : (ahead : List Row) → Parts options (lines_feed_all options (Between Nil) done) (row_at at line) ahead
     pub begins : (ahead : List Row) → is_blank (opens_at options Apart (row_at at line) ahead) ≡ false
-    pub ends_list : (ahead : List Row) → may_continue (last_list (list_before text from) (close_lines (lines_feed_all options (Between Nil) done))) (opens_at options Apart (row_at at line) ahead) ≡ false
+    pub ends_list : (ahead : List Row) → may_continue options.definition_list (last_list (list_before text from) (close_lines (lines_feed_all options (Between Nil) done))) (opens_at options Apart (row_at at line) ahead) ≡ false
 
   module _ (text : List ℕ) (from at : ℕ) (done : List Row) (line : List ℕ) (f : Found text from at done line) where
     abbrev o : OpenLines
@@ -221,14 +222,14 @@ module _ (options : Options) where
     settled-with : (b : Blocks) → ((following : List Row) → fed_before options following (Between Nil) (rows (take at text)) ≡ open_after options (take at text)) → open_after options (take at text) ≡ preceding b o → last_list None (close_lines (preceding b o)) ≡ last_list (list_before text from) (close_lines o) → IsSettledCut options text at
     settled-with b settled opened listed = record {
       line = line;
-      definitions = f.definitions;
+      unmarked = f.unmarked;
       within = f.within;
       apart = f.apart;
       complete = f.complete;
       settled = settled;
       parts = λ ahead. subst (λ x. Parts options x (row_at at line) ahead) (sym opened) (parts-front b o (row_at at line) ahead (f.parts ahead));
       begins = f.begins;
-      ends_list = λ ahead. ap (λ l. may_continue l (opens_at options Apart (row_at at line) ahead)) (ap (λ x. last_list None (close_lines x)) opened ∙ listed) ∙ f.ends_list ahead;
+      ends_list = λ ahead. ap (λ l. may_continue options.definition_list l (opens_at options Apart (row_at at line) ahead)) (ap (λ x. last_list None (close_lines x)) opened ∙ listed) ∙ f.ends_list ahead;
     }
 
     -- after the beginning of the text
@@ -300,7 +301,7 @@ module _ (options : Options) where
                 ∙ fed-split options following (Between Nil) (rows (take from text)) done
                 ∙ ap (λ x. fed_before options following x done) (h.settled (done ++ following))
                 ∙ ap (fed_before options following (open_after options (take from text))) did
-                ∙ ap (λ x. fed_before options following x rs) (parts-begin options (open_after options (take from text)) r ahead (h.parts ahead) ∙ apart-front options b r ahead (same-apart options b r ahead h.definitions))
+                ∙ ap (λ x. fed_before options following x rs) (parts-begin options (open_after options (take from text)) r ahead (h.parts ahead) ∙ apart-front options b r ahead (same-apart options b r ahead h.unmarked))
                 ∙ fed-front options b following (lines_begin options Nil r ahead) rs (apart-steady options b r ahead (h.begins ahead))
                 ∙ ap (λ l. preceding b (fed_before options following (Between Nil) l)) (sym did)
                 ∙ ap (preceding b) (f.settled following)

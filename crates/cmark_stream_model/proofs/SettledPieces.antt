@@ -1,5 +1,5 @@
 -- The bytes up to a line after a settled cut are joined at that cut, even if no byte follows the line at the cut in them.
-use Rattle.std.proofs.Common.{◌≡◌, inl, ⊎_elim, ℕ, ◌+◌, ◌<◌, ◌≤◌, true, false, List, [], ◌∷◌, ◌++◌, length, take, drop, refl, sym, ap, ◌∙◌, subst, arith, append-nil, append_assoc, length-append, None}
+use Rattle.std.proofs.Common.{◌≡◌, inl, ⊎_elim, ℕ, ◌+◌, ◌<◌, ◌≤◌, true, false, List, [], ◌∷◌, ◌++◌, length, take, drop, refl, sym, ap, ◌∙◌, subst, arith, append-nil, append_assoc, None}
 use Rattle.std.proofs.lemmas.List.{length-take-le, take-append-drop, take-take, length-drop}
 use Rattle.std.proofs.Math.Seq.{drop-append_seam}
 use Rattle.std.specs.Prelude.{◌-◌}
@@ -36,7 +36,7 @@ module _ (options : Options) (lookup : Lookup) (text : List ℕ) (from : ℕ) (h
 
   -- bytes after the cut whose first line is that of the text
   joined-before : (middle : List ℕ) (rs : List Row) → ends_whole front middle ≡ true → rows_from from (lines middle) ≡ r ∷ rs → IsJoinedAt options lookup (front ++ middle) from
-  joined-before middle rs apart first = subst (IsJoinedAt options lookup (front ++ middle)) size (joined-at options lookup front middle (ends-grow options h.definitions lookup front middle r rs apart are cut ends))
+  joined-before middle rs apart first = subst (IsJoinedAt options lookup (front ++ middle)) size (joined-at options lookup front middle (ends-grow options lookup front middle r rs apart are cut ends))
     where
       are : rows_from (length front) (lines middle) ≡ r ∷ rs
       are = ap (λ n. rows_from n (lines middle)) size ∙ first
@@ -47,7 +47,7 @@ module _ (options : Options) (lookup : Lookup) (text : List ℕ) (from : ℕ) (h
       ends : continues (last_list None (blocks_at options 0 front)) (blocks_at options (length front) middle) ≡ false
       ends =
           ap (λ ls. continues (last_list None (blocks_at options 0 front)) (close_lines (lines_feed_all options (Between Nil) ls))) are
-          ∙ lines-continue options h.definitions r rs (last_list None (blocks_at options 0 front)) (h.ends_list (shown rs))
+          ∙ lines-continue options r rs (last_list None (blocks_at options 0 front)) (h.ends_list (shown rs))
 
   module _ (to : ℕ) (less : from < to) (within : to ≤ length text) (whole : ends_whole (take to text) (drop to text) ≡ true) where
     abbrev middle : List ℕ

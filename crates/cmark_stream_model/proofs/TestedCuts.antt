@@ -1,6 +1,7 @@
--- A test for cuts that can be computed, if no definition lists are read. It depends on the lines before the cut, on the
+-- A test for cuts that can be computed. It depends on the lines before the cut, on the
 -- first line after it, and on the lines ahead of that line.
 use Rattle.std.proofs.Common.{◌≡◌, ℕ, true, false, List, ◌∷◌}
+use Rattle.cmark_grammar.specs.DefinitionLists.{begins_definition}
 use Rattle.cmark_grammar.specs.Openings.{opens_at}
 use Rattle.cmark_grammar.specs.Options.{Options}
 use Rattle.cmark_grammar.specs.Places.{Apart}
@@ -11,11 +12,11 @@ use Rattle.cmark_stream_model.specs.Growth.{is_blank, open_after, Parts, IsCut, 
 use Rattle.cmark_stream_model.proofs.GrowingTables.{same-apart}
 use Rattle.cmark_stream_model.proofs.Walls.{resolved-settled}
 
-pub tested-cut : (options : Options) → options.definition_list ≡ false → (front : List ℕ) (r : Row) (rs : List Row) → are_resolved (rows front) ≡ true → AreDecided options (r ∷ rs) (Between Nil) (rows front)
+pub tested-cut : (options : Options) → (front : List ℕ) (r : Row) (rs : List Row) → begins_definition options r ≡ false → are_resolved (rows front) ≡ true → AreDecided options (r ∷ rs) (Between Nil) (rows front)
     → Parts options (open_after options front) r (shown rs) → is_blank (opens_at options Apart r (shown rs)) ≡ false → IsCut options front r rs
-tested-cut options off front r rs resolved decided parts e = record {
+tested-cut options front r rs unmarked resolved decided parts e = record {
   settled = resolved-settled options front (r ∷ rs) resolved decided (r ∷ rs);
   parts = parts;
-  same = same-apart options (close_lines (open_after options front)) r (shown rs) off;
+  same = same-apart options (close_lines (open_after options front)) r (shown rs) unmarked;
   begins = e;
 }

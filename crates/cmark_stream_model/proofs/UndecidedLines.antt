@@ -6,7 +6,7 @@ use Rattle.cmark_grammar.specs.MetadataBlockKind.{MetadataBlockKind}
 use Rattle.cmark_grammar.specs.Options.{Options}
 use Rattle.cmark_grammar.specs.Rows.{Row, is_blank_line, shown}
 use Rattle.cmark_block_model.specs.BlocksByLine.{OpenLines, lines_feed}
-use Rattle.cmark_stream_model.specs.Growth.{fed_before, Parts, decide, decide_kind, AreDecided}
+use Rattle.cmark_stream_model.specs.Growth.{fed_before, Parts, decide, AreDecided}
 use Rattle.cmark_stream_model.specs.Undecided.{Undecided, Nothing, Begun, Open, Forever, decided_by, begun_by, left_open, undecided_after}
 use Rattle.cmark_stream_model.proofs.FirstLines.{blank-kind}
 

@@ -135,7 +135,7 @@ module _ (options : Options) where
   unfolding enter
   enter-blind k r e = blind-drop (width_of k r) r.columns e
 
-  blank-words : (r : Row) → is_blank_line r ≡ true → words_of r ≡ []
+  pub blank-words : (r : Row) → is_blank_line r ≡ true → words_of r ≡ []
   blank-words r e = go (without_indent r.columns) e
     where
       go : (cs : List Column) → is_bare cs ≡ true → bytes_of cs ≡ []

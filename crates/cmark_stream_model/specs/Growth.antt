@@ -170,16 +170,27 @@ abbrev pub continues : (list : Option ℕ) → Blocks → Bool
 continues None blocks = false
 continues (Some delimiter) blocks = goes_on delimiter blocks
 
--- whether the blocks that begin with this opening may continue this list
-abbrev pub may_continue : (list : Option ℕ) → Opening → Bool
-may_continue None opening = false
-may_continue (Some delimiter) Blank = true
-may_continue (Some delimiter) (Nests (BlockQuote alert)) = false
-may_continue (Some delimiter) (Nests (Item other number width task)) = other == delimiter
-may_continue (Some delimiter) (Nests (Footnote label old size)) = false
-may_continue (Some delimiter) (Nests (ListDefinition width)) = true
-may_continue (Some delimiter) (Takes leaf more) = false
-may_continue (Some delimiter) Plain = false
+-- whether the blocks that begin with this opening may continue this list. If definition lists are read, a paragraph may be the next title of
+-- one
+abbrev pub may_continue : (titles : Bool) → (list : Option ℕ) → Opening → Bool
+may_continue titles None opening = false
+may_continue titles (Some delimiter) Blank = true
+may_continue titles (Some delimiter) (Nests (BlockQuote alert)) = false
+may_continue titles (Some delimiter) (Nests (Item other number width task)) = other == delimiter
+may_continue titles (Some delimiter) (Nests (Footnote label old size)) = false
+may_continue titles (Some delimiter) (Nests (ListDefinition width)) = true
+may_continue titles (Some delimiter) (Takes leaf more) = false
+may_continue titles (Some delimiter) Plain = titles && (definition_delimiter == delimiter)
+
+-- this opening continues no list, and begins no paragraph, which may be a title
+abbrev pub stands_apart : Opening → Bool
+stands_apart Blank = false
+stands_apart (Nests (BlockQuote alert)) = true
+stands_apart (Nests (Item delimiter number width task)) = false
+stands_apart (Nests (Footnote label old size)) = true
+stands_apart (Nests (ListDefinition width)) = false
+stands_apart (Takes leaf more) = true
+stands_apart Plain = false
 
 -- the document of a text is the document of its first bytes, joined with the document of the tail
 abbrev pub IsJoined : Options → Lookup → (front tail : List ℕ) → Type 0

@@ -15,7 +15,7 @@ loop-self-init g c = (
   c.requires.good,
   refl,
   subst (IsCharBoundary c.args.self.now.text.now) c.requires.starts.line_end c.requires.good.begins,
-  λ settled. searches-start g.E.EntityLookup.replacement c.args.self.now c.args.from c.requires.good c.requires.starts c.requires.definitions settled (not (c.args.from == 0)) (is-first c.args.from),
+  λ settled. searches-start g.E.EntityLookup.replacement c.args.self.now c.args.from c.requires.good c.requires.starts settled (not (c.args.from == 0)) (is-first c.args.from),
 )
 
 pub facts_of-facts-requires : goal.facts_of-facts-requires
@@ -56,8 +56,8 @@ loop-self-preserved g c =
           (subst (λ t. IsCharBoundary t old.line_end) (ap (λ t. t.now) c.loop-self.invariant.1) c.loop-self.invariant.0.begins) c.loop-self.invariant.2,
       λ settled. searches-step replacement first.text.now (shown_options first.options) (replacement first.entities.now) c.args.from old c.feed.new.self c.new-line.result c.loop-self.search.cut c.loop-self.search.is_resolved c.loop-self.search.after_item (shown_undecided c.loop-self.search.undecided)
           (c.loop-self.invariant.3 settled) c.as_bytes.result.now same lt c.new-line.ensures.line (c.new-line.ensures.further lt)
-          facts.result.begins facts.result.is_outside facts.result.is_decided facts.result.is_blank facts.result.is_blind
-          facts.ensures.begins facts.ensures.is_outside facts.ensures.is_decided facts.ensures.is_blank facts.ensures.is_blind
+          facts.result.begins facts.result.lists.is_outside facts.result.lists.is_apart facts.result.lists.is_marked facts.result.is_decided facts.result.is_blank facts.result.is_blind
+          facts.ensures.begins facts.ensures.is_outside facts.ensures.is_unmarked facts.ensures.is_apart facts.ensures.is_marked facts.ensures.is_decided facts.ensures.is_blank facts.ensures.is_blind
           c.in_ok-feed.ensures.runs c.feed.ensures.good c.in_ok-feed.ensures.line_end
           c.after-search.result.cut c.after-search.result.is_resolved c.after-search.result.after_item (shown_undecided c.after-search.result.undecided) c.after-search.ensures.cut c.after-search.ensures.resolved c.after-search.ensures.after_item
           (ap shown_undecided c.after-search.ensures.undecided ∙ c.after-undecided.ensures),
