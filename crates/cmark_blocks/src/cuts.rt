@@ -1,13 +1,10 @@
 //! The search for the last cut of a text that grows: a line before which the blocks stay as they are, whatever follows the text.
 
-ghost use Rattle.std.specs.Prelude.{◌≡◌, ◌≤◌, ◌&&◌, ◌||◌, not, true, ℕ, List, IfOk, IsCharBoundary, if◌then◌else◌};
+ghost use Rattle.std.specs.Prelude.{◌≡◌, ◌≤◌, ◌&&◌, ◌||◌, not, ℕ, IfOk, IsCharBoundary, if◌then◌else◌};
 ghost use Rattle.std.specs.List.{list_all};
 ghost use Rattle.cmark_grammar.specs.Columns.{bytes_of};
 ghost use Rattle.cmark_grammar.specs.Containers as grammar;
 ghost use Rattle.cmark_grammar.specs.Containers.{keeps};
-ghost use Rattle.cmark_grammar.specs.Openings.{opens_at};
-ghost use Rattle.cmark_grammar.specs.Places.{Apart};
-ghost use Rattle.cmark_grammar.specs.Rows.{Row};
 ghost use Rattle.cmark_line_rules.specs.Continuations.{shown_continuation};
 ghost use Rattle.cmark_line_rules.specs.Rests.{row_of};
 ghost use Rattle.cmark_line_rules.specs.Starts.{Shows};
@@ -355,7 +352,7 @@ impl<'a, E: EntityLookup> Pass<'a, E> {
 /// The search misses some cuts:
 ///
 /// - It finds no cut before a line that begins with a pipe, that no further byte follows, or that may continue a list.
-/// - If definition lists are read, it finds no cut before a line with a definition's marker, or before a paragraph after a list.
+/// - It finds no cut before a definition. If definition lists are read, it finds none before a paragraph after a list.
 /// - It finds no cut after a line that may begin metadata whose end may still come.
 /// - After a line with a bracket or a pipe it finds no cut up to the next blank line.
 ///
