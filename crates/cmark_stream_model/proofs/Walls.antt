@@ -407,7 +407,7 @@ module _ (options : Options) where
       ∙ quiet-begins (opens_at options place r b) (inside a) closed r
       ∙ begins-inside (opens_at options place r b) (inside a) (inside b) closed r
       (λ k e. begin_in-same n (place_in k) Nil (enter k r) (within k (is_bare_start k r) a) (within k (is_bare_start k r) b) (enter-wholly options k r w)
-          (none-told (enter k r) (within k (is_bare_start k r) a) (within k (is_bare_start k r) b) (inr (enter-none options k place r b e w))) (sees-entered k (is_bare_start k r) r a b h))
+      (none-told (enter k r) (within k (is_bare_start k r) a) (within k (is_bare_start k r) b) (inr (enter-none options k place r b e w))) (sees-entered k (is_bare_start k r) r a b h))
     where
       inside : List Row → Container → OpenLines
       inside x k = lines_begin_in options n (place_in k) Nil (enter k r) (within k (is_bare_start k r) x)
@@ -465,7 +465,7 @@ module _ (options : Options) where
       ap (λ z. lines_kept_or (keeps k bare r) (z && lines_take_lazy inside) (on (lines_feed options inside (strip k bare r) (within k false a))) (lines_begin options off r a)) (lazily-same k r a b h)
       ∙ ap (λ x. lines_kept_or (keeps k bare r) (lazily options k r b && lines_take_lazy inside) (on x) (lines_begin options off r a))
       (feed-same inside (strip k bare r) (within k false a) (within k false b) p.1 (strip-wholly options k bare r p.0 w)
-          (λ begins. none-told (strip k bare r) (within k false a) (within k false b) (strip-told options k bare r p.0 w)) (sees-inside k bare false r a b h))
+      (λ begins. none-told (strip k bare r) (within k false a) (within k false b) (strip-told options k bare r p.0 w)) (sees-inside k bare false r a b h))
       ∙ go (keeps k bare r) refl (lazily options k r b && lines_take_lazy inside) refl
     where
       bare : Bool
