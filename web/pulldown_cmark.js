@@ -421,9 +421,9 @@ var pulldownCmark = ((records) => {
      * A text that grows at its end, such as the output of a language model, with the HTML of all of it. `settled` is the HTML of blocks that
      * no further text changes, as long as the text defines neither a link nor a footnote. `tail` is the HTML of the other blocks.
      *
-     * A refresh reads the lines after the settled blocks. It reads the whole text in three cases: the text defines a link or a footnote, the
-     * options enable metadata or definition lists, or the text is one block. `isDue` says when a refresh is worth it. `safe` and `schemes` are
-     * as for `html`, and `expansionLimit` too, which is 100,000 by default.
+     * A refresh reads the lines after the settled blocks. It reads the whole text in three cases: the text defines a link or a footnote, a
+     * line may begin metadata whose end may still come, or the text is one block. `isDue` says when a refresh is worth it. `safe` and
+     * `schemes` are as for `html`, and `expansionLimit` too, which is 100,000 by default.
      */
     class Stream {
       #bits;

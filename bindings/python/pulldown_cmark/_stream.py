@@ -23,8 +23,8 @@ class Stream:
 
     The HTML is in two parts. ``settled`` is the HTML of blocks that no further text changes, as long as the text defines neither a link nor
     a footnote. ``tail`` is the HTML of the other blocks. A refresh reads the lines after the settled blocks; of the others it only checks
-    that they are UTF-8. It reads the whole text in three cases: the text defines a link or a footnote, the options enable metadata or
-    definition lists, or the text is one block. ``is_due`` says when a refresh is worth it.
+    that they are UTF-8. It reads the whole text in three cases: the text defines a link or a footnote, a line may begin metadata whose end
+    may still come, or the text is one block. ``is_due`` says when a refresh is worth it.
 
     The HTML is not safe to show if the text comes from a stranger; with ``safe=True`` it is safe. ``options``, ``safe`` and ``schemes`` are
     as for ``html``. Once the destinations and titles of references have ``expansion_limit`` bytes in all, further references stay text.

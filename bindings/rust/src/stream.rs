@@ -17,8 +17,8 @@ pub enum Change {
 ///
 /// The HTML is in two parts. [`settled`](Stream::settled) is the HTML of blocks that no further text changes, as long as the text defines
 /// neither a link nor a footnote. [`tail`](Stream::tail) is the HTML of the other blocks. A refresh reads the lines after the settled blocks;
-/// of the others it only checks that they are UTF-8. It reads the whole text in three cases: the text defines a link or a footnote, the
-/// options enable metadata or definition lists, or the text is one block. [`is_due`](Stream::is_due) says when a refresh is worth it.
+/// of the others it only checks that they are UTF-8. It reads the whole text in three cases: the text defines a link or a footnote, a line
+/// may begin metadata whose end may still come, or the text is one block. [`is_due`](Stream::is_due) says when a refresh is worth it.
 ///
 /// ```
 /// use pulldown_cmark::{Change, Options, Stream};

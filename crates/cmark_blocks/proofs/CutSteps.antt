@@ -3,9 +3,10 @@ use Rattle.std.proofs.Common.{◌≡◌, ℕ, zero, suc, ◌+◌, ◌==◌, Bool
 use Rattle.cmark_grammar.specs.Answers.{Lookup}
 use Rattle.cmark_grammar.specs.Containers.{Container, BlockQuote, Item, Footnote, ListDefinition, keeps, strip, is_bare_start, bare_after}
 use Rattle.cmark_grammar.specs.HtmlBlocks.{html_continuation}
-use Rattle.cmark_grammar.specs.Leaves.{Continuation, GoesOn, Closes, Waits, Stops, underlines, code_continuation, closes_fence}
-use Rattle.cmark_grammar.specs.Metadata.{ends_metadata}
-use Rattle.cmark_grammar.specs.Openings.{Leaf, ThematicBreak, AtxHeading, IndentedCode, FencedCode, HtmlBlock, LinkDefinition, MetadataBlock, Table, is_none, interrupts, texts, lazily, text_lines, defined_if, or_else, table_if}
+use Rattle.cmark_grammar.specs.Leaves.{Continuation, GoesOn, Closes, Waits, Stops, counted, underlines, code_continuation, closes_fence}
+use Rattle.cmark_grammar.specs.Metadata.{ends_metadata, holds_metadata, metadata_continuation}
+use Rattle.cmark_grammar.specs.MetadataBlockKind.{MetadataBlockKind}
+use Rattle.cmark_grammar.specs.Openings.{Leaf, ThematicBreak, AtxHeading, IndentedCode, FencedCode, HtmlBlock, LinkDefinition, MetadataBlock, Table, Opening, Takes, Plain, metadata_begun, is_none, interrupts, texts, lazily, text_lines, defined_if, or_else, table_if}
 use Rattle.cmark_grammar.specs.Options.{Options}
 use Rattle.cmark_grammar.specs.Rows.{Row}
 use Rattle.cmark_grammar.specs.Blocks.{Blocks, Nil, Paragraph, SetextHeading, LeafBlock, ContainerBlock, join}
@@ -17,7 +18,8 @@ use Rattle.cmark_block_model.specs.OpenBlocks.{takes_lazy}
 use Rattle.cmark_block_model.proofs.Mirror.{Fits, is_looked_up, leaf_left, verbatim_leaf, leaf_at, containers_at, bare_at, pass_at}
 use Rattle.cmark_block_model.proofs.Replay.{Level, entered, replay}
 use Rattle.cmark_blocks.proofs.LineFacts.{takes-lazy, bare-flag, only-one}
-use Rattle.cmark_stream_model.specs.Growth.{Parts, is_outside_of_lists, last_list}
+use Rattle.cmark_stream_model.specs.Growth.{Parts, is_outside_of_lists, last_list, may_continue}
+use Rattle.cmark_stream_model.proofs.FirstLines.{outside-any, apart-any}
 use Rattle.cmark_stream_model.proofs.Fronts.{Steady}
 use Rattle.cmark_stream_model.proofs.SettledCuts.{last-join}
 use Rattle.cmark_line_rules.proofs.LazyRows.{whole-texts}
@@ -31,7 +33,7 @@ use Rattle.cmark_line_rules.specs.declared.opening.Opening.TheVariants as openin
 use Rattle.cmark_line_rules.specs.declared.container.ContainerStart.TheVariants as start
 use Rattle.cmark_blocks.specs.Shown.{ShowsContainers}
 use Rattle.cmark_blocks.specs.declared.state.OpenContainer.{OpenContainer}
-use Rattle.cmark_blocks.specs.Cuts.{is_outside, stops, is_missed, ends_leaf, ends_paragraph, ends_outer, ends_all}
+use Rattle.cmark_blocks.specs.Cuts.{is_outside, is_apart, stops, is_missed, ends_leaf, ends_paragraph, ends_outer, ends_all}
 
 pub both-true : (a b : Bool) → (a && b) ≡ true → (a ≡ true) × (b ≡ true)
 both-true true b e = (refl, e)
@@ -57,6 +59,17 @@ stops-is Stops e = refl
 
 zero-is : (n : ℕ) → (n == 0) ≡ true → n ≡ 0
 zero-is n e = grind (arith)
+
+-- a leaf of which no line is left ends
+none-left : (leaf : Leaf) (by : Bool) (r : Row) → ends_leaf by (leaf_left leaf 0) r ≡ true
+none-left ThematicBreak by r = refl
+none-left (AtxHeading level) by r = refl
+none-left IndentedCode by r = refl
+none-left (FencedCode fence) by r = refl
+none-left (HtmlBlock kind) by r = refl
+none-left (MetadataBlock kind) by r = refl
+none-left (LinkDefinition definition) by r = refl
+none-left (Table alignments) by r = refl
 
 -- a choice between going on and closing does not stop
 chosen-stops : (z : Bool) → (if z then Closes else GoesOn) ≡ Stops → ⊥
@@ -141,6 +154,31 @@ module _ (text : List ℕ) (options : Options) (lookup : Lookup) where
       cs : List model.OpenContainer
       cs = containers_at text options lookup inside (entered k first (replay text options lookup closed l))
 
+  -- and the other way round
+  pub parts-ends : (o : OpenLines) (x : List Row) (l : Level) (n : ℕ) (r : Row) (ahead : List Row) → Fits false o x n → r.lazy ≡ false
+      → Parts options o r ahead → ends_all text options lookup (pass_at text options lookup o x l [] false n) r ahead ≡ true
+  parts-ends (Between closed) x l n r ahead f whole p = refl
+  parts-ends AfterTag x l n r ahead f whole p = absurd p
+  parts-ends (InParagraph closed first more) x l n r ahead f whole p = ap (λ u. is_none u && not (texts options r ahead)) p.0 ∙ ap not p.1
+  parts-ends (InLeaf closed leaf first had left) x l n r ahead f whole p = ap (λ k. ends_leaf (ends_paragraph text options lookup r ahead) (leaf_left leaf k) r) p ∙ none-left leaf (ends_paragraph text options lookup r ahead) r
+  parts-ends (InVerbatim closed v first had waiting) x l n r ahead f whole p = go v (ap (λ z. continuation_if z v r) (sym whole) ∙ p)
+    where
+      go : (v : Verbatim) → continuation_in v r ≡ Stops → ends_leaf (ends_paragraph text options lookup r ahead) (verbatim_leaf text options lookup v first had waiting) r ≡ true
+      go Indented q = ap stops q
+      go (Fenced fence) q = absurd (chosen-stops (closes_fence fence r) q)
+      go (HtmlLines kind) q = ap stops q
+      go (Metadata kind) q = absurd (chosen-stops (ends_metadata kind r) q)
+  parts-ends (InContainer closed k first more inside) x l n r ahead f whole p =
+      ap (λ o. is_missed o && not (lazily options k r ahead && takes_lazy (leaf_at text options lookup inside)))
+      (ap (λ b. keeps k b r) (bare-flag text options lookup inside bare (within k bare x) n (entered k first c) f.2) ∙ p.0)
+      ∙ ap not (ap (λ t. lazily options k r ahead && t) (takes-lazy text options lookup inside) ∙ p.1)
+    where
+      bare : Bool
+      bare = bare_after (is_bare_start k first) more
+
+      c : Level
+      c = replay text options lookup closed l
+
   -- any other line leaves the list that may continue after the open blocks
   pub stays-list : (list : Option ℕ) (o : OpenLines) (x : List Row) (l : Level) (n : ℕ) (r : Row) (ahead : List Row) → Steady Nil o → Fits false o x n → r.lazy ≡ false
       → ends_all text options lookup (pass_at text options lookup o x l [] false n) r ahead ≡ false → last_list list (close_lines (lines_feed options o r ahead)) ≡ last_list list (close_lines o)
@@ -159,17 +197,7 @@ module _ (text : List ℕ) (options : Options) (lookup : Lookup) where
       go (Some level) t q = last-join options list closed (SetextHeading level first more r Nil) ∙ sym before
       go None true q = last-join options list closed (Paragraph first (more ++ r ∷ []) Nil) ∙ sym before
       go None false q = absurd (true≢false q)
-  stays-list list (InLeaf closed leaf first had zero) x l n r ahead s f whole e = absurd (true≢false (sym (go leaf) ∙ e))
-    where
-      go : (leaf : Leaf) → ends_leaf (ends_paragraph text options lookup r ahead) (leaf_left leaf 0) r ≡ true
-      go ThematicBreak = refl
-      go (AtxHeading level) = refl
-      go IndentedCode = refl
-      go (FencedCode fence) = refl
-      go (HtmlBlock kind) = refl
-      go (MetadataBlock kind) = refl
-      go (LinkDefinition definition) = refl
-      go (Table alignments) = refl
+  stays-list list (InLeaf closed leaf first had zero) x l n r ahead s f whole e = absurd (true≢false (sym (none-left leaf (ends_paragraph text options lookup r ahead) r) ∙ e))
   stays-list list (InLeaf closed leaf first had (suc left)) x l n r ahead s f whole e = last-leaf options list closed leaf first (had ++ r ∷ []) ∙ sym (last-leaf options list closed leaf first had)
   stays-list list (InVerbatim closed v first had waiting) x l n r ahead s f whole e =
       last-line options list (continuation_if r.lazy v r) closed v first had waiting r off (λ q. go v e (ap (λ z. continuation_if z v r) (sym whole) ∙ q))
@@ -256,6 +284,41 @@ outside-opened options r ahead opening.Plain = go (table_head options r ahead)
     go (Some alignments) = refl
     go None = refl
 
+-- nor if the line may begin metadata
+pub outside-metadata : (kind : Option MetadataBlockKind) (ahead : List Row) (o : Opening) → is_outside_of_lists o ≡ true → is_outside_of_lists (or_else (metadata_begun kind ahead) o) ≡ true
+outside-metadata None ahead o e = e
+outside-metadata (Some kind) ahead o e = go (holds_metadata kind ahead)
+  where
+    go : (z : Bool) → is_outside_of_lists (or_else (if z then Takes (MetadataBlock kind) (counted (metadata_continuation kind) ahead) else Plain) o) ≡ true
+    go true = refl
+    go false = e
+
+-- a line with an opening continues no list, whatever is ahead
+pub opened-apart : (titles : Bool) (list : Option ℕ) (options : Options) (r : Row) (ahead : List Row) (o : Opened) → is_apart titles o ≡ true → may_continue titles list (opened options o r ahead) ≡ false
+opened-apart titles list options r ahead opening.Blank e = absurd (true≢false (sym e))
+opened-apart titles list options r ahead (opening.Nests (start.BlockQuote rest)) e = apart-any titles list (opened options (opening.Nests (start.BlockQuote rest)) r ahead) refl
+opened-apart titles list options r ahead (opening.Nests (start.Item item rest)) e = absurd (true≢false (sym e))
+opened-apart titles list options r ahead (opening.Nests (start.Footnote footnote rest)) e = apart-any titles list (opened options (opening.Nests (start.Footnote footnote rest)) r ahead) refl
+opened-apart titles list options r ahead opening.IndentedCode e = apart-any titles list (opened options opening.IndentedCode r ahead) refl
+opened-apart titles list options r ahead (opening.Html kind) e = apart-any titles list (opened options (opening.Html kind) r ahead) refl
+opened-apart titles list options r ahead opening.ThematicBreak e = apart-any titles list (opened options opening.ThematicBreak r ahead) refl
+opened-apart titles list options r ahead (opening.AtxHeading level) e = apart-any titles list (opened options (opening.AtxHeading level) r ahead) refl
+opened-apart titles list options r ahead (opening.FencedCode indent fence) e = apart-any titles list (opened options (opening.FencedCode indent fence) r ahead) refl
+opened-apart true list options r ahead opening.Bracket e = absurd (true≢false (sym e))
+opened-apart false list options r ahead opening.Bracket e = outside-any list (opened options opening.Bracket r ahead) (sym (outside-opened options r ahead opening.Bracket))
+opened-apart true list options r ahead opening.Plain e = absurd (true≢false (sym e))
+opened-apart false list options r ahead opening.Plain e = outside-any list (opened options opening.Plain r ahead) (sym (outside-opened options r ahead opening.Plain))
+
+-- nor if the line may begin metadata
+pub metadata-apart : (titles : Bool) (list : Option ℕ) (kind : Option MetadataBlockKind) (ahead : List Row) (o : Opening) → may_continue titles list o ≡ false → may_continue titles list (or_else (metadata_begun kind ahead) o) ≡ false
+metadata-apart titles None kind ahead o e = refl
+metadata-apart titles (Some d) None ahead o e = e
+metadata-apart titles (Some d) (Some kind) ahead o e = go (holds_metadata kind ahead)
+  where
+    go : (z : Bool) → may_continue titles (Some d) (or_else (if z then Takes (MetadataBlock kind) (counted (metadata_continuation kind) ahead) else Plain) o) ≡ false
+    go true = refl
+    go false = e
+
 -- if no container is open, the model has none
 pub none-open : (cs : List OpenContainer) (ms : List model.OpenContainer) → length cs ≡ 0 → ShowsContainers cs ms → ms ≡ []
 none-open [] [] e s = refl
@@ -284,7 +347,3 @@ only-first text options lookup (c ∷ cs) (n ∷ ms) m others s e = only-one tex
     rest : List model.OpenContainer → List model.OpenContainer
     rest [] = []
     rest (x ∷ xs) = xs
-
-pub neither : (a b : Bool) → (a || b) ≡ false → (a ≡ false) × (b ≡ false)
-neither true b e = absurd (true≢false e)
-neither false b e = (refl, e)

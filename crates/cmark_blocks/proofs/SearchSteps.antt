@@ -7,6 +7,7 @@ use Rattle.std.proofs.lemmas.List.{take-append-drop, length-take-le}
 use Rattle.std.proofs.Math.Seq.{take-append_seam, drop-append_seam}
 use Rattle.cmark_grammar.specs.Answers.{Lookup}
 use Rattle.cmark_grammar.specs.Columns.{Column, tab, tab_columns, to_tab_stop, expand, bytes_of}
+use Rattle.cmark_grammar.specs.DefinitionLists.{begins_definition}
 use Rattle.cmark_grammar.specs.Lines.{lines, content}
 use Rattle.cmark_grammar.specs.Openings.{opens_at}
 use Rattle.cmark_grammar.specs.Options.{Options}
@@ -25,10 +26,13 @@ use Rattle.cmark_block_model.proofs.Mirror.{Fits, pass_at}
 use Rattle.cmark_block_model.proofs.Replay.{Noted}
 use Rattle.cmark_block_model.proofs.Theorem.{bottom_after}
 use Rattle.cmark_blocks.proofs.LineFacts.{one-fed, next-fits, shown-whole, whole-rows}
-use Rattle.cmark_stream_model.specs.Growth.{ends_whole, fed_before, open_after, Parts, looks_ahead, are_blind, are_resolved, HasNoMetadata, is_outside_of_lists, is_blank, last_list, may_continue}
+use Rattle.cmark_stream_model.specs.Growth.{ends_whole, fed_before, open_after, Parts, looks_ahead, are_blind, are_resolved, is_outside_of_lists, is_blank, last_list, may_continue}
 use Rattle.cmark_stream_model.specs.Settled.{IsSettledCut, IsSettledAt}
-use Rattle.cmark_stream_model.proofs.FirstLines.{outside-any, not-blank, outside-begins, blank-begins, parts-any, resolved-blind, resolved-blank}
+use Rattle.cmark_stream_model.specs.Undecided.{Undecided, Nothing, Begun, Open, Forever, is_nothing, undecided_after}
+use Rattle.cmark_stream_model.proofs.FirstLines.{not-blank, outside-begins, blank-begins, parts-any, resolved-blind, resolved-blank}
 use Rattle.cmark_stream_model.proofs.Fronts.{Steady, feed-steady, parts-begin}
+use Rattle.cmark_stream_model.proofs.MetadataLines.{AreLines, are-lines, lines-front}
+use Rattle.cmark_stream_model.proofs.UndecidedLines.{Leaves, leaves-none, leaves-nothing, leaves-next}
 use Rattle.cmark_stream_model.proofs.SettledCuts.{Found, list_before, further}
 use Rattle.cmark_stream_model.proofs.Walls.{fed-settled}
 use Rattle.cmark_stream_model.proofs.WholeLines.{Parted, first-parted, first-complete, whole-longer}
@@ -40,7 +44,7 @@ use Rattle.cmark_blocks.specs.LineByLine.{Feeds}
 use Rattle.cmark_blocks.specs.Cuts.{ends_all, Tells, StartsAt}
 use Rattle.cmark_blocks.specs.Runs.{Runs, IsGood}
 use Rattle.cmark_blocks.specs.declared.state.Pass.{Pass}
-use Rattle.cmark_blocks.proofs.CutSteps.{both-true, not-true, ends-parts, stays-list}
+use Rattle.cmark_blocks.proofs.CutSteps.{both-true, not-true, ends-parts, parts-ends, stays-list}
 
 -- ## Bytes and columns that look at no later line
 
@@ -92,16 +96,16 @@ module _ (options : Options) where
       go true false q = refl
       go false b q = refl
 
-module _ (text : List ℕ) (options : Options) (lookup : Lookup) (metadata : HasNoMetadata options) (off : options.definition_list ≡ false) (from : ℕ) (begun : IsSettledAt options text from) where
+module _ (text : List ℕ) (options : Options) (lookup : Lookup) (from : ℕ) (begun : IsSettledAt options text from) where
   abbrev none_noted : Noted
   none_noted = record { references = []; footnotes = [] }
 
   -- What is known between two lines, the next of which begins at an offset:
   --
   -- - done: the lines from the earlier cut on; o: what is open after them, if nothing was open before them;
-  -- - resolved, listed: what the search keeps;
+  -- - resolved, listed, leaves: what the search keeps;
   -- - settled: the last cut so far
-  pub record Searched (n : ℕ) (m : model.Pass) (cut : ℕ) (is_resolved after_item : Bool) : Type 0 where
+  pub record Searched (n : ℕ) (m : model.Pass) (cut : ℕ) (is_resolved after_item : Bool) (left : Undecided) : Type 0 where
     pub done : List Row
     pub o : OpenLines
     pub is : o ≡ fed_before options (lines_at text n) (Between Nil) done
@@ -114,12 +118,13 @@ module _ (text : List ℕ) (options : Options) (lookup : Lookup) (metadata : Has
     pub unmarked : OpenUnmarked o
     pub fits : Fits false o (shown (lines_at text n)) n
     pub resolved : is_resolved ≡ true → are_resolved done ≡ true
+    pub leaves : Leaves options (lines_at text n) (Between Nil) done left
     pub listed : after_item ≡ false → last_list (list_before options text from) (close_lines o) ≡ None
     pub settled : IsSettledAt options text cut
     pub order : from ≤ cut
     pub boundary : IsCharBoundary text cut
 
-  pub search-start : IsCharBoundary text from → (after_item : Bool) → (after_item ≡ false → from ≡ 0) → Searched from (starting_at from [] []) from true after_item
+  pub search-start : IsCharBoundary text from → (after_item : Bool) → (after_item ≡ false → from ≡ 0) → Searched from (starting_at from [] []) from true after_item Nothing
   search-start boundary after_item first = record {
     done = [];
     o = Between Nil;
@@ -133,17 +138,27 @@ module _ (text : List ℕ) (options : Options) (lookup : Lookup) (metadata : Has
     unmarked = tt;
     fits = tt;
     resolved = λ e. refl;
+    leaves = leaves-none options (lines_at text from) (Between Nil) Nothing;
     listed = λ e. ap (λ n. last_list None (close_lines (open_after options (take n text)))) (first e);
     settled = begun;
     order = omega arith;
     boundary = boundary;
   }
 
-  module _ (n : ℕ) (m : model.Pass) (cut : ℕ) (is_resolved after_item : Bool) (s : Searched n m cut is_resolved after_item) (lt : n < length text) (boundary : IsCharBoundary text n)
+  nothing-left : (following : List Row) (o : OpenLines) (done : List Row) (left : Undecided) → is_nothing left ≡ true → Leaves options following o done left → Leaves options following o done Nothing
+  nothing-left following o done Nothing e h = h
+  nothing-left following o done (Begun kind) e h = absurd (true≢false (sym e))
+  nothing-left following o done (Open kind) e h = absurd (true≢false (sym e))
+  nothing-left following o done Forever e h = absurd (true≢false (sym e))
+
+  module _ (n : ℕ) (m : model.Pass) (cut : ℕ) (is_resolved after_item : Bool) (left : Undecided) (s : Searched n m cut is_resolved after_item left) (lt : n < length text) (boundary : IsCharBoundary text n)
       (r : Row) (line : List ℕ) (others : List (List ℕ)) (lines_are : lines (drop n text) ≡ line ∷ others) (r_is : r ≡ row_at n line) (next : lines_at text n ≡ r ∷ lines_at text r.line_end)
-      (begins outside decided blank blind : Bool)
+      (begins outside apart marked decided blank blind : Bool)
       (begins_is : begins ≡ (not (is_blank_line r) && ends_all text options lookup m r (lines_at text r.line_end)))
-      (outside_is : (ahead : List Row) → outside ≡ is_outside_of_lists (opens_at options Apart r ahead))
+      (outside_is : outside ≡ true → (ahead : List Row) → is_outside_of_lists (opens_at options Apart r ahead) ≡ true)
+      (unmarked_is : outside ≡ true → begins_definition options r ≡ false)
+      (apart_is : apart ≡ true → (list : Option ℕ) (ahead : List Row) → may_continue options.definition_list list (opens_at options Apart r ahead) ≡ false)
+      (marked_is : marked ≡ begins_definition options r)
       (decided_is : decided ≡ (not (nat_le (indent_of r) 3 && begins_with_pipe (words_of r)) && nat_lt r.line_end (length text)))
       (blank_is : blank ≡ is_blank_line r) (blind_is : blind ≡ list_all (λ b. not (looks_ahead b)) (bytes_of r.columns)) where
     abbrev rest : List Row
@@ -187,7 +202,7 @@ module _ (text : List ℕ) (options : Options) (lookup : Lookup) (metadata : Has
             → last_list (list_before options text from) (close_lines (lines_feed options s.o r (shown (lines_at text r.line_end)))) ≡ None
         go true false e q true w l =
             ap (λ o. last_list list (close_lines o)) (begins-anew e)
-            ∙ outside-begins options off list (close_lines s.o) r (shown rest) (sym (outside_is (shown rest)) ∙ un-not outside l)
+            ∙ outside-begins options list (close_lines s.o) r (shown rest) (unmarked_is (un-not outside l)) (outside_is (un-not outside l) (shown rest))
           where
             un-not : (x : Bool) → not x ≡ false → x ≡ true
             un-not true h = refl
@@ -195,12 +210,21 @@ module _ (text : List ℕ) (options : Options) (lookup : Lookup) (metadata : Has
         go true false e q false w l = absurd (true≢false (sym (w ∙ ap (λ b. not b && ends) q ∙ e)))
         go true true e q true w l = absurd (true≢false (w ∙ ap (λ b. not b && ends) q))
         go true true e q false w l =
-            ap (λ o. last_list list (close_lines o)) (begins-anew e) ∙ blank-begins options metadata off list (close_lines s.o) r (shown rest) whole q ∙ s.listed l
+            ap (λ o. last_list list (close_lines o)) (begins-anew e) ∙ blank-begins options list (close_lines s.o) r (shown rest) whole q ∙ s.listed l
         go false b e q true w l = absurd (true≢false (w ∙ ap (λ z. not (is_blank_line r) && z) e ∙ and-off (not (is_blank_line r))))
         go false b e q false w l =
             ap (λ a. last_list list (close_lines (lines_feed options s.o r a))) all-shown
             ∙ stays-list text options lookup list s.o (shown (r ∷ rest)) (bottom_after none_noted) n r rest s.steady fits whole (ap (λ p. ends_all text options lookup p r rest) (sym at) ∙ e)
             ∙ s.listed l
+
+    -- a line that continues no open block and is not blank begins a block
+    began : Parts options (fed_before options (r ∷ rest) (Between Nil) s.done) r (shown rest) → is_blank_line r ≡ false → begins ≡ true
+    began parts q =
+        begins_is
+        ∙ ap (λ b. not b && ends) q
+        ∙ ap (λ p. ends_all text options lookup p r rest) at
+        ∙ parts-ends text options lookup s.o (shown (r ∷ rest)) (bottom_after none_noted) n r rest fits whole
+        (subst (Parts options s.o r) all-shown (subst (λ o. Parts options o r (shown rest)) (sym (s.is ∙ ap (λ l. fed_before options l (Between Nil) s.done) next)) parts))
 
     resolved : (blind && (blank || is_resolved)) ≡ true → are_resolved (s.done ++ r ∷ []) ≡ true
     resolved e = go (is_blank_line r) refl is_resolved (λ q. s.resolved q) (sym (ap (λ b. b || is_resolved) blank_is) ∙ h.1)
@@ -216,17 +240,23 @@ module _ (text : List ℕ) (options : Options) (lookup : Lookup) (metadata : Has
         go false q k earlier t = resolved-blind options s.done r (earlier t) sees-none
 
     -- the line is a cut
-    is-cut : (begins && (is_resolved && (decided && (outside || not after_item)))) ≡ true → IsSettledAt options text n
+    is-cut : (begins && ((is_resolved && is_nothing left) && (decided && (not marked && (apart || not after_item))))) ≡ true → IsSettledAt options text n
     is-cut e = further options text from n s.done line found begun
       where
-        one : (begins ≡ true) × ((is_resolved && (decided && (outside || not after_item))) ≡ true)
-        one = both-true begins (is_resolved && (decided && (outside || not after_item))) e
+        one : (begins ≡ true) × (((is_resolved && is_nothing left) && (decided && (not marked && (apart || not after_item)))) ≡ true)
+        one = both-true begins ((is_resolved && is_nothing left) && (decided && (not marked && (apart || not after_item)))) e
 
-        two : (is_resolved ≡ true) × ((decided && (outside || not after_item)) ≡ true)
-        two = both-true is_resolved (decided && (outside || not after_item)) one.1
+        two : ((is_resolved && is_nothing left) ≡ true) × ((decided && (not marked && (apart || not after_item))) ≡ true)
+        two = both-true (is_resolved && is_nothing left) (decided && (not marked && (apart || not after_item))) one.1
 
-        three : (decided ≡ true) × ((outside || not after_item) ≡ true)
-        three = both-true decided (outside || not after_item) two.1
+        settled : (is_resolved ≡ true) × (is_nothing left ≡ true)
+        settled = both-true is_resolved (is_nothing left) two.0
+
+        three : (decided ≡ true) × ((not marked && (apart || not after_item)) ≡ true)
+        three = both-true decided (not marked && (apart || not after_item)) two.1
+
+        lists : (not marked ≡ true) × ((apart || not after_item) ≡ true)
+        lists = both-true (not marked) (apart || not after_item) three.1
 
         four : (not (nat_le (indent_of r) 3 && begins_with_pipe (words_of r)) ≡ true) × (nat_lt r.line_end (length text) ≡ true)
         four = both-true (not (nat_le (indent_of r) 3 && begins_with_pipe (words_of r))) (nat_lt r.line_end (length text)) (sym decided_is ∙ three.0)
@@ -234,9 +264,14 @@ module _ (text : List ℕ) (options : Options) (lookup : Lookup) (metadata : Has
         five : (not (is_blank_line r) ≡ true) × (ends_all text options lookup m r (lines_at text r.line_end) ≡ true)
         five = both-true (not (is_blank_line r)) (ends_all text options lookup m r rest) (sym begins_is ∙ one.0)
 
-        -- all lines before are resolved, so that the open blocks are the same whatever follows
+        -- all lines before are settled, so that the open blocks are the same whatever follows
+        stay : (following : List Row) → fed_before options following (Between Nil) s.done ≡ lines_feed_all options (Between Nil) s.done
+        stay following =
+            fed-settled options s.done (lines_at text n) (lines-front options s.done (lines_at text n) (subst (AreLines options) s.split (are-lines options from (lines (drop from text))))) (s.resolved settled.0)
+            (leaves-nothing options (lines_at text n) (Between Nil) s.done (nothing-left (lines_at text n) (Between Nil) s.done left settled.1 s.leaves)) following
+
         same : s.o ≡ lines_feed_all options (Between Nil) s.done
-        same = s.is ∙ fed-settled options metadata (Between Nil) s.done (lines_at text n) (s.resolved two.0)
+        same = s.is ∙ stay (lines_at text n)
 
         shorter : length line < length (drop n text)
         shorter =
@@ -247,25 +282,26 @@ module _ (text : List ℕ) (options : Options) (lookup : Lookup) (metadata : Has
             let i = ap (λ (x : Row). x.line_end) r_is in
             omega (arith, e, f, g, h, i)
 
-        ended : (ahead : List Row) → may_continue (last_list (list_before options text from) (close_lines (lines_feed_all options (Between Nil) s.done))) (opens_at options Apart (row_at n line) ahead) ≡ false
-        ended ahead = go outside refl three.1
+        ended : (ahead : List Row) → may_continue options.definition_list (last_list (list_before options text from) (close_lines (lines_feed_all options (Between Nil) s.done))) (opens_at options Apart (row_at n line) ahead) ≡ false
+        ended ahead = go apart refl lists.1
           where
-            go : (z : Bool) → outside ≡ z → (z || not after_item) ≡ true → may_continue (last_list (list_before options text from) (close_lines (lines_feed_all options (Between Nil) s.done))) (opens_at options Apart (row_at n line) ahead) ≡ false
-            go true q t = outside-any (last_list list (close_lines (lines_feed_all options (Between Nil) s.done))) (opens_at options Apart (row_at n line) ahead) (ap (λ x. is_outside_of_lists (opens_at options Apart x ahead)) (sym r_is) ∙ sym (outside_is ahead) ∙ q)
-            go false q t = ap (λ l. may_continue l (opens_at options Apart (row_at n line) ahead)) (ap (λ o. last_list list (close_lines o)) (sym same) ∙ s.listed (not-true after_item t))
+            go : (z : Bool) → apart ≡ z → (z || not after_item) ≡ true → may_continue options.definition_list (last_list (list_before options text from) (close_lines (lines_feed_all options (Between Nil) s.done))) (opens_at options Apart (row_at n line) ahead) ≡ false
+            go true q t =
+                ap (λ x. may_continue options.definition_list (last_list list (close_lines (lines_feed_all options (Between Nil) s.done))) (opens_at options Apart x ahead)) (sym r_is)
+                ∙ apart_is q (last_list list (close_lines (lines_feed_all options (Between Nil) s.done))) ahead
+            go false q t = ap (λ l. may_continue options.definition_list l (opens_at options Apart (row_at n line) ahead)) (ap (λ o. last_list list (close_lines o)) (sym same) ∙ s.listed (not-true after_item t))
 
         found : Found options text from n s.done line
         found = record {
-          metadata = metadata;
-          definitions = off;
+          unmarked = ap (begins_definition options) (sym r_is) ∙ sym marked_is ∙ not-true marked lists.0;
           within = s.high;
           split = s.split;
           apart = s.apart lt;
           complete = first-complete (drop n text) line others lines_are shorter;
-          resolved = s.resolved two.0;
+          settled = stay;
           parts = λ ahead. subst (λ x. Parts options x (row_at n line) ahead) same
               (subst (λ x. Parts options s.o x ahead) r_is (parts-any options s.o r rest ahead (no-table options r (not-true (nat_le (indent_of r) 3 && begins_with_pipe (words_of r)) four.0)) (parted five.1)));
-          begins = λ ahead. ap (λ x. is_blank (opens_at options Apart x ahead)) (sym r_is) ∙ not-blank options metadata r whole (not-true (is_blank_line r) five.0) ahead;
+          begins = λ ahead. ap (λ x. is_blank (opens_at options Apart x ahead)) (sym r_is) ∙ not-blank options r whole (not-true (is_blank_line r) five.0) ahead;
           ends_list = ended;
         }
 
@@ -293,8 +329,8 @@ module _ (text : List ℕ) (options : Options) (lookup : Lookup) (metadata : Has
     high : r.line_end ≤ length text
     high = let e = ap length halves ∙ length-append (take n text ++ line) p.rest in omega (arith, e, size)
 
-    apart : r.line_end < length text → ends_whole (take r.line_end text) (drop r.line_end text) ≡ true
-    apart less = ap (λ f. ends_whole f (drop r.line_end text)) (before ∙ ap (λ l. take n text ++ l) p.is) ∙ ap (ends_whole (take n text ++ p.first ∷ p.others)) after ∙ whole-longer (take n text) p.first p.others p.rest ∙ ap (λ l. ends_whole l p.rest) (sym p.is) ∙ go p.rest refl
+    whole-next : r.line_end < length text → ends_whole (take r.line_end text) (drop r.line_end text) ≡ true
+    whole-next less = ap (λ f. ends_whole f (drop r.line_end text)) (before ∙ ap (λ l. take n text ++ l) p.is) ∙ ap (ends_whole (take n text ++ p.first ∷ p.others)) after ∙ whole-longer (take n text) p.first p.others p.rest ∙ ap (λ l. ends_whole l p.rest) (sym p.is) ∙ go p.rest refl
       where
         go : (l : List ℕ) → p.rest ≡ l → ends_whole line p.rest ≡ true
         go [] q = absurd (let e = ap length halves ∙ length-append (take n text ++ line) p.rest in let f = ap length q in omega (arith, e, f, size, less))
@@ -303,7 +339,7 @@ module _ (text : List ℕ) (options : Options) (lookup : Lookup) (metadata : Has
     abbrev next_cut : Bool → ℕ
     next_cut z = if z then n else cut
 
-    pub search-step : Searched r.line_end (line_fed text options lookup r (lines_at text r.line_end) m) (if begins && (is_resolved && (decided && (outside || not after_item))) then n else cut) (blind && (blank || is_resolved)) (if begins then not outside else after_item)
+    pub search-step : Searched r.line_end (line_fed text options lookup r (lines_at text r.line_end) m) (if begins && ((is_resolved && is_nothing left) && (decided && (not marked && (apart || not after_item)))) then n else cut) (blind && (blank || is_resolved)) (if begins then not outside else after_item) (undecided_after options begins r left)
     search-step = record {
       done = s.done ++ r ∷ [];
       o = lines_feed options s.o r (shown rest);
@@ -311,22 +347,23 @@ module _ (text : List ℕ) (options : Options) (lookup : Lookup) (metadata : Has
       low = let a = s.low in omega (arith, a, line-end);
       high = high;
       split = s.split ∙ ap (λ l. s.done ++ l) next ∙ sym (append_assoc s.done (r ∷ []) rest);
-      apart = apart;
+      apart = whole-next;
       mirrors = ap (line_fed text options lookup r rest) at ∙ one-fed text options lookup none_noted r rest s.o n are-whole s.unmarked fits;
       steady = feed-steady options Nil s.o r (shown rest) s.steady;
       unmarked = feed-unmarked options s.o r (shown rest) s.unmarked;
       fits = next-fits text options lookup r rest s.o n are-whole fits;
       resolved = resolved;
+      leaves = leaves-next options rest (Between Nil) s.done r begins began left (subst (λ l. Leaves options l (Between Nil) s.done left) next s.leaves);
       listed = listed;
       settled = choose (λ k. IsSettledAt options text k) s.settled is-cut;
       order = choose (λ k. from ≤ k) s.order (λ e. s.low);
       boundary = choose (λ k. IsCharBoundary text k) s.boundary (λ e. boundary);
     }
       where
-        choose : (P : ℕ → Type 0) → P cut → ((begins && (is_resolved && (decided && (outside || not after_item)))) ≡ true → P n) → P (if begins && (is_resolved && (decided && (outside || not after_item))) then n else cut)
-        choose P old new = go (begins && (is_resolved && (decided && (outside || not after_item)))) refl
+        choose : (P : ℕ → Type 0) → P cut → ((begins && ((is_resolved && is_nothing left) && (decided && (not marked && (apart || not after_item))))) ≡ true → P n) → P (if begins && ((is_resolved && is_nothing left) && (decided && (not marked && (apart || not after_item)))) then n else cut)
+        choose P old new = go (begins && ((is_resolved && is_nothing left) && (decided && (not marked && (apart || not after_item))))) refl
           where
-            go : (z : Bool) → (begins && (is_resolved && (decided && (outside || not after_item)))) ≡ z → P (if z then n else cut)
+            go : (z : Bool) → (begins && ((is_resolved && is_nothing left) && (decided && (not marked && (apart || not after_item))))) ≡ z → P (if z then n else cut)
             go true e = new e
             go false e = old
 
@@ -339,61 +376,59 @@ chosen P false new old cut is h k = subst P (sym is) k
 
 module _ {E : Type 0} (replacement : E → Lookup) where
   -- what is known in the search for the last cut after `from`, with this state of the pass
-  pub record Searches (text : List ℕ) (options : Options) (lookup : Lookup) (from : ℕ) (pass : Pass E) (cut : ℕ) (is_resolved after_item : Bool) : Type 0 where
-    pub metadata : HasNoMetadata options
-    pub off : options.definition_list ≡ false
+  pub record Searches (text : List ℕ) (options : Options) (lookup : Lookup) (from : ℕ) (pass : Pass E) (cut : ℕ) (is_resolved after_item : Bool) (left : Undecided) : Type 0 where
     pub begun : IsSettledAt options text from
     pub good : IsGood pass
     pub m : model.Pass
     pub runs : Runs replacement text options lookup m pass
-    pub searched : Searched text options lookup metadata off from begun pass.line_end m cut is_resolved after_item
+    pub searched : Searched text options lookup from begun pass.line_end m cut is_resolved after_item left
 
-  pub searches-start : (pass : Pass E) (from : ℕ) → IsGood pass → StartsAt replacement from pass → HasNoMetadata (shown_options pass.options) → (shown_options pass.options).definition_list ≡ false
-      → IsSettledAt (shown_options pass.options) pass.text.now from → (after_item : Bool) → (after_item ≡ false → from ≡ 0)
-      → Searches pass.text.now (shown_options pass.options) (replacement pass.entities.now) from pass from true after_item
-  searches-start pass from good starts metadata off begun after_item first = record {
-    metadata = metadata;
-    off = off;
+  pub searches-start : (pass : Pass E) (from : ℕ) → IsGood pass → StartsAt replacement from pass → IsSettledAt (shown_options pass.options) pass.text.now from → (after_item : Bool) → (after_item ≡ false → from ≡ 0)
+      → Searches pass.text.now (shown_options pass.options) (replacement pass.entities.now) from pass from true after_item Nothing
+  searches-start pass from good starts begun after_item first = record {
     begun = begun;
     good = good;
     m = starting_at from [] [];
     runs = starts;
-    searched = subst (λ n. Searched pass.text.now (shown_options pass.options) (replacement pass.entities.now) metadata off from begun n (starting_at from [] []) from true after_item) (sym starts.line_end)
-        (search-start pass.text.now (shown_options pass.options) (replacement pass.entities.now) metadata off from begun (subst (IsCharBoundary pass.text.now) starts.line_end good.begins) after_item first);
+    searched = subst (λ n. Searched pass.text.now (shown_options pass.options) (replacement pass.entities.now) from begun n (starting_at from [] []) from true after_item Nothing) (sym starts.line_end)
+        (search-start pass.text.now (shown_options pass.options) (replacement pass.entities.now) from begun (subst (IsCharBoundary pass.text.now) starts.line_end good.begins) after_item first);
   }
 
-  module _ (text : List ℕ) (options : Options) (lookup : Lookup) (from : ℕ) (old now : Pass E) (line : LineRest) (cut : ℕ) (is_resolved after_item : Bool) (s : Searches text options lookup from old cut is_resolved after_item)
+  module _ (text : List ℕ) (options : Options) (lookup : Lookup) (from : ℕ) (old now : Pass E) (line : LineRest) (cut : ℕ) (is_resolved after_item : Bool) (left : Undecided) (s : Searches text options lookup from old cut is_resolved after_item left)
       (bytes : List ℕ) (same : bytes ≡ old.text.now) (lt : old.line_end < length bytes)
       (is_line : (l : List ℕ) (more : List (List ℕ)) → lines (drop old.line_end bytes) ≡ l ∷ more → row_of line ≡ row_at old.line_end l)
       (next : lines_at bytes old.line_end ≡ row_of line ∷ lines_at bytes (row_of line).line_end)
-      (begins outside decided blank blind : Bool)
+      (begins outside apart marked decided blank blind : Bool)
       (begins_is : Tells replacement old line begins (λ text options lookup m r ahead. not (is_blank_line r) && ends_all text options lookup m r ahead))
-      (outside_is : HasNoMetadata (shown_options old.options) → (ahead : List Row) → outside ≡ is_outside_of_lists (opens_at (shown_options old.options) Apart (row_of line) ahead))
+      (outside_is : outside ≡ true → (ahead : List Row) → is_outside_of_lists (opens_at (shown_options old.options) Apart (row_of line) ahead) ≡ true)
+      (unmarked_is : outside ≡ true → begins_definition (shown_options old.options) (row_of line) ≡ false)
+      (apart_is : apart ≡ true → (list : Option ℕ) (ahead : List Row) → may_continue (shown_options old.options).definition_list list (opens_at (shown_options old.options) Apart (row_of line) ahead) ≡ false)
+      (marked_is : marked ≡ begins_definition (shown_options old.options) (row_of line))
       (decided_is : decided ≡ (not (nat_le (indent_of (row_of line)) 3 && begins_with_pipe (words_of (row_of line))) && nat_lt (row_of line).line_end (length old.text.now)))
       (blank_is : blank ≡ is_blank_line (row_of line)) (blind_is : blind ≡ list_all (λ b. not (looks_ahead b)) (bytes_of (row_of line).columns)) where
     text-is : bytes ≡ text
     text-is = same ∙ s.runs.text_is
 
-    abbrev Next : ℕ → ℕ → Bool → Bool → Type 0
-    Next n k z w = Searched text options lookup s.metadata s.off from s.begun n (line_fed text options lookup (row_of line) (lines_at text (row_of line).line_end) s.m) k z w
+    abbrev Next : ℕ → ℕ → Bool → Bool → Undecided → Type 0
+    Next n k z w u = Searched text options lookup from s.begun n (line_fed text options lookup (row_of line) (lines_at text (row_of line).line_end) s.m) k z w u
 
     pub searches-step : Feeds replacement line old now → IsGood now → now.line_end ≡ (row_of line).line_end
-        → (cut' : ℕ) (is_resolved' after_item' : Bool) → cut' ≡ (if begins && (is_resolved && (decided && (outside || not after_item))) then old.line_end else cut)
+        → (cut' : ℕ) (is_resolved' after_item' : Bool) (left' : Undecided) → cut' ≡ (if begins && ((is_resolved && is_nothing left) && (decided && (not marked && (apart || not after_item)))) then old.line_end else cut)
         → is_resolved' ≡ (blind && (blank || is_resolved)) → after_item' ≡ (if begins then not outside else after_item)
-        → Searches text options lookup from now cut' is_resolved' after_item'
-    searches-step feeds good ends cut' is_resolved' after_item' cut_is resolved_is after_is = record {
-      metadata = s.metadata;
-      off = s.off;
+        → left' ≡ undecided_after (shown_options old.options) begins (row_of line) left
+        → Searches text options lookup from now cut' is_resolved' after_item' left'
+    searches-step feeds good ends cut' is_resolved' after_item' left' cut_is resolved_is after_is left_is = record {
       begun = s.begun;
       good = good;
       m = line_fed text options lookup (row_of line) (lines_at text (row_of line).line_end) s.m;
       runs = feeds text options lookup s.m s.runs;
       searched =
-          subst (λ n. Next n cut' is_resolved' after_item') (sym ends)
-          (subst (λ k. Next (row_of line).line_end k is_resolved' after_item') (sym cut_is)
-          (subst (λ z. Next (row_of line).line_end (if begins && (is_resolved && (decided && (outside || not after_item))) then old.line_end else cut) z after_item') (sym resolved_is)
-          (subst (λ w. Next (row_of line).line_end (if begins && (is_resolved && (decided && (outside || not after_item))) then old.line_end else cut) (blind && (blank || is_resolved)) w) (sym after_is)
-          (go (lines (drop old.line_end text)) refl))));
+          subst (λ n. Next n cut' is_resolved' after_item' left') (sym ends)
+          (subst (λ k. Next (row_of line).line_end k is_resolved' after_item' left') (sym cut_is)
+          (subst (λ z. Next (row_of line).line_end (if begins && ((is_resolved && is_nothing left) && (decided && (not marked && (apart || not after_item)))) then old.line_end else cut) z after_item' left') (sym resolved_is)
+          (subst (λ w. Next (row_of line).line_end (if begins && ((is_resolved && is_nothing left) && (decided && (not marked && (apart || not after_item)))) then old.line_end else cut) (blind && (blank || is_resolved)) w left') (sym after_is)
+          (subst (λ u. Next (row_of line).line_end (if begins && ((is_resolved && is_nothing left) && (decided && (not marked && (apart || not after_item)))) then old.line_end else cut) (blind && (blank || is_resolved)) (if begins then not outside else after_item) u) (sym (left_is ∙ ap (λ o. undecided_after o begins (row_of line) left) s.runs.options_is))
+          (go (lines (drop old.line_end text)) refl)))));
     }
       where
         there : lines_at text old.line_end ≡ row_of line ∷ lines_at text (row_of line).line_end
@@ -403,13 +438,16 @@ module _ {E : Type 0} (replacement : E → Lookup) where
         less = subst (λ t. old.line_end < length t) text-is lt
 
         go : (ls : List (List ℕ)) → lines (drop old.line_end text) ≡ ls
-            → Next (row_of line).line_end (if begins && (is_resolved && (decided && (outside || not after_item))) then old.line_end else cut) (blind && (blank || is_resolved)) (if begins then not outside else after_item)
+            → Next (row_of line).line_end (if begins && ((is_resolved && is_nothing left) && (decided && (not marked && (apart || not after_item)))) then old.line_end else cut) (blind && (blank || is_resolved)) (if begins then not outside else after_item) (undecided_after options begins (row_of line) left)
         go [] e = absurd (let q : [] ≡ row_of line ∷ lines_at text (row_of line).line_end = ap (rows_from old.line_end) (sym e) ∙ there in cc)
         go (l ∷ ls) e =
-            search-step text options lookup s.metadata s.off from s.begun old.line_end s.m cut is_resolved after_item s.searched less (subst (λ t. IsCharBoundary t old.line_end) s.runs.text_is s.good.begins)
+            search-step text options lookup from s.begun old.line_end s.m cut is_resolved after_item left s.searched less (subst (λ t. IsCharBoundary t old.line_end) s.runs.text_is s.good.begins)
             (row_of line) l ls e (is_line l ls (ap (λ t. lines (drop old.line_end t)) text-is ∙ e)) there
-            begins outside decided blank blind (begins_is text options lookup s.m s.runs)
-            (λ ahead. outside_is (subst HasNoMetadata (sym s.runs.options_is) s.metadata) ahead ∙ ap (λ o. is_outside_of_lists (opens_at o Apart (row_of line) ahead)) s.runs.options_is)
+            begins outside apart marked decided blank blind (begins_is text options lookup s.m s.runs)
+            (λ e ahead. ap (λ o. is_outside_of_lists (opens_at o Apart (row_of line) ahead)) (sym s.runs.options_is) ∙ outside_is e ahead)
+            (λ e. ap (λ o. begins_definition o (row_of line)) (sym s.runs.options_is) ∙ unmarked_is e)
+            (λ e list ahead. ap (λ o. may_continue o.definition_list list (opens_at o Apart (row_of line) ahead)) (sym s.runs.options_is) ∙ apart_is e list ahead)
+            (marked_is ∙ ap (λ o. begins_definition o (row_of line)) s.runs.options_is)
             (decided_is ∙ ap (λ t. not (nat_le (indent_of (row_of line)) 3 && begins_with_pipe (words_of (row_of line))) && nat_lt (row_of line).line_end (length t)) s.runs.text_is)
             blank_is blind_is
 

@@ -12,7 +12,7 @@ use Rattle.cmark_line_rules.specs.declared.line_rest.LineRest.{LineRest}
 use Rattle.cmark_line_rules.specs.declared.opening.Opening.{Opening}
 use Rattle.cmark_line_rules.specs.declared.opening.Opening.TheVariants as opening
 use Rattle.cmark_line_rules.specs.declared.container.ContainerStart.TheVariants as start
-use Rattle.cmark_values.specs.Shown.{shown_options}
+use Rattle.cmark_values.specs.Shown.{shown_options, shown_metadata_block_kind}
 use Rattle.cmark_block_model.specs.BlockPass.{is_last}
 use Rattle.cmark_block_model.specs.Tails.{starting_at}
 use Rattle.cmark_block_model.specs.OpenBlocks as model
@@ -21,6 +21,9 @@ use Rattle.cmark_blocks.specs.Ahead.{lines_at}
 use Rattle.cmark_blocks.specs.Runs.{Runs, ShowsLeaf}
 use Rattle.cmark_blocks.specs.declared.state.OpenLeaf.{OpenLeaf}
 use Rattle.cmark_blocks.specs.declared.state.Pass.{Pass}
+use Rattle.cmark_blocks.specs.declared.undecided.Undecided.{Undecided}
+use Rattle.cmark_blocks.specs.declared.undecided.Undecided.TheVariants as state
+use Rattle.cmark_stream_model.specs.Undecided as undecided
 
 abbrev pub stops : Continuation → Bool
 stops GoesOn = false
@@ -41,6 +44,27 @@ is_outside (opening.AtxHeading level) = true
 is_outside (opening.FencedCode indent fence) = true
 is_outside opening.Bracket = true
 is_outside opening.Plain = true
+
+-- the line begins a block that continues no list; if there are titles, a paragraph may continue one
+abbrev pub is_apart : (titles : Bool) → Opening → Bool
+is_apart titles opening.Blank = false
+is_apart titles (opening.Nests (start.BlockQuote rest)) = true
+is_apart titles (opening.Nests (start.Item item rest)) = false
+is_apart titles (opening.Nests (start.Footnote footnote rest)) = true
+is_apart titles opening.IndentedCode = true
+is_apart titles (opening.Html kind) = true
+is_apart titles opening.ThematicBreak = true
+is_apart titles (opening.AtxHeading level) = true
+is_apart titles (opening.FencedCode indent fence) = true
+is_apart titles opening.Bracket = not titles
+is_apart titles opening.Plain = not titles
+
+-- what the search leaves undecided about metadata
+abbrev pub shown_undecided : Undecided → undecided.Undecided
+shown_undecided state.Nothing = undecided.Nothing
+shown_undecided (state.Begun kind) = undecided.Begun (shown_metadata_block_kind kind)
+shown_undecided (state.Open kind) = undecided.Open (shown_metadata_block_kind kind)
+shown_undecided state.Forever = undecided.Forever
 
 abbrev pub is_missed : Option Row → Bool
 is_missed (Some r) = false

@@ -1,41 +1,28 @@
 //! The search for the last cut of a text that grows: a line before which the blocks stay as they are, whatever follows the text.
 
-ghost use Rattle.std.specs.Prelude.{◌≡◌, ◌≤◌, ◌&&◌, ◌||◌, not, ℕ, List, IfOk, IsCharBoundary, if◌then◌else◌};
+ghost use Rattle.std.specs.Prelude.{◌≡◌, ◌≤◌, ◌&&◌, ◌||◌, not, ℕ, IfOk, IsCharBoundary, if◌then◌else◌};
 ghost use Rattle.std.specs.List.{list_all};
 ghost use Rattle.cmark_grammar.specs.Columns.{bytes_of};
 ghost use Rattle.cmark_grammar.specs.Containers as grammar;
 ghost use Rattle.cmark_grammar.specs.Containers.{keeps};
-ghost use Rattle.cmark_grammar.specs.Openings.{opens_at};
-ghost use Rattle.cmark_grammar.specs.Places.{Apart};
-ghost use Rattle.cmark_grammar.specs.Rows.{Row};
 ghost use Rattle.cmark_line_rules.specs.Continuations.{shown_continuation};
 ghost use Rattle.cmark_line_rules.specs.Rests.{row_of};
 ghost use Rattle.cmark_line_rules.specs.Starts.{Shows};
-ghost use Rattle.cmark_stream_model.specs.Growth.{HasNoMetadata, is_outside_of_lists, looks_ahead};
+ghost use Rattle.cmark_stream_model.specs.Growth.{looks_ahead};
 ghost use Rattle.cmark_stream_model.specs.Settled.{IsSettledAt, StaysJoinedAt};
+ghost use Rattle.cmark_stream_model.specs.Undecided.{is_nothing};
 ghost use Rattle.cmark_values.specs.Shown.{shown_options};
-ghost use Rattle.cmark_blocks.specs.Cuts.{stops, is_outside, is_missed, EndsLeaf};
+ghost use Rattle.cmark_blocks.specs.Cuts.{stops, is_missed, shown_undecided, EndsLeaf};
 
+use crate::list_facts::{ListFacts, list_facts};
 use crate::state::{OpenLeaf, Pass};
-use bitflags::Flags;
+use crate::undecided::Undecided;
 use cmark_line_rules::{
-    CodeOrHtml, Container, ContainerStart, Continuation, LineRest, Opening, begins_with_pipe,
-    interrupts, reads_definition_lists, underlines, what_opens,
+    CodeOrHtml, Container, Continuation, LineRest, begins_with_pipe, interrupts, underlines,
 };
 use cmark_references::{FootnoteDefs, RefDefs};
 use cmark_values::{BasicEntities, EntityLookup, Options};
 use std::alloc::{AllocError, Global};
-
-/// Whether metadata blocks of any kind are read.
-fn reads_metadata(options: Options) -> bool
-    ensures { result
-        ≡
-        ((shown_options options).yaml_style_metadata_blocks ||
-        (shown_options options).pluses_delimited_metadata_blocks) }
-{
-    options.contains(Options::ENABLE_YAML_STYLE_METADATA_BLOCKS)
-        || options.contains(Options::ENABLE_PLUSES_DELIMITED_METADATA_BLOCKS)
-}
 
 /// Whether the lines after a line with this byte may decide what the line is: it may begin a link reference definition or a table.
 fn looks_ahead(byte: u8) -> bool
@@ -55,32 +42,6 @@ fn is_blind(line: LineRest<'_>) -> bool
     ensures { result ≡ list_all (λ b. not (looks_ahead b)) (bytes_of (row_of line.entry).columns) }
 {
     line.bytes().iter().all(|byte| is_blind_byte(*byte))
-}
-
-/// Whether a line with this opening begins no item of a list.
-fn is_outside(opening: Opening<'_>) -> bool
-    ensures { result ≡ is_outside opening.entry }
-{
-    match opening {
-        Opening::Blank => false,
-        Opening::Nests(start) => !matches!(start, ContainerStart::Item(_, _)),
-        Opening::IndentedCode
-        | Opening::Html(_)
-        | Opening::ThematicBreak
-        | Opening::AtxHeading(_)
-        | Opening::FencedCode { .. }
-        | Opening::Bracket
-        | Opening::Plain => true,
-    }
-}
-
-/// Whether the line begins a block that is no item of a list, if it begins one after all open blocks.
-fn begins_outside_of_lists(line: LineRest<'_>, options: Options) -> bool
-    ensures { HasNoMetadata (shown_options options) → (ahead : List Row)
-        → result
-        ≡ is_outside_of_lists (opens_at (shown_options options) Apart (row_of line.entry) ahead) }
-{
-    is_outside(what_opens(line, options))
 }
 
 /// Whether a block has ended before a line.
@@ -123,13 +84,12 @@ fn misses(container: Container, bare: bool, line: LineRest<'_>) -> bool
 struct LineFacts {
     /// Whether it begins a block after all open ones.
     begins: bool,
-    /// Whether it is no item of a list, if it begins a block.
-    is_outside: bool,
     /// Whether it is complete, and no later line decides whether it begins a block.
     is_decided: bool,
     is_blank: bool,
     /// Whether no later line decides what the line is.
     is_blind: bool,
+    lists: ListFacts,
 }
 
 /// The search for cuts, between two lines.
@@ -137,22 +97,35 @@ struct LineFacts {
 struct CutSearch {
     /// The last cut so far, a byte offset.
     cut: usize,
-    /// Whether no further line decides what the lines so far are.
+    /// Whether no further line decides what the lines so far are, metadata aside.
     is_resolved: bool,
-    /// Whether the last block may be an item of a list.
+    /// Whether the last block may be an item of a list, or a definition.
     after_item: bool,
+    /// What the lines so far leave undecided about metadata.
+    undecided: Undecided,
 }
 
 impl CutSearch {
+    /// Whether the lines so far are what they are, whatever follows them.
+    fn is_settled(self) -> bool
+        ensures { result ≡ (self.is_resolved && is_nothing (shown_undecided self.undecided)) }
+    {
+        self.is_resolved && self.undecided.is_nothing()
+    }
+
     /// Whether the next line is a cut.
     fn has_cut(self, line: LineFacts) -> bool
         ensures { result
             ≡
             (line.begins &&
-            (self.is_resolved && (line.is_decided && (line.is_outside || not self.after_item)))) }
+            ((self.is_resolved && is_nothing (shown_undecided self.undecided)) &&
+            (line.is_decided && (not line.lists.is_marked &&
+            (line.lists.is_apart || not self.after_item))))) }
     {
         line.begins
-            && (self.is_resolved && (line.is_decided && (line.is_outside || !self.after_item)))
+            && (self.is_settled()
+                && (line.is_decided
+                    && (!line.lists.is_marked && (line.lists.is_apart || !self.after_item))))
     }
 
     /// The last cut after the next line, which begins at the byte offset `at`.
@@ -160,18 +133,19 @@ impl CutSearch {
         ensures { result
             ≡
             (if line.begins &&
-            (self.is_resolved && (line.is_decided && (line.is_outside || not self.after_item))) then
-            at else self.cut) }
+            ((self.is_resolved && is_nothing (shown_undecided self.undecided)) &&
+            (line.is_decided && (not line.lists.is_marked &&
+            (line.lists.is_apart || not self.after_item)))) then at else self.cut) }
     {
         if self.has_cut(line) { at } else { self.cut }
     }
 
-    /// Whether the last block after the next line may be an item of a list.
+    /// Whether the last block after the next line may be an item of a list, or a definition.
     fn item_after(self, line: LineFacts) -> bool
-        ensures { result ≡ (if line.begins then not line.is_outside else self.after_item) }
+        ensures { result ≡ (if line.begins then not line.lists.is_outside else self.after_item) }
     {
         if line.begins {
-            !line.is_outside
+            !line.lists.is_outside
         } else {
             self.after_item
         }
@@ -184,17 +158,19 @@ impl CutSearch {
         line.is_blind && (line.is_blank || self.is_resolved)
     }
 
-    /// The search after the next line, which begins at the byte offset `at`.
-    fn after(self, at: usize, line: LineFacts) -> CutSearch
+    /// The search after the next line, which begins at the byte offset `at`. `undecided` is what the line leaves undecided about metadata.
+    fn after(self, at: usize, line: LineFacts, undecided: Undecided) -> CutSearch
         ensures cut { result.cut
             ≡
             (if line.begins &&
-            (self.is_resolved && (line.is_decided && (line.is_outside || not self.after_item))) then
-            at else self.cut) }
+            ((self.is_resolved && is_nothing (shown_undecided self.undecided)) &&
+            (line.is_decided && (not line.lists.is_marked &&
+            (line.lists.is_apart || not self.after_item)))) then at else self.cut) }
         ensures resolved { result.is_resolved
             ≡ (line.is_blind && (line.is_blank || self.is_resolved)) }
         ensures after_item { result.after_item
-            ≡ (if line.begins then not line.is_outside else self.after_item) }
+            ≡ (if line.begins then not line.lists.is_outside else self.after_item) }
+        ensures undecided { result.undecided ≡ undecided }
     {
         let cut = self.cut_after(at, line);
         let is_resolved = self.resolved_after(line);
@@ -203,12 +179,13 @@ impl CutSearch {
             cut,
             is_resolved,
             after_item,
+            undecided,
         }
     }
 }
 
 impl<'a, E: EntityLookup> Pass<'a, E> {
-    ghost use Rattle.std.specs.Prelude.{◌≡◌, ◌≤◌, ◌<◌, ◌&&◌, not, false, List, IfOk, IsCharBoundary, nat_lt, nat_le, length};
+    ghost use Rattle.std.specs.Prelude.{◌≡◌, ◌≤◌, ◌<◌, ◌&&◌, not, true, false, ℕ, List, Option, IfOk, IsCharBoundary, nat_lt, nat_le, length};
     ghost use Rattle.std.specs.List.{list_all};
     ghost use Rattle.cmark_blocks.specs.Cuts.{ends_paragraph, ends_outer, ends_all, Tells, StartsAt};
     ghost use Rattle.cmark_grammar.specs.Columns.{bytes_of};
@@ -218,7 +195,8 @@ impl<'a, E: EntityLookup> Pass<'a, E> {
     ghost use Rattle.cmark_grammar.specs.TableRows.{begins_with_pipe};
     ghost use Rattle.cmark_leaf_nodes.specs.TextColumns.{IsRead};
     ghost use Rattle.cmark_line_rules.specs.Rests.{row_of};
-    ghost use Rattle.cmark_stream_model.specs.Growth.{HasNoMetadata, is_outside_of_lists, looks_ahead};
+    ghost use Rattle.cmark_grammar.specs.DefinitionLists.{begins_definition};
+    ghost use Rattle.cmark_stream_model.specs.Growth.{is_outside_of_lists, looks_ahead, may_continue};
     ghost use Rattle.cmark_stream_model.specs.Settled.{IsSettledAt};
     ghost use Rattle.cmark_values.specs.Shown.{shown_options};
     ghost use Rattle.cmark_blocks.specs.Runs.{IsGood};
@@ -300,10 +278,18 @@ impl<'a, E: EntityLookup> Pass<'a, E> {
         ensures begins { Tells E.replacement self.now line.entry result.begins
             (λ text options lookup m r ahead. not (is_blank_line r) && ends_all text options lookup
             m r ahead) }
-        ensures is_outside { HasNoMetadata (shown_options self.now.options) → (ahead : List Row)
-            → result.is_outside
-            ≡ is_outside_of_lists
-            (opens_at (shown_options self.now.options) Apart (row_of line.entry) ahead) }
+        ensures is_marked { result.lists.is_marked
+            ≡ begins_definition (shown_options self.now.options) (row_of line.entry) }
+        ensures is_outside { result.lists.is_outside ≡ true → (ahead : List Row)
+            → is_outside_of_lists
+            (opens_at (shown_options self.now.options) Apart (row_of line.entry) ahead)
+            ≡ true }
+        ensures is_unmarked { result.lists.is_outside ≡ true
+            → begins_definition (shown_options self.now.options) (row_of line.entry) ≡ false }
+        ensures is_apart { result.lists.is_apart ≡ true → (list : Option ℕ) (ahead : List Row)
+            → may_continue (shown_options self.now.options).definition_list list
+            (opens_at (shown_options self.now.options) Apart (row_of line.entry) ahead)
+            ≡ false }
         ensures is_decided { result.is_decided
             ≡
             (not
@@ -315,16 +301,16 @@ impl<'a, E: EntityLookup> Pass<'a, E> {
             ≡ list_all (λ b. not (looks_ahead b)) (bytes_of (row_of line.entry).columns) }
     {
         let begins = self.begins_apart(line);
-        let is_outside = begins_outside_of_lists(line, self.options);
+        let lists = list_facts(line, self.options);
         let is_decided = self.is_decided(line);
         let is_blank = line.is_blank();
         let is_blind = is_blind(line);
         LineFacts {
             begins,
-            is_outside,
             is_decided,
             is_blank,
             is_blind,
+            lists,
         }
     }
 
@@ -333,8 +319,6 @@ impl<'a, E: EntityLookup> Pass<'a, E> {
     fn find_cut(&mut self, from: usize) -> Result<usize, AllocError>
         requires good { IsGood self.old }
         requires starts { StartsAt E.replacement from self.old }
-        requires metadata { HasNoMetadata (shown_options self.old.options) }
-        requires definitions { (shown_options self.old.options).definition_list ≡ false }
         ensures settled { IsSettledAt (shown_options self.old.options) self.old.text.now from
             → IfOk result (IsSettledAt (shown_options self.old.options) self.old.text.now) }
         ensures boundary { IfOk result (IsCharBoundary self.old.text.now) }
@@ -345,11 +329,13 @@ impl<'a, E: EntityLookup> Pass<'a, E> {
             cut: from,
             is_resolved: true,
             after_item: from != 0,
+            undecided: Undecided::Nothing,
         };
         while self.line_end < self.text.len() {
             let line = LineRest::new(self.text.as_bytes(), self.line_end);
             let facts = self.facts_of(line);
-            search = search.after(self.line_end, facts);
+            let undecided = search.undecided.after(line, facts.begins, self.options);
+            search = search.after(self.line_end, facts, undecided);
             self.feed(line)?;
         }
         Ok(search.cut)
@@ -365,8 +351,9 @@ impl<'a, E: EntityLookup> Pass<'a, E> {
 ///
 /// The search misses some cuts:
 ///
-/// - It finds no cut if metadata or definition lists are read.
 /// - It finds no cut before a line that begins with a pipe, that no further byte follows, or that may continue a list.
+/// - It finds no cut before a definition. If definition lists are read, it finds none before a paragraph after a list.
+/// - It finds no cut after a line that may begin metadata whose end may still come.
 /// - After a line with a bracket or a pipe it finds no cut up to the next blank line.
 ///
 /// Reads each line after `from` once, as the block pass does. Fails only if memory is refused.
@@ -385,12 +372,6 @@ pub fn last_cut(
     ensures order { IsSettledAt (shown_options options) text.now from
         → IfOk result (λ cut. from ≤ cut) }
 {
-    if reads_metadata(options) {
-        return Ok(from);
-    }
-    if reads_definition_lists(options) {
-        return Ok(from);
-    }
     let definitions = RefDefs::new(alloc);
     let footnotes = FootnoteDefs::new(alloc);
     let entities = BasicEntities;

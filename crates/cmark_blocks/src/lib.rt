@@ -17,6 +17,7 @@ pub mod laws;
 mod leaf;
 mod line;
 mod list;
+mod list_facts;
 mod metadata;
 mod paragraph;
 mod prefixes;
@@ -25,6 +26,7 @@ mod siblings;
 mod state;
 mod table;
 mod thematic_break;
+mod undecided;
 
 pub use cmark_span_scan::{LoopInstruction, iterate_special_bytes, special_bytes};
 pub use cuts::last_cut;

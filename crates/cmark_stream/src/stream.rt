@@ -28,7 +28,7 @@ pub enum Change {
 /// is read at each refresh in these cases:
 ///
 /// - The text defines a link or a footnote: any earlier block may refer to it.
-/// - The options enable metadata or definition lists: later lines may change earlier blocks.
+/// - A line may begin metadata, and its end is not in the text: if it comes, all lines up to it are metadata.
 /// - The text is one block: a list, a table, a code block or a paragraph without end.
 ///
 /// `is_due` says when a refresh is worth it.

@@ -1,30 +1,32 @@
 -- The first line after a cut: what it says whatever lines are ahead.
-use Rattle.std.proofs.Common.{◌≡◌, ℕ, Bool, true, false, ◌&&◌, ◌||◌, not, List, [], ◌∷◌, ◌++◌, length, refl, sym, ap, ◌∙◌, Option, Some, None, true≢false}
+use Rattle.std.proofs.Common.{◌≡◌, ◌⊎◌, inl, inr, ⊎_elim, ℕ, Bool, true, false, ◌==◌, ◌&&◌, ◌||◌, not, List, [], ◌∷◌, ◌++◌, length, refl, sym, ap, ◌∙◌, Option, Some, None, true≢false, arith}
 use Rattle.std.specs.Prelude.{if◌then◌else◌, nat_le}
 use Rattle.cmark_grammar.specs.Alignment.{Alignment}
 use Rattle.cmark_grammar.specs.Options.{Options}
 use Rattle.cmark_grammar.specs.Places.{Apart}
-use Rattle.cmark_grammar.specs.Rows.{Row, is_blank_line, indent_of, words_of}
+use Rattle.cmark_grammar.specs.Rows.{Row, is_bare, is_blank_line, is_whole_line, indent_of, words_of}
 use Rattle.cmark_grammar.specs.Leaves.{Fence, is_thematic_break, is_atx_heading, run, fence_of, counted, code_continuation}
 use Rattle.cmark_grammar.specs.HtmlBlocks.{html_kind, holds_end}
 use Rattle.cmark_grammar.specs.LinkDefinitions.{Defined, definition_in, bytes_over}
 use Rattle.cmark_grammar.specs.Footnotes.{footnotes_in}
-use Rattle.cmark_grammar.specs.Containers.{Container, BlockQuote, Item, Footnote, ListDefinition, container_of, enter, is_bare_start}
-use Rattle.cmark_grammar.specs.DefinitionLists.{begins_definition, is_definition}
-use Rattle.cmark_grammar.specs.Metadata.{metadata_kind}
+use Rattle.cmark_grammar.specs.Containers.{Container, BlockQuote, Item, Footnote, ListDefinition, begins_with, width_with, container_of, enter, is_bare_start}
+use Rattle.cmark_grammar.specs.DefinitionLists.{is_marker, begins_definition, is_definition}
+use Rattle.cmark_grammar.specs.Metadata.{metadata_of, metadata_if, metadata_kind, holds_metadata, metadata_continuation}
+use Rattle.cmark_grammar.specs.MetadataBlockKind.{MetadataBlockKind}
+use Rattle.cmark_grammar.specs.Columns.{Column, space, tab, is_blank_byte, without_indent, bytes_of}
 use Rattle.cmark_grammar.specs.TableRows.{table_head, table_interrupts}
 use Rattle.cmark_grammar.specs.Openings.{Leaf, ThematicBreak, AtxHeading, IndentedCode, FencedCode, HtmlBlock, LinkDefinition, MetadataBlock, Table, Opening, Blank, Nests, Takes, Plain, or_else, nests_if, fenced_if, html_if, break_if, heading_if, metadata_begun, defined_if, begins_no_link, interrupts, texts, lazily, text_lines, definition_of, table_if, text_of, leaf_of, whole_opens, opens, opens_at}
 use Rattle.cmark_grammar.specs.Blocks.{Blocks, Nil, BlankLine, Paragraph, LeafBlock, join, place_in}
 use Rattle.cmark_block_model.specs.BlocksModel.{within, place_after}
 use Rattle.cmark_block_model.specs.BlocksByLine.{OpenLines, Between, AfterTag, InParagraph, InLeaf, InVerbatim, InContainer, close_lines, lines_take_lazy, html_begun, leaf_begun, lines_begin_as, lines_begin_in, lines_begin}
-use Rattle.cmark_stream_model.specs.Growth.{is_blank, Parts, are_blind, has_blank_line, are_resolved, HasNoMetadata, is_outside_of_lists, last_list, may_continue}
+use Rattle.cmark_stream_model.specs.Growth.{is_blank, Parts, are_blind, has_blank_line, are_resolved, is_outside_of_lists, stands_apart, last_list, may_continue}
 use Rattle.cmark_stream_model.proofs.GrowingTables.{same-apart}
 use Rattle.cmark_stream_model.proofs.SettledCuts.{resolved-append, last-join}
-use Rattle.cmark_stream_model.proofs.Walls.{no-metadata}
+use Rattle.cmark_stream_model.proofs.Walls.{bare-following, bare-blank, blank-words}
 
 -- ## Lists
 
-pub outside-any : (list : Option ℕ) (o : Opening) → is_outside_of_lists o ≡ true → may_continue list o ≡ false
+pub outside-any : (list : Option ℕ) (o : Opening) → is_outside_of_lists o ≡ true → may_continue false list o ≡ false
 outside-any None o e = refl
 outside-any (Some d) Blank e = absurd (true≢false (sym e))
 outside-any (Some d) (Nests (BlockQuote alert)) e = refl
@@ -34,7 +36,24 @@ outside-any (Some d) (Nests (ListDefinition width)) e = absurd (true≢false (sy
 outside-any (Some d) (Takes leaf more) e = refl
 outside-any (Some d) Plain e = refl
 
+pub apart-any : (titles : Bool) (list : Option ℕ) (o : Opening) → stands_apart o ≡ true → may_continue titles list o ≡ false
+apart-any titles None o e = refl
+apart-any titles (Some d) Blank e = absurd (true≢false (sym e))
+apart-any titles (Some d) (Nests (BlockQuote alert)) e = refl
+apart-any titles (Some d) (Nests (Item delimiter number width task)) e = absurd (true≢false (sym e))
+apart-any titles (Some d) (Nests (Footnote label old size)) e = refl
+apart-any titles (Some d) (Nests (ListDefinition width)) e = absurd (true≢false (sym e))
+apart-any titles (Some d) (Takes leaf more) e = refl
+apart-any titles (Some d) Plain e = absurd (true≢false (sym e))
+
 -- ## Blank lines
+
+either-blank : (b : ℕ) → is_blank_byte b ≡ true → (b ≡ space) ⊎ (b ≡ tab)
+either-blank b e = go (b == space) refl e
+  where
+    go : (z : Bool) → (b == space) ≡ z → (z || (b == tab)) ≡ true → (b ≡ space) ⊎ (b ≡ tab)
+    go true q t = inl (grind (arith))
+    go false q t = inr (grind (arith))
 
 not-blank-or : (x y : Opening) → is_blank x ≡ false → is_blank y ≡ false → is_blank (or_else x y) ≡ false
 not-blank-or Blank y e f = e
@@ -111,26 +130,56 @@ module _ (options : Options) where
           or_else (break_if (is_thematic_break (words_of r)))
           (or_else (heading_if (is_atx_heading (words_of r)) (run 35 (words_of r))) (or_else (fenced_if (fence_of (indent_of r) (words_of r)) ahead) (text_of options r ahead)))
 
-  -- a line that lacks no prefix begins what it would begin without metadata
-  whole-opening : HasNoMetadata options → (r : Row) (ahead : List Row) → r.lazy ≡ false → opens options r ahead ≡ whole_opens options r ahead
-  unfolding opens
-  whole-opening m r ahead e =
-      ap (λ z. if z then Plain else or_else (metadata_begun (metadata_kind options r) ahead) (whole_opens options r ahead)) e
-      ∙ ap (λ k. or_else (metadata_begun k ahead) (whole_opens options r ahead)) (no-metadata options m r)
+  not-blank-metadata : (kind : Option MetadataBlockKind) (ahead : List Row) → is_blank (metadata_begun kind ahead) ≡ false
+  not-blank-metadata None ahead = refl
+  not-blank-metadata (Some kind) ahead = go (holds_metadata kind ahead)
+    where
+      go : (z : Bool) → is_blank (if z then Takes (MetadataBlock kind) (counted (metadata_continuation kind) ahead) else Plain) ≡ false
+      go true = refl
+      go false = refl
 
-  pub not-blank : HasNoMetadata options → (r : Row) → r.lazy ≡ false → is_blank_line r ≡ false → (ahead : List Row) → is_blank (opens_at options Apart r ahead) ≡ false
-  not-blank m r whole e ahead =
-      ap is_blank (whole-opening m r ahead whole)
-      ∙ ap (λ z. is_blank (if z then Blank else if nat_le 4 (indent_of r) then Takes IndentedCode (counted code_continuation ahead) else or_else (nests_if (container_of options r)) (leaf_of options r ahead))) e
-      ∙ go (nat_le 4 (indent_of r))
+  -- a line that lacks no prefix begins metadata, or what it would begin without metadata
+  whole-opening : (r : Row) (ahead : List Row) → r.lazy ≡ false → opens options r ahead ≡ or_else (metadata_begun (metadata_kind options r) ahead) (whole_opens options r ahead)
+  unfolding opens
+  whole-opening r ahead e = ap (λ z. if z then Plain else or_else (metadata_begun (metadata_kind options r) ahead) (whole_opens options r ahead)) e
+
+  pub not-blank : (r : Row) → r.lazy ≡ false → is_blank_line r ≡ false → (ahead : List Row) → is_blank (opens_at options Apart r ahead) ≡ false
+  not-blank r whole e ahead =
+      ap is_blank (whole-opening r ahead whole)
+      ∙ not-blank-or (metadata_begun (metadata_kind options r) ahead) (whole_opens options r ahead) (not-blank-metadata (metadata_kind options r) ahead)
+      (ap (λ z. is_blank (if z then Blank else if nat_le 4 (indent_of r) then Takes IndentedCode (counted code_continuation ahead) else or_else (nests_if (container_of options r)) (leaf_of options r ahead))) e
+      ∙ go (nat_le 4 (indent_of r)))
     where
       go : (z : Bool) → is_blank (if z then Takes IndentedCode (counted code_continuation ahead) else or_else (nests_if (container_of options r)) (leaf_of options r ahead)) ≡ false
       go true = refl
       go false = not-blank-or (nests_if (container_of options r)) (leaf_of options r ahead) (not-blank-nests (container_of options r)) (not-blank-leaf r ahead)
 
-  blank-opening : HasNoMetadata options → (r : Row) → r.lazy ≡ false → is_blank_line r ≡ true → (ahead : List Row) → opens_at options Apart r ahead ≡ Blank
-  blank-opening m r whole e ahead =
-      whole-opening m r ahead whole
+  -- a blank line begins no metadata
+  blank-bytes : (cs : List Column) → is_bare (without_indent cs) ≡ true → metadata_of (bytes_of cs) ≡ None
+  blank-bytes [] e = refl
+  blank-bytes (c ∷ cs) e = go (c.part == 0) (blank-bytes cs (bare-following options c cs e))
+    where
+      blank : is_blank_byte c.byte ≡ true
+      blank = bare-blank options c cs e
+
+      first : (b : ℕ) (bs : List ℕ) → is_blank_byte b ≡ true → metadata_of (b ∷ bs) ≡ None
+      first b bs q = ⊎_elim (λ s. ap (λ x. metadata_of (x ∷ bs)) s) (λ t. ap (λ x. metadata_of (x ∷ bs)) t) (either-blank b q)
+
+      go : (z : Bool) → metadata_of (bytes_of cs) ≡ None → metadata_of (if z then c.byte ∷ bytes_of cs else bytes_of cs) ≡ None
+      go true ih = first c.byte (bytes_of cs) blank
+      go false ih = ih
+
+  pub blank-kind : (r : Row) → is_blank_line r ≡ true → metadata_kind options r ≡ None
+  blank-kind r e = go (is_whole_line r)
+    where
+      go : (z : Bool) → (if z then metadata_if options (metadata_of (bytes_of r.columns)) else None) ≡ None
+      go true = ap (metadata_if options) (blank-bytes r.columns e)
+      go false = refl
+
+  blank-opening : (r : Row) → r.lazy ≡ false → is_blank_line r ≡ true → (ahead : List Row) → opens_at options Apart r ahead ≡ Blank
+  blank-opening r whole e ahead =
+      whole-opening r ahead whole
+      ∙ ap (λ k. or_else (metadata_begun k ahead) (whole_opens options r ahead)) (blank-kind r e)
       ∙ ap (λ z. if z then Blank else if nat_le 4 (indent_of r) then Takes IndentedCode (counted code_continuation ahead) else or_else (nests_if (container_of options r)) (leaf_of options r ahead)) e
 
   -- ## The list after the blocks that a line begins
@@ -164,16 +213,26 @@ module _ (options : Options) where
   outside-none list (Takes leaf more) inside closed r e = leaf-none list leaf more closed r
   outside-none list Plain inside closed r e = last-join options list closed (Paragraph r [] Nil)
 
-  pub outside-begins : options.definition_list ≡ false → (list : Option ℕ) (closed : Blocks) (r : Row) (ahead : List Row) → is_outside_of_lists (opens_at options Apart r ahead) ≡ true → last_list list (close_lines (lines_begin options closed r ahead)) ≡ None
+  pub outside-begins : (list : Option ℕ) (closed : Blocks) (r : Row) (ahead : List Row) → begins_definition options r ≡ false → is_outside_of_lists (opens_at options Apart r ahead) ≡ true → last_list list (close_lines (lines_begin options closed r ahead)) ≡ None
   unfolding lines_begin
-  outside-begins off list closed r ahead e =
-      outside-none list (opens_at options (place_after Apart closed) r ahead) (inside_as r ahead) closed r (ap is_outside_of_lists (same-apart options closed r ahead off) ∙ e)
+  outside-begins list closed r ahead unmarked e =
+      outside-none list (opens_at options (place_after Apart closed) r ahead) (inside_as r ahead) closed r (ap is_outside_of_lists (same-apart options closed r ahead unmarked) ∙ e)
 
-  pub blank-begins : HasNoMetadata options → options.definition_list ≡ false → (list : Option ℕ) (closed : Blocks) (r : Row) (ahead : List Row) → r.lazy ≡ false → is_blank_line r ≡ true
+  -- a blank line has no definition's marker
+  pub blank-unmarked : (r : Row) → is_blank_line r ≡ true → begins_definition options r ≡ false
+  blank-unmarked r e =
+      ap (λ w. is_marker (if options.definition_list && (not r.lazy && nat_le (indent_of r) 3) then (if begins_with 58 w then Some (width_with 1 r) else None) else None)) (blank-words options r e)
+      ∙ go (options.definition_list && (not r.lazy && nat_le (indent_of r) 3))
+    where
+      go : (z : Bool) → is_marker (if z then None else None) ≡ false
+      go true = refl
+      go false = refl
+
+  pub blank-begins : (list : Option ℕ) (closed : Blocks) (r : Row) (ahead : List Row) → r.lazy ≡ false → is_blank_line r ≡ true
       → last_list list (close_lines (lines_begin options closed r ahead)) ≡ last_list list closed
   unfolding lines_begin
-  blank-begins m off list closed r ahead whole e =
-      ap (λ o. last_list list (close_lines (lines_begin_as o (inside_as r ahead) closed r))) (same-apart options closed r ahead off ∙ blank-opening m r whole e ahead)
+  blank-begins list closed r ahead whole e =
+      ap (λ o. last_list list (close_lines (lines_begin_as o (inside_as r ahead) closed r))) (same-apart options closed r ahead (blank-unmarked r e) ∙ blank-opening r whole e ahead)
       ∙ last-join options list closed (BlankLine r Nil)
 
   -- ## Lines that end what is open, whatever is ahead

@@ -21,7 +21,7 @@ use Rattle.cmark_grammar.specs.Lists.{definition_delimiter, is_title, goes_on}
 use Rattle.cmark_block_model.specs.BlocksModel.{within, place_after}
 use Rattle.cmark_block_model.specs.BlocksByLine.{leaf_in, continuation_if, OpenLines, Between, AfterTag, InParagraph, InLeaf, InVerbatim, InContainer, blank_lines, close_lines, lines_take_lazy, html_begun, leaf_begun, lines_begin_as, lines_underline_or, lines_go_on_or, lines_kept_or, verbatim_line, lines_begin_in, lines_begin, lines_feed, lines_feed_all}
 use Rattle.cmark_block_model.proofs.BlockLaws.{at-plain, off-defines}
-use Rattle.cmark_stream_model.specs.Growth.{begins_apart, continues, is_outside_of_lists, may_continue}
+use Rattle.cmark_stream_model.specs.Growth.{is_blank, begins_apart, continues, is_outside_of_lists, may_continue}
 use Rattle.cmark_stream_model.proofs.GrowingTables.{no-task}
 
 -- ## No line begins a definition
@@ -147,7 +147,7 @@ module _ (options : Options) where
   pub no-at : options.definition_list ≡ false → (b : Blocks) (r : Row) (ahead : List Row) → NoDefinition (opens_at options (place_after Apart b) r ahead)
   no-at off b r ahead = subst NoDefinition (sym (at-plain options (place_after Apart b) r ahead (no-task Apart b refl) (off-defines options (place_after Apart b) r off))) (no-opens r ahead)
 
--- ## Blocks without definitions. The first one that is no blank line may be an item only if `other` holds of its character
+-- ## Blocks without definitions
 
 abbrev pub NoDefinitions : Blocks → Type 0
 NoDefinitions Nil = Unit {0}
@@ -157,36 +157,55 @@ NoDefinitions (SetextHeading level first more underline after) = NoDefinitions a
 NoDefinitions (LeafBlock leaf first more after) = NoDefinitions after
 NoDefinitions (ContainerBlock k first more inside after) = (is_definition k ≡ false) × NoDefinitions after
 
+-- ## The first block that is no blank line: an item only if `other` holds of its character, and a paragraph only if `text` holds
+
 abbrev leads_in : (other : ℕ → Bool) → Container → Bool
 leads_in other (BlockQuote alert) = true
 leads_in other (Item delimiter number width task) = other delimiter
 leads_in other (Footnote label old size) = true
 leads_in other (ListDefinition width) = false
 
-abbrev first_leads : (other : ℕ → Bool) → (so : Bool) → Blocks → Bool
-first_leads other so Nil = so
-first_leads other so (BlankLine line after) = first_leads other so after
-first_leads other so (Paragraph first more after) = true
-first_leads other so (SetextHeading level first more underline after) = true
-first_leads other so (LeafBlock leaf first more after) = true
-first_leads other so (ContainerBlock k first more inside after) = leads_in other k
+abbrev first_leads : (other : ℕ → Bool) (text : Bool) → (so : Bool) → Blocks → Bool
+first_leads other text so Nil = so
+first_leads other text so (BlankLine line after) = first_leads other text so after
+first_leads other text so (Paragraph first more after) = text
+first_leads other text so (SetextHeading level first more underline after) = true
+first_leads other text so (LeafBlock leaf first more after) = true
+first_leads other text so (ContainerBlock k first more inside after) = leads_in other k
 
-leads-join : (other : ℕ → Bool) → (so : Bool) (a b : Blocks) → first_leads other so (join a b) ≡ first_leads other (first_leads other so b) a
-leads-join other so Nil b = refl
-leads-join other so (BlankLine line after) b = leads-join other so after b
-leads-join other so (Paragraph first more after) b = refl
-leads-join other so (SetextHeading level first more underline after) b = refl
-leads-join other so (LeafBlock leaf first more after) b = refl
-leads-join other so (ContainerBlock k first more inside after) b = refl
+leads-join : (other : ℕ → Bool) (text : Bool) → (so : Bool) (a b : Blocks) → first_leads other text so (join a b) ≡ first_leads other text (first_leads other text so b) a
+leads-join other text so Nil b = refl
+leads-join other text so (BlankLine line after) b = leads-join other text so after b
+leads-join other text so (Paragraph first more after) b = refl
+leads-join other text so (SetextHeading level first more underline after) b = refl
+leads-join other text so (LeafBlock leaf first more after) b = refl
+leads-join other text so (ContainerBlock k first more inside after) b = refl
 
 -- if some blocks have a first block of this kind, `so` does not matter
-leads-more : (other : ℕ → Bool) → (so : Bool) (a : Blocks) → first_leads other false a ≡ true → first_leads other so a ≡ true
-leads-more other so Nil h = absurd (true≢false (sym h))
-leads-more other so (BlankLine line after) h = leads-more other so after h
-leads-more other so (Paragraph first more after) h = h
-leads-more other so (SetextHeading level first more underline after) h = h
-leads-more other so (LeafBlock leaf first more after) h = h
-leads-more other so (ContainerBlock k first more inside after) h = h
+leads-more : (other : ℕ → Bool) (text : Bool) → (so : Bool) (a : Blocks) → first_leads other text false a ≡ true → first_leads other text so a ≡ true
+leads-more other text so Nil h = absurd (true≢false (sym h))
+leads-more other text so (BlankLine line after) h = leads-more other text so after h
+leads-more other text so (Paragraph first more after) h = h
+leads-more other text so (SetextHeading level first more underline after) h = h
+leads-more other text so (LeafBlock leaf first more after) h = h
+leads-more other text so (ContainerBlock k first more inside after) h = h
+
+-- if a paragraph may be open after some blocks, so may each other block
+leads-text : (other : ℕ → Bool) (text : Bool) (a : Blocks) → first_leads other text text a ≡ true → first_leads other text true a ≡ true
+leads-text other true a h = h
+leads-text other false a h = leads-more other false true a h
+
+-- such blocks begin with no definition
+untitled-of : (other : ℕ → Bool) (text : Bool) (a : Blocks) → first_leads other text false a ≡ true → is_title a ≡ false
+untitled-of other text Nil h = refl
+untitled-of other text (BlankLine line after) h = untitled-of other text after h
+untitled-of other text (Paragraph first more after) h = refl
+untitled-of other text (SetextHeading level first more underline after) h = refl
+untitled-of other text (LeafBlock leaf first more after) h = refl
+untitled-of other text (ContainerBlock (BlockQuote alert) first more inside after) h = refl
+untitled-of other text (ContainerBlock (Item delimiter number width task) first more inside after) h = refl
+untitled-of other text (ContainerBlock (Footnote label old size) first more inside after) h = refl
+untitled-of other text (ContainerBlock (ListDefinition width) first more inside after) h = absurd (true≢false (sym h))
 
 pub no-join : (a b : Blocks) → NoDefinitions a → NoDefinitions b → NoDefinitions (join a b)
 no-join Nil b h k = k
@@ -215,7 +234,7 @@ not-true : (z : Bool) → not z ≡ true → z ≡ false
 not-true true e = absurd (true≢false (sym e))
 not-true false e = refl
 
-apart-of : (a : Blocks) → NoDefinitions a → first_leads (λ m. false) false a ≡ true → begins_apart a ≡ true
+apart-of : (a : Blocks) → NoDefinitions a → first_leads (λ m. false) true false a ≡ true → begins_apart a ≡ true
 apart-of Nil h e = refl
 apart-of (BlankLine line after) h e = apart-of after h e
 apart-of (Paragraph first more after) h e = ap not (no-title after h)
@@ -226,8 +245,20 @@ apart-of (ContainerBlock (Item delimiter number width task) first more inside af
 apart-of (ContainerBlock (Footnote label old size) first more inside after) h e = refl
 apart-of (ContainerBlock (ListDefinition width) first more inside after) h e = absurd (true≢false (sym e))
 
+-- the same for a list that is not a definition list, or if no paragraph is first
+goes-firm : (d : ℕ) (a : Blocks) → first_leads (λ m. not (m == d)) (not (definition_delimiter == d)) false a ≡ true → goes_on d a ≡ false
+goes-firm d Nil e = refl
+goes-firm d (BlankLine line after) e = goes-firm d after e
+goes-firm d (Paragraph first more after) e = ap (λ z. z && is_title after) (not-true (definition_delimiter == d) e)
+goes-firm d (SetextHeading level first more underline after) e = refl
+goes-firm d (LeafBlock leaf first more after) e = refl
+goes-firm d (ContainerBlock (BlockQuote alert) first more inside after) e = refl
+goes-firm d (ContainerBlock (Item m number width task) first more inside after) e = not-true (m == d) e
+goes-firm d (ContainerBlock (Footnote label old size) first more inside after) e = refl
+goes-firm d (ContainerBlock (ListDefinition width) first more inside after) e = absurd (true≢false (sym e))
+
 -- if the first block is no item of the list with this character, the blocks do not continue the list
-goes-of : (d : ℕ) (a : Blocks) → NoDefinitions a → first_leads (λ m. not (m == d)) false a ≡ true → goes_on d a ≡ false
+goes-of : (d : ℕ) (a : Blocks) → NoDefinitions a → first_leads (λ m. not (m == d)) true false a ≡ true → goes_on d a ≡ false
 goes-of d Nil h e = refl
 goes-of d (BlankLine line after) h e = goes-of d after h e
 goes-of d (Paragraph first more after) h e = ap (λ t. (definition_delimiter == d) && t) (no-title after h) ∙ and-false (definition_delimiter == d)
@@ -249,21 +280,21 @@ NoneOpen (InVerbatim closed verbatim first had waiting) = NoDefinitions closed
 NoneOpen (InContainer closed k first more inside) = NoDefinitions closed × (is_definition k ≡ false)
 
 -- the first block, which may be open, is of this kind
-abbrev LeadsOpen : (other : ℕ → Bool) → OpenLines → Type 0
-LeadsOpen other (Between closed) = first_leads other false closed ≡ true
-LeadsOpen other AfterTag = ⊥
-LeadsOpen other (InParagraph closed first more) = first_leads other true closed ≡ true
-LeadsOpen other (InLeaf closed leaf first had left) = first_leads other true closed ≡ true
-LeadsOpen other (InVerbatim closed verbatim first had waiting) = first_leads other true closed ≡ true
-LeadsOpen other (InContainer closed k first more inside) = first_leads other (leads_in other k) closed ≡ true
+abbrev LeadsOpen : (other : ℕ → Bool) (text : Bool) → OpenLines → Type 0
+LeadsOpen other text (Between closed) = first_leads other text false closed ≡ true
+LeadsOpen other text AfterTag = ⊥
+LeadsOpen other text (InParagraph closed first more) = first_leads other text text closed ≡ true
+LeadsOpen other text (InLeaf closed leaf first had left) = first_leads other text true closed ≡ true
+LeadsOpen other text (InVerbatim closed verbatim first had waiting) = first_leads other text true closed ≡ true
+LeadsOpen other text (InContainer closed k first more inside) = first_leads other text (leads_in other k) closed ≡ true
 
 no-blanks : (ws : List Row) → NoDefinitions (blank_lines ws)
 no-blanks [] = tt
 no-blanks (w ∷ ws) = no-blanks ws
 
-leads-blanks : (other : ℕ → Bool) → (so : Bool) (ws : List Row) → first_leads other so (blank_lines ws) ≡ so
-leads-blanks other so [] = refl
-leads-blanks other so (w ∷ ws) = leads-blanks other so ws
+leads-blanks : (other : ℕ → Bool) (text : Bool) → (so : Bool) (ws : List Row) → first_leads other text so (blank_lines ws) ≡ so
+leads-blanks other text so [] = refl
+leads-blanks other text so (w ∷ ws) = leads-blanks other text so ws
 
 pub close-none : (o : OpenLines) → NoneOpen o → NoDefinitions (close_lines o)
 close-none (Between closed) h = h
@@ -273,15 +304,15 @@ close-none (InLeaf closed leaf first had left) h = no-join closed (LeafBlock lea
 close-none (InVerbatim closed verbatim first had waiting) h = no-join (join closed (LeafBlock (leaf_in verbatim) first had Nil)) (blank_lines waiting) (no-join closed (LeafBlock (leaf_in verbatim) first had Nil) h tt) (no-blanks waiting)
 close-none (InContainer closed k first more inside) h = no-join closed (ContainerBlock k first more (close_lines inside) Nil) h.0 (h.1, tt)
 
-close-leads : (other : ℕ → Bool) → (o : OpenLines) → LeadsOpen other o → first_leads other false (close_lines o) ≡ true
-close-leads other (Between closed) h = h
-close-leads other AfterTag h = absurd h
-close-leads other (InParagraph closed first more) h = leads-join other false closed (Paragraph first more Nil) ∙ h
-close-leads other (InLeaf closed leaf first had left) h = leads-join other false closed (LeafBlock leaf first had Nil) ∙ h
-close-leads other (InVerbatim closed verbatim first had waiting) h =
-    leads-join other false (join closed (LeafBlock (leaf_in verbatim) first had Nil)) (blank_lines waiting) ∙ ap (λ z. first_leads other z (join closed (LeafBlock (leaf_in verbatim) first had Nil))) (leads-blanks other false waiting)
-    ∙ leads-join other false closed (LeafBlock (leaf_in verbatim) first had Nil) ∙ h
-close-leads other (InContainer closed k first more inside) h = leads-join other false closed (ContainerBlock k first more (close_lines inside) Nil) ∙ h
+close-leads : (other : ℕ → Bool) (text : Bool) → (o : OpenLines) → LeadsOpen other text o → first_leads other text false (close_lines o) ≡ true
+close-leads other text (Between closed) h = h
+close-leads other text AfterTag h = absurd h
+close-leads other text (InParagraph closed first more) h = leads-join other text false closed (Paragraph first more Nil) ∙ h
+close-leads other text (InLeaf closed leaf first had left) h = leads-join other text false closed (LeafBlock leaf first had Nil) ∙ h
+close-leads other text (InVerbatim closed verbatim first had waiting) h =
+    leads-join other text false (join closed (LeafBlock (leaf_in verbatim) first had Nil)) (blank_lines waiting) ∙ ap (λ z. first_leads other text z (join closed (LeafBlock (leaf_in verbatim) first had Nil))) (leads-blanks other text false waiting)
+    ∙ leads-join other text false closed (LeafBlock (leaf_in verbatim) first had Nil) ∙ h
+close-leads other text (InContainer closed k first more inside) h = leads-join other text false closed (ContainerBlock k first more (close_lines inside) Nil) ∙ h
 
 html-none : (z : Bool) (closed : Blocks) (kind : ℕ) (r : Row) → NoDefinitions closed → NoneOpen (html_begun z closed kind r)
 html-none true closed kind r h = h
@@ -297,19 +328,19 @@ leaf-none (LinkDefinition definition) n closed r h = h
 leaf-none (MetadataBlock kind) n closed r h = h
 leaf-none (Table alignments) n closed r h = h
 
-html-leads : (other : ℕ → Bool) → (z : Bool) (closed : Blocks) (kind : ℕ) (r : Row) → first_leads other true closed ≡ true → LeadsOpen other (html_begun z closed kind r)
-html-leads other true closed kind r h = h
-html-leads other false closed kind r h = h
+html-leads : (other : ℕ → Bool) (text : Bool) → (z : Bool) (closed : Blocks) (kind : ℕ) (r : Row) → first_leads other text true closed ≡ true → LeadsOpen other text (html_begun z closed kind r)
+html-leads other text true closed kind r h = h
+html-leads other text false closed kind r h = h
 
-leaf-leads : (other : ℕ → Bool) → (leaf : Leaf) (n : ℕ) (closed : Blocks) (r : Row) → first_leads other true closed ≡ true → LeadsOpen other (leaf_begun leaf n closed r)
-leaf-leads other ThematicBreak n closed r h = h
-leaf-leads other (AtxHeading level) n closed r h = h
-leaf-leads other IndentedCode n closed r h = h
-leaf-leads other (FencedCode fence) n closed r h = h
-leaf-leads other (HtmlBlock kind) n closed r h = html-leads other (nat_le kind 5 && holds_end kind (words_of r)) closed kind r h
-leaf-leads other (LinkDefinition definition) n closed r h = h
-leaf-leads other (MetadataBlock kind) n closed r h = h
-leaf-leads other (Table alignments) n closed r h = h
+leaf-leads : (other : ℕ → Bool) (text : Bool) → (leaf : Leaf) (n : ℕ) (closed : Blocks) (r : Row) → first_leads other text true closed ≡ true → LeadsOpen other text (leaf_begun leaf n closed r)
+leaf-leads other text ThematicBreak n closed r h = h
+leaf-leads other text (AtxHeading level) n closed r h = h
+leaf-leads other text IndentedCode n closed r h = h
+leaf-leads other text (FencedCode fence) n closed r h = h
+leaf-leads other text (HtmlBlock kind) n closed r h = html-leads other text (nat_le kind 5 && holds_end kind (words_of r)) closed kind r h
+leaf-leads other text (LinkDefinition definition) n closed r h = h
+leaf-leads other text (MetadataBlock kind) n closed r h = h
+leaf-leads other text (Table alignments) n closed r h = h
 
 pub begun-none : (o : Opening) (inside : Container → OpenLines) (closed : Blocks) (r : Row) → NoDefinition o → NoDefinitions closed → NoneOpen (lines_begin_as o inside closed r)
 begun-none Blank inside closed r n h = no-join closed (BlankLine r Nil) h tt
@@ -317,120 +348,185 @@ begun-none (Nests k) inside closed r n h = (h, n)
 begun-none (Takes leaf m) inside closed r n h = leaf-none leaf m closed r h
 begun-none Plain inside closed r n h = h
 
-begun-leads : (other : ℕ → Bool) → (o : Opening) (inside : Container → OpenLines) (closed : Blocks) (r : Row) → first_leads other false closed ≡ true → LeadsOpen other (lines_begin_as o inside closed r)
-begun-leads other Blank inside closed r h = leads-join other false closed (BlankLine r Nil) ∙ h
-begun-leads other (Nests k) inside closed r h = leads-more other (leads_in other k) closed h
-begun-leads other (Takes leaf m) inside closed r h = leaf-leads other leaf m closed r (leads-more other true closed h)
-begun-leads other Plain inside closed r h = leads-more other true closed h
+begun-leads : (other : ℕ → Bool) (text : Bool) → (o : Opening) (inside : Container → OpenLines) (closed : Blocks) (r : Row) → first_leads other text false closed ≡ true → LeadsOpen other text (lines_begin_as o inside closed r)
+begun-leads other text Blank inside closed r h = leads-join other text false closed (BlankLine r Nil) ∙ h
+begun-leads other text (Nests k) inside closed r h = leads-more other text (leads_in other k) closed h
+begun-leads other text (Takes leaf m) inside closed r h = leaf-leads other text leaf m closed r (leads-more other text true closed h)
+begun-leads other text Plain inside closed r h = leads-more other text text closed h
 
 -- a line begins a block of this kind
-abbrev Leads : (other : ℕ → Bool) → Opening → Type 0
-Leads other Blank = ⊥
-Leads other (Nests k) = leads_in other k ≡ true
-Leads other (Takes leaf more) = Unit {0}
-Leads other Plain = Unit {0}
+abbrev Leads : (other : ℕ → Bool) (text : Bool) → Opening → Type 0
+Leads other text Blank = ⊥
+Leads other text (Nests k) = leads_in other k ≡ true
+Leads other text (Takes leaf more) = Unit {0}
+Leads other text Plain = text ≡ true
 
-first-leads : (other : ℕ → Bool) → (o : Opening) (inside : Container → OpenLines) (r : Row) → Leads other o → LeadsOpen other (lines_begin_as o inside Nil r)
-first-leads other Blank inside r e = absurd e
-first-leads other (Nests k) inside r e = e
-first-leads other (Takes leaf m) inside r e = leaf-leads other leaf m Nil r refl
-first-leads other Plain inside r e = refl
+first-leads : (other : ℕ → Bool) (text : Bool) → (o : Opening) (inside : Container → OpenLines) (r : Row) → Leads other text o → LeadsOpen other text (lines_begin_as o inside Nil r)
+first-leads other text Blank inside r e = absurd e
+first-leads other text (Nests k) inside r e = e
+first-leads other text (Takes leaf m) inside r e = leaf-leads other text leaf m Nil r refl
+first-leads other text Plain inside r e = e
 
 -- the line begins no item
-outside-leads : (o : Opening) → is_outside_of_lists o ≡ true → Leads (λ m. false) o
+outside-leads : (o : Opening) → is_outside_of_lists o ≡ true → Leads (λ m. false) true o
 outside-leads Blank e = absurd (true≢false (sym e))
 outside-leads (Nests (BlockQuote alert)) e = refl
 outside-leads (Nests (Item delimiter number width task)) e = absurd (true≢false (sym e))
 outside-leads (Nests (Footnote label old size)) e = refl
 outside-leads (Nests (ListDefinition width)) e = absurd (true≢false (sym e))
 outside-leads (Takes leaf m) e = tt
-outside-leads Plain e = tt
+outside-leads Plain e = refl
 
--- the line begins no item of this list
-another-leads : (d : ℕ) (o : Opening) → may_continue (Some d) o ≡ false → Leads (λ m. not (m == d)) o
-another-leads d Blank e = absurd (true≢false e)
-another-leads d (Nests (BlockQuote alert)) e = refl
-another-leads d (Nests (Item delimiter number width task)) e = ap not e
-another-leads d (Nests (Footnote label old size)) e = refl
-another-leads d (Nests (ListDefinition width)) e = absurd (true≢false e)
-another-leads d (Takes leaf m) e = tt
-another-leads d Plain e = tt
+-- the line begins a block that is no item of this list, and no title that may continue it
+another-leads : (titles : Bool) (d : ℕ) (text : Bool) → ((titles && (definition_delimiter == d)) ≡ false → text ≡ true) → (o : Opening) → may_continue titles (Some d) o ≡ false → Leads (λ m. not (m == d)) text o
+another-leads titles d text h Blank e = absurd (true≢false e)
+another-leads titles d text h (Nests (BlockQuote alert)) e = refl
+another-leads titles d text h (Nests (Item delimiter number width task)) e = ap not e
+another-leads titles d text h (Nests (Footnote label old size)) e = refl
+another-leads titles d text h (Nests (ListDefinition width)) e = absurd (true≢false e)
+another-leads titles d text h (Takes leaf m) e = tt
+another-leads titles d text h Plain e = h e
 
-module _ (options : Options) (off : options.definition_list ≡ false) (other : ℕ → Bool) where
-  abbrev Good : OpenLines → Type 0
-  Good o = NoneOpen o × LeadsOpen other o
+-- any line that is not blank begins some block
+some-leads : (o : Opening) → NoDefinition o → is_blank o ≡ false → Leads (λ m. true) true o
+some-leads Blank n e = absurd (true≢false e)
+some-leads (Nests (BlockQuote alert)) n e = refl
+some-leads (Nests (Item delimiter number width task)) n e = refl
+some-leads (Nests (Footnote label old size)) n e = refl
+some-leads (Nests (ListDefinition width)) n e = absurd (true≢false n)
+some-leads (Takes leaf m) n e = tt
+some-leads Plain n e = refl
 
-  begin-good : (closed : Blocks) (r : Row) (ahead : List Row) → NoDefinitions closed → first_leads other false closed ≡ true → Good (lines_begin options closed r ahead)
+-- ## No definitions, line by line
+
+module _ (options : Options) (off : options.definition_list ≡ false) where
+  begin-none : (closed : Blocks) (r : Row) (ahead : List Row) → NoDefinitions closed → NoneOpen (lines_begin options closed r ahead)
   unfolding lines_begin
-  begin-good closed r ahead n h =
-      let inside = lines_inside r ahead in (
-        begun-none (opens_at options (place_after Apart closed) r ahead) inside closed r (no-at options off closed r ahead) n,
-        begun-leads other (opens_at options (place_after Apart closed) r ahead) inside closed r h,
-      )
+  begin-none closed r ahead n = begun-none (opens_at options (place_after Apart closed) r ahead) inside closed r (no-at options off closed r ahead) n
     where
-      lines_inside : Row → List Row → Container → OpenLines
-      lines_inside r ahead k = lines_begin_in options (length r.columns) (place_in k) Nil (enter k r) (within k (is_bare_start k r) ahead)
+      inside : Container → OpenLines
+      inside k = lines_begin_in options (length r.columns) (place_in k) Nil (enter k r) (within k (is_bare_start k r) ahead)
 
-  -- if the open blocks end, a line begins after them
-  following-good : (o : OpenLines) (r : Row) (ahead : List Row) → Good o → Good (lines_begin options (close_lines o) r ahead)
-  following-good o r ahead g = begin-good (close_lines o) r ahead (close-none o g.0) (close-leads other o g.1)
-
-  feed-good : (o : OpenLines) (r : Row) (ahead : List Row) → Good o → Good (lines_feed options o r ahead)
-  feed-good (Between closed) r ahead g = begin-good closed r ahead g.0 g.1
-  feed-good AfterTag r ahead g = absurd g.0
-  feed-good (InParagraph closed first more) r ahead g = go (underlines r) (texts options r ahead) (following-good (InParagraph closed first more) r ahead g)
+  feed-none : (o : OpenLines) (r : Row) (ahead : List Row) → NoneOpen o → NoneOpen (lines_feed options o r ahead)
+  feed-none (Between closed) r ahead g = begin-none closed r ahead g
+  feed-none AfterTag r ahead g = absurd g
+  feed-none (InParagraph closed first more) r ahead g = go (underlines r) (texts options r ahead) (begin-none (join closed (Paragraph first more Nil)) r ahead (close-none (InParagraph closed first more) g))
     where
-      go : (u : Option ℕ) (t : Bool) → Good (lines_begin options (join closed (Paragraph first more Nil)) r ahead)
-          → Good (lines_underline_or u (λ level. Between (join closed (SetextHeading level first more r Nil))) (lines_go_on_or t (InParagraph closed first (more ++ r ∷ [])) (lines_begin options (join closed (Paragraph first more Nil)) r ahead)))
-      go (Some level) t b = (no-join closed (SetextHeading level first more r Nil) g.0 tt, leads-join other false closed (SetextHeading level first more r Nil) ∙ g.1)
+      go : (u : Option ℕ) (t : Bool) → NoneOpen (lines_begin options (join closed (Paragraph first more Nil)) r ahead)
+          → NoneOpen (lines_underline_or u (λ level. Between (join closed (SetextHeading level first more r Nil))) (lines_go_on_or t (InParagraph closed first (more ++ r ∷ [])) (lines_begin options (join closed (Paragraph first more Nil)) r ahead)))
+      go (Some level) t b = no-join closed (SetextHeading level first more r Nil) g tt
       go None true b = g
       go None false b = b
-  feed-good (InLeaf closed leaf first had zero) r ahead g = following-good (InLeaf closed leaf first had 0) r ahead g
-  feed-good (InLeaf closed leaf first had (suc left)) r ahead g = g
-  feed-good (InVerbatim closed verbatim first had waiting) r ahead g = go (continuation_if r.lazy verbatim r) (following-good (InVerbatim closed verbatim first had waiting) r ahead g)
+  feed-none (InLeaf closed leaf first had zero) r ahead g = begin-none (join closed (LeafBlock leaf first had Nil)) r ahead (close-none (InLeaf closed leaf first had 0) g)
+  feed-none (InLeaf closed leaf first had (suc left)) r ahead g = g
+  feed-none (InVerbatim closed verbatim first had waiting) r ahead g =
+      go (continuation_if r.lazy verbatim r) (begin-none (join (join closed (LeafBlock (leaf_in verbatim) first had Nil)) (blank_lines waiting)) r ahead (close-none (InVerbatim closed verbatim first had waiting) g))
     where
-      go : (c : Continuation) → Good (lines_begin options (join (join closed (LeafBlock (leaf_in verbatim) first had Nil)) (blank_lines waiting)) r ahead)
-          → Good (verbatim_line c closed verbatim first had waiting r (lines_begin options (join (join closed (LeafBlock (leaf_in verbatim) first had Nil)) (blank_lines waiting)) r ahead))
+      go : (k : Continuation) → NoneOpen (lines_begin options (join (join closed (LeafBlock (leaf_in verbatim) first had Nil)) (blank_lines waiting)) r ahead)
+          → NoneOpen (verbatim_line k closed verbatim first had waiting r (lines_begin options (join (join closed (LeafBlock (leaf_in verbatim) first had Nil)) (blank_lines waiting)) r ahead))
       go GoesOn b = g
       go Closes b = g
       go Waits b = g
       go Stops b = b
-  feed-good (InContainer closed k first more inside) r ahead g = go (keeps k (bare_after (is_bare_start k first) more) r) (lazily options k r ahead && lines_take_lazy inside) (following-good (InContainer closed k first more inside) r ahead g)
+  feed-none (InContainer closed k first more inside) r ahead g =
+      go (keeps k (bare_after (is_bare_start k first) more) r) (lazily options k r ahead && lines_take_lazy inside) (begin-none (join closed (ContainerBlock k first more (close_lines inside) Nil)) r ahead (close-none (InContainer closed k first more inside) g))
     where
       on : OpenLines
       on = lines_feed options inside (strip k (bare_after (is_bare_start k first) more) r) (within k false ahead)
 
-      go : (o : Option Row) (z : Bool) → Good (lines_begin options (join closed (ContainerBlock k first more (close_lines inside) Nil)) r ahead)
-          → Good (lines_kept_or o z (InContainer closed k first (more ++ r ∷ []) on) (lines_begin options (join closed (ContainerBlock k first more (close_lines inside) Nil)) r ahead))
+      go : (o : Option Row) (z : Bool) → NoneOpen (lines_begin options (join closed (ContainerBlock k first more (close_lines inside) Nil)) r ahead)
+          → NoneOpen (lines_kept_or o z (InContainer closed k first (more ++ r ∷ []) on) (lines_begin options (join closed (ContainerBlock k first more (close_lines inside) Nil)) r ahead))
       go (Some s) z b = g
       go None true b = g
       go None false b = b
 
-  all-good : (o : OpenLines) (rs : List Row) → Good o → Good (lines_feed_all options o rs)
-  all-good o [] g = g
-  all-good o (r ∷ rs) g = all-good (lines_feed options o r (shown rs)) rs (feed-good o r (shown rs) g)
+  all-none : (o : OpenLines) (rs : List Row) → NoneOpen o → NoneOpen (lines_feed_all options o rs)
+  all-none o [] g = g
+  all-none o (r ∷ rs) g = all-none (lines_feed options o r (shown rs)) rs (feed-none o r (shown rs) g)
 
-  first-good : (r : Row) (ahead : List Row) → Leads other (opens_at options Apart r ahead) → Good (lines_begin options Nil r ahead)
+-- ## The first block, line by line
+
+module _ (options : Options) (other : ℕ → Bool) (text : Bool) where
+  abbrev lines_inside : Row → List Row → Container → OpenLines
+  lines_inside r ahead k = lines_begin_in options (length r.columns) (place_in k) Nil (enter k r) (within k (is_bare_start k r) ahead)
+
+  begin-leads : (closed : Blocks) (r : Row) (ahead : List Row) → first_leads other text false closed ≡ true → LeadsOpen other text (lines_begin options closed r ahead)
   unfolding lines_begin
-  first-good r ahead e = (begun-none (opens_at options Apart r ahead) lines_inside Nil r (no-at options off Nil r ahead) tt, first-leads other (opens_at options Apart r ahead) lines_inside r e)
+  begin-leads closed r ahead h = begun-leads other text (opens_at options (place_after Apart closed) r ahead) (lines_inside r ahead) closed r h
+
+  -- if the open blocks end, a line begins after them
+  following-leads : (o : OpenLines) (r : Row) (ahead : List Row) → LeadsOpen other text o → LeadsOpen other text (lines_begin options (close_lines o) r ahead)
+  following-leads o r ahead g = begin-leads (close_lines o) r ahead (close-leads other text o g)
+
+  feed-leads : (o : OpenLines) (r : Row) (ahead : List Row) → LeadsOpen other text o → LeadsOpen other text (lines_feed options o r ahead)
+  feed-leads (Between closed) r ahead g = begin-leads closed r ahead g
+  feed-leads AfterTag r ahead g = absurd g
+  feed-leads (InParagraph closed first more) r ahead g = go (underlines r) (texts options r ahead) (following-leads (InParagraph closed first more) r ahead g)
     where
-      lines_inside : Container → OpenLines
-      lines_inside k = lines_begin_in options (length r.columns) (place_in k) Nil (enter k r) (within k (is_bare_start k r) ahead)
+      go : (u : Option ℕ) (t : Bool) → LeadsOpen other text (lines_begin options (join closed (Paragraph first more Nil)) r ahead)
+          → LeadsOpen other text (lines_underline_or u (λ level. Between (join closed (SetextHeading level first more r Nil))) (lines_go_on_or t (InParagraph closed first (more ++ r ∷ [])) (lines_begin options (join closed (Paragraph first more Nil)) r ahead)))
+      go (Some level) t b = leads-join other text false closed (SetextHeading level first more r Nil) ∙ leads-text other text closed g
+      go None true b = g
+      go None false b = b
+  feed-leads (InLeaf closed leaf first had zero) r ahead g = following-leads (InLeaf closed leaf first had 0) r ahead g
+  feed-leads (InLeaf closed leaf first had (suc left)) r ahead g = g
+  feed-leads (InVerbatim closed verbatim first had waiting) r ahead g = go (continuation_if r.lazy verbatim r) (following-leads (InVerbatim closed verbatim first had waiting) r ahead g)
+    where
+      go : (c : Continuation) → LeadsOpen other text (lines_begin options (join (join closed (LeafBlock (leaf_in verbatim) first had Nil)) (blank_lines waiting)) r ahead)
+          → LeadsOpen other text (verbatim_line c closed verbatim first had waiting r (lines_begin options (join (join closed (LeafBlock (leaf_in verbatim) first had Nil)) (blank_lines waiting)) r ahead))
+      go GoesOn b = g
+      go Closes b = g
+      go Waits b = g
+      go Stops b = b
+  feed-leads (InContainer closed k first more inside) r ahead g = go (keeps k (bare_after (is_bare_start k first) more) r) (lazily options k r ahead && lines_take_lazy inside) (following-leads (InContainer closed k first more inside) r ahead g)
+    where
+      on : OpenLines
+      on = lines_feed options inside (strip k (bare_after (is_bare_start k first) more) r) (within k false ahead)
 
-  text-good : (r : Row) (rs : List Row) → Leads other (opens_at options Apart r (shown rs)) → Good (lines_feed_all options (Between Nil) (r ∷ rs))
-  text-good r rs e = all-good (lines_begin options Nil r (shown rs)) rs (first-good r (shown rs) e)
+      go : (o : Option Row) (z : Bool) → LeadsOpen other text (lines_begin options (join closed (ContainerBlock k first more (close_lines inside) Nil)) r ahead)
+          → LeadsOpen other text (lines_kept_or o z (InContainer closed k first (more ++ r ∷ []) on) (lines_begin options (join closed (ContainerBlock k first more (close_lines inside) Nil)) r ahead))
+      go (Some s) z b = g
+      go None true b = g
+      go None false b = b
 
-module _ (options : Options) (off : options.definition_list ≡ false) (r : Row) (rs : List Row) where
+  all-leads : (o : OpenLines) (rs : List Row) → LeadsOpen other text o → LeadsOpen other text (lines_feed_all options o rs)
+  all-leads o [] g = g
+  all-leads o (r ∷ rs) g = all-leads (lines_feed options o r (shown rs)) rs (feed-leads o r (shown rs) g)
+
+  first-begins : (r : Row) (ahead : List Row) → Leads other text (opens_at options Apart r ahead) → LeadsOpen other text (lines_begin options Nil r ahead)
+  unfolding lines_begin
+  first-begins r ahead e = first-leads other text (opens_at options Apart r ahead) (lines_inside r ahead) r e
+
+  -- the blocks of lines begin with the block of the first line
+  lines-lead : (r : Row) (rs : List Row) → Leads other text (opens_at options Apart r (shown rs)) → first_leads other text false (close_lines (lines_feed_all options (Between Nil) (r ∷ rs))) ≡ true
+  lines-lead r rs e = close-leads other text (lines_feed_all options (Between Nil) (r ∷ rs)) (all-leads (lines_begin options Nil r (shown rs)) rs (first-begins r (shown rs) e))
+
+module _ (options : Options) (r : Row) (rs : List Row) where
   abbrev after_all : OpenLines
   after_all = lines_feed_all options (Between Nil) (r ∷ rs)
 
-  pub lines-apart : is_outside_of_lists (opens_at options Apart r (shown rs)) ≡ true → begins_apart (close_lines after_all) ≡ true
-  lines-apart e =
-      let g = text-good options off (λ m. false) r rs (outside-leads (opens_at options Apart r (shown rs)) e) in
-      apart-of (close_lines after_all) (close-none after_all g.0) (close-leads (λ m. false) after_all g.1)
+  none-after : options.definition_list ≡ false → NoDefinitions (close_lines after_all)
+  none-after off = close-none after_all (all-none options off (Between Nil) (r ∷ rs) tt)
 
-  pub lines-continue : (list : Option ℕ) → may_continue list (opens_at options Apart r (shown rs)) ≡ false → continues list (close_lines after_all) ≡ false
+  pub lines-apart : options.definition_list ≡ false → is_outside_of_lists (opens_at options Apart r (shown rs)) ≡ true → begins_apart (close_lines after_all) ≡ true
+  lines-apart off e = apart-of (close_lines after_all) (none-after off) (lines-lead options (λ m. false) true r rs (outside-leads (opens_at options Apart r (shown rs)) e))
+
+  -- lines whose first one is not blank begin with no definition
+  pub lines-untitled : is_blank (opens_at options Apart r (shown rs)) ≡ false → is_title (close_lines after_all) ≡ false
+  lines-untitled e = untitled-of (λ m. true) true (close_lines after_all) (lines-lead options (λ m. true) true r rs (some-leads (opens_at options Apart r (shown rs)) (no-opens options r (shown rs)) e))
+
+  pub lines-continue : (list : Option ℕ) → may_continue options.definition_list list (opens_at options Apart r (shown rs)) ≡ false → continues list (close_lines after_all) ≡ false
   lines-continue None e = refl
-  lines-continue (Some d) e =
-      let g = text-good options off (λ m. not (m == d)) r rs (another-leads d (opens_at options Apart r (shown rs)) e) in
-      goes-of d (close_lines after_all) (close-none after_all g.0) (close-leads (λ m. not (m == d)) after_all g.1)
+  lines-continue (Some d) e = go options.definition_list refl e
+    where
+      firm : (z : Bool) → (true && z) ≡ false → not z ≡ true
+      firm true h = absurd (true≢false h)
+      firm false h = refl
+
+      go : (z : Bool) → options.definition_list ≡ z → may_continue z (Some d) (opens_at options Apart r (shown rs)) ≡ false → goes_on d (close_lines after_all) ≡ false
+      go false q h =
+          goes-of d (close_lines after_all) (none-after q)
+          (lines-lead options (λ m. not (m == d)) true r rs (another-leads false d true (λ x. refl) (opens_at options Apart r (shown rs)) h))
+      go true q h =
+          goes-firm d (close_lines after_all)
+          (lines-lead options (λ m. not (m == d)) (not (definition_delimiter == d)) r rs (another-leads true d (not (definition_delimiter == d)) (firm (definition_delimiter == d)) (opens_at options Apart r (shown rs)) h))

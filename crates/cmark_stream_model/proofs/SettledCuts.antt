@@ -4,6 +4,7 @@ use Rattle.std.proofs.lemmas.List.{append_cancel_right, take-append-le, drop-app
 use Rattle.cmark_grammar.specs.Answers.{Lookup}
 use Rattle.cmark_grammar.specs.BlockDocument as document
 use Rattle.cmark_block_model.specs.DocumentModel.{document as document_in}
+use Rattle.cmark_grammar.specs.DefinitionLists.{begins_definition}
 use Rattle.cmark_grammar.specs.Lines.{lines}
 use Rattle.cmark_grammar.specs.Options.{Options}
 use Rattle.cmark_grammar.specs.Places.{Apart}
@@ -16,17 +17,16 @@ use Rattle.cmark_block_model.specs.BlocksModel.{blocks}
 use Rattle.cmark_block_model.specs.BlocksByLine.{OpenLines, Between, AfterTag, InParagraph, InLeaf, InVerbatim, InContainer, close_lines, lines_begin, lines_feed_all}
 use Rattle.cmark_block_model.specs.Tails.{document_after}
 use Rattle.cmark_block_model.proofs.Theorem.{document-whole}
-use Rattle.cmark_stream_model.specs.Growth.{ends_whole, is_blank, continues, open_after, blocks_at, Parts, IsCut, are_blind, has_blank_line, are_resolved, HasNoMetadata, last_list, may_continue}
+use Rattle.cmark_stream_model.specs.Growth.{ends_whole, is_blank, continues, fed_before, open_after, blocks_at, Parts, IsCut, are_blind, has_blank_line, are_resolved, last_list, may_continue}
 use Rattle.cmark_stream_model.specs.Settled.{BeginsWithLine, IsSettledCut, IsSettledAt, StaysJoinedAt}
 use Rattle.cmark_stream_model.specs.Tails.{IsJoinedAt}
 use Rattle.cmark_stream_model.proofs.EndsApart.{ends-grow}
-use Rattle.cmark_stream_model.proofs.Fronts.{preceding, Steady, all-front, all-steady, close-front, parts-begin, apart-front, apart-steady, fed-append}
+use Rattle.cmark_stream_model.proofs.Fronts.{preceding, Steady, all-steady, close-front, parts-begin, apart-front, apart-steady, fed-front, fed-split}
 use Rattle.cmark_stream_model.proofs.GrowingLines.{lines-append, rows-grow}
 use Rattle.cmark_stream_model.proofs.GrowingTables.{same-apart}
 use Rattle.cmark_stream_model.proofs.Leading.{lines-continue}
 use Rattle.cmark_stream_model.proofs.TailFacts.{joined-at}
-use Rattle.cmark_stream_model.proofs.TestedCuts.{tested-cut}
-use Rattle.cmark_stream_model.proofs.Walls.{resolved-settled}
+use Rattle.cmark_stream_model.proofs.Walls.{fed-alone}
 
 -- ## The text grows
 
@@ -63,18 +63,17 @@ module _ (options : Options) where
   pub settled-stays : (text more : List ℕ) (at : ℕ) → IsSettledCut options text at → IsSettledCut options (text ++ more) at
   settled-stays text more at h = record {
     line = h.line;
-    metadata = h.metadata;
-    definitions = h.definitions;
+    unmarked = h.unmarked;
     within = omega (arith, h.within, length-append-le text more);
     apart =
         ap (λ f. ends_whole f (drop at (text ++ more))) same
         ∙ ap (ends_whole (take at text)) (drop-append-le at text more h.within)
         ∙ apart-grows (take at text) (drop at text) h.line more h.complete h.apart;
     complete = subst (λ b. BeginsWithLine b h.line) (sym (drop-append-le at text more h.within)) (complete-grows (drop at text) h.line more h.complete);
-    resolved = ap (λ f. are_resolved (rows f)) same ∙ h.resolved;
+    settled = λ following. subst (λ f. fed_before options following (Between Nil) (rows f) ≡ open_after options f) (sym same) (h.settled following);
     parts = λ ahead. subst (λ f. Parts options (open_after options f) (row_at at h.line) ahead) (sym same) (h.parts ahead);
     begins = h.begins;
-    ends_list = λ ahead. ap (λ f. may_continue (last_list None (blocks_at options 0 f)) (opens_at options Apart (row_at at h.line) ahead)) same ∙ h.ends_list ahead;
+    ends_list = λ ahead. ap (λ f. may_continue options.definition_list (last_list None (blocks_at options 0 f)) (opens_at options Apart (row_at at h.line) ahead)) same ∙ h.ends_list ahead;
   }
     where
       same : take at (text ++ more) ≡ take at text
@@ -87,13 +86,22 @@ module _ (options : Options) where
   pub settled-stays-at : (text more : List ℕ) (at : ℕ) → IsSettledAt options text at → IsSettledAt options (text ++ more) at
   settled-stays-at text more at h = ⊎_elim (λ z. inl z) (λ s. inr (settled-stays text more at s)) h
 
+  -- it is a cut before any lines
+  pub settled-cut : {text : List ℕ} {at : ℕ} → (h : IsSettledCut options text at) (rs : List Row) → IsCut options (take at text) (row_at at h.line) rs
+  settled-cut {text} {at} h rs = record {
+    settled = h.settled (row_at at h.line ∷ rs);
+    parts = h.parts (shown rs);
+    same = same-apart options (close_lines (open_after options (take at text))) (row_at at h.line) (shown rs) h.unmarked;
+    begins = h.begins (shown rs);
+  }
+
   -- ## The document is joined there
 
   settled-joined : (text : List ℕ) (at : ℕ) (lookup : Lookup) → IsSettledCut options text at → IsJoinedAt options lookup text at
   settled-joined text at lookup h =
       subst (λ t. IsJoinedAt options lookup t at) (take-append-drop at text)
       (subst (λ n. IsJoinedAt options lookup (front ++ tail) n) size
-      (joined-at options lookup front tail (ends-grow options h.definitions lookup front tail r rs h.apart first cut ends)))
+      (joined-at options lookup front tail (ends-grow options lookup front tail r rs h.apart first cut ends)))
     where
       front : List ℕ
       front = take at text
@@ -114,12 +122,12 @@ module _ (options : Options) where
       first = ap (λ n. rows_from n (lines (drop at text))) size ∙ complete-row at (drop at text) h.line h.complete
 
       cut : IsCut options (take at text) (row_at at h.line) (rows_from (at + length h.line) (lines (h.complete.next ∷ h.complete.rest)))
-      cut = tested-cut options h.metadata h.definitions front r rs h.resolved (h.parts (shown rs)) (h.begins (shown rs))
+      cut = settled-cut h rs
 
       ends : continues (last_list None (blocks_at options 0 (take at text))) (blocks_at options (length (take at text)) (drop at text)) ≡ false
       ends =
           ap (λ ls. continues (last_list None (blocks_at options 0 front)) (close_lines (lines_feed_all options (Between Nil) ls))) first
-          ∙ lines-continue options h.definitions r rs (last_list None (blocks_at options 0 front)) (h.ends_list (shown rs))
+          ∙ lines-continue options r rs (last_list None (blocks_at options 0 front)) (h.ends_list (shown rs))
 
   -- the beginning of a text
   empty-document : (lookup : Lookup) → document_in [] options lookup ≡ document.Nil
@@ -181,16 +189,15 @@ module _ (options : Options) where
 
   -- what the search for a further cut has found at an offset, after these rows
   pub record Found (text : List ℕ) (from at : ℕ) (done : List Row) (line : List ℕ) : Type 0 where
-    pub metadata : HasNoMetadata options
-    pub definitions : options.definition_list ≡ false
+    pub unmarked : begins_definition options (row_at at line) ≡ false
     pub within : at ≤ length text
     pub split : rows_from from (lines (drop from text)) ≡ done ++ rows_from at (lines (drop at text))
     pub apart : ends_whole (take at text) (drop at text) ≡ true
     pub complete : BeginsWithLine (drop at text) line
-    pub resolved : are_resolved done ≡ true
+    pub settled : (following : List Row) → fed_before options following (Between Nil) done ≡ lines_feed_all options (Between Nil) done
     pub parts : (ahead : List Row) → Parts options (lines_feed_all options (Between Nil) done) (row_at at line) ahead
     pub begins : (ahead : List Row) → is_blank (opens_at options Apart (row_at at line) ahead) ≡ false
-    pub ends_list : (ahead : List Row) → may_continue (last_list (list_before text from) (close_lines (lines_feed_all options (Between Nil) done))) (opens_at options Apart (row_at at line) ahead) ≡ false
+    pub ends_list : (ahead : List Row) → may_continue options.definition_list (last_list (list_before text from) (close_lines (lines_feed_all options (Between Nil) done))) (opens_at options Apart (row_at at line) ahead) ≡ false
 
   module _ (text : List ℕ) (from at : ℕ) (done : List Row) (line : List ℕ) (f : Found text from at done line) where
     abbrev o : OpenLines
@@ -212,26 +219,25 @@ module _ (options : Options) where
         grown n le e =
             ap rows (sym (take-append-drop n text)) ∙ rows-grow (take n text) (drop n text) e ∙ ap (λ m. rows (take n text) ++ rows_from m (lines (drop n text))) (length-take-le n text le)
 
-    settled-with : rows (take at text) ≡ rows (take from text) ++ done → are_resolved (rows (take from text)) ≡ true
-        → (b : Blocks) → open_after options (take at text) ≡ preceding b o → last_list None (close_lines (preceding b o)) ≡ last_list (list_before text from) (close_lines o) → IsSettledCut options text at
-    settled-with are resolved b opened listed = record {
+    settled-with : (b : Blocks) → ((following : List Row) → fed_before options following (Between Nil) (rows (take at text)) ≡ open_after options (take at text)) → open_after options (take at text) ≡ preceding b o → last_list None (close_lines (preceding b o)) ≡ last_list (list_before text from) (close_lines o) → IsSettledCut options text at
+    settled-with b settled opened listed = record {
       line = line;
-      metadata = f.metadata;
-      definitions = f.definitions;
+      unmarked = f.unmarked;
       within = f.within;
       apart = f.apart;
       complete = f.complete;
-      resolved = ap are_resolved are ∙ resolved-append (rows (take from text)) done resolved f.resolved;
+      settled = settled;
       parts = λ ahead. subst (λ x. Parts options x (row_at at line) ahead) (sym opened) (parts-front b o (row_at at line) ahead (f.parts ahead));
       begins = f.begins;
-      ends_list = λ ahead. ap (λ l. may_continue l (opens_at options Apart (row_at at line) ahead)) (ap (λ x. last_list None (close_lines x)) opened ∙ listed) ∙ f.ends_list ahead;
+      ends_list = λ ahead. ap (λ l. may_continue options.definition_list l (opens_at options Apart (row_at at line) ahead)) (ap (λ x. last_list None (close_lines x)) opened ∙ listed) ∙ f.ends_list ahead;
     }
 
     -- after the beginning of the text
     from-start : from ≡ 0 → IsSettledCut options text at
     from-start z =
-        settled-with are (ap (λ n. are_resolved (rows (take n text))) z) Nil
-        (ap (lines_feed_all options (Between Nil)) (are ∙ ap (λ n. rows (take n text) ++ done) z) ∙ sym (none o))
+        settled-with Nil
+        (λ following. subst (λ rs. fed_before options following (Between Nil) rs ≡ lines_feed_all options (Between Nil) rs) (sym all) (f.settled following))
+        (ap (lines_feed_all options (Between Nil)) all ∙ sym (none o))
         (ap (λ x. last_list None (close_lines x)) (none o) ∙ ap (λ n. last_list (list_before text n) (close_lines o)) (sym z))
       where
         none : (x : OpenLines) → preceding Nil x ≡ x
@@ -242,8 +248,8 @@ module _ (options : Options) where
         none (InVerbatim closed verbatim first had waiting) = refl
         none (InContainer closed k first more inside) = refl
 
-        are : rows (take at text) ≡ rows (take from text) ++ done
-        are = rows-done (omega (arith, z)) (ap (λ n. ends_whole (take n text) (drop n text)) z)
+        all : rows (take at text) ≡ done
+        all = rows-done (omega (arith, z)) (ap (λ n. ends_whole (take n text) (drop n text)) z) ∙ ap (λ n. rows (take n text) ++ done) z
 
     -- after a settled cut
     from-settled : IsSettledCut options text from → IsSettledCut options text at
@@ -267,7 +273,7 @@ module _ (options : Options) where
                 first_at : List Row → ℕ
                 first_at [] = 0
                 first_at (x ∷ xs) = x.at
-        go (r0 ∷ rs) e = settled-with are h.resolved b opened listed
+        go (r0 ∷ rs) e = settled-with b (λ following. fed following ∙ sym opened) opened listed
           where
             same : r0 ≡ row_at from h.line
             same = ap (λ l. first_of l) (sym (ap (λ l. l ++ rows_from at (lines (drop at text))) e) ∙ sym f.split ∙ complete-row from (drop from text) h.line h.complete)
@@ -288,15 +294,23 @@ module _ (options : Options) where
             is : o ≡ lines_feed_all options (lines_begin options Nil r (shown rs)) rs
             is = ap (lines_feed_all options (Between Nil)) did
 
+            -- whatever follows, the lines up to the further cut have the same effect
+            fed : (following : List Row) → fed_before options following (Between Nil) (rows (take at text)) ≡ preceding b o
+            fed following =
+                ap (fed_before options following (Between Nil)) are
+                ∙ fed-split options following (Between Nil) (rows (take from text)) done
+                ∙ ap (λ x. fed_before options following x done) (h.settled (done ++ following))
+                ∙ ap (fed_before options following (open_after options (take from text))) did
+                ∙ ap (λ x. fed_before options following x rs) (parts-begin options (open_after options (take from text)) r ahead (h.parts ahead) ∙ apart-front options b r ahead (same-apart options b r ahead h.unmarked))
+                ∙ fed-front options b following (lines_begin options Nil r ahead) rs (apart-steady options b r ahead (h.begins ahead))
+                ∙ ap (λ l. preceding b (fed_before options following (Between Nil) l)) (sym did)
+                ∙ ap (preceding b) (f.settled following)
+              where
+                ahead : List Row
+                ahead = shown (rs ++ following)
+
             opened : open_after options (take at text) ≡ preceding b o
-            opened =
-                ap (lines_feed_all options (Between Nil)) are
-                ∙ fed-append options done (Between Nil) (rows (take from text))
-                ∙ ap (λ x. lines_feed_all options x done) (resolved-settled options h.metadata (take from text) done h.resolved)
-                ∙ ap (lines_feed_all options (open_after options (take from text))) did
-                ∙ ap (λ x. lines_feed_all options x rs) (parts-begin options (open_after options (take from text)) r (shown rs) (h.parts (shown rs)) ∙ apart-front options b r (shown rs) (same-apart options b r (shown rs) h.definitions))
-                ∙ all-front options b begun rs steady
-                ∙ ap (preceding b) (sym is)
+            opened = sym (fed-alone options (Between Nil) (rows (take at text))) ∙ fed []
 
             listed : last_list None (close_lines (preceding b o)) ≡ last_list (list_before text from) (close_lines o)
             listed = ap (last_list None) (close-front options b o (subst (Steady b) (sym is) (all-steady options b begun rs steady))) ∙ last-join None b (close_lines o)

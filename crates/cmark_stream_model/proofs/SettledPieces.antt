@@ -1,5 +1,5 @@
 -- The bytes up to a line after a settled cut are joined at that cut, even if no byte follows the line at the cut in them.
-use Rattle.std.proofs.Common.{◌≡◌, inl, ⊎_elim, ℕ, ◌+◌, ◌<◌, ◌≤◌, true, false, List, [], ◌∷◌, ◌++◌, length, take, drop, refl, sym, ap, ◌∙◌, subst, arith, append-nil, append_assoc, length-append, None}
+use Rattle.std.proofs.Common.{◌≡◌, inl, ⊎_elim, ℕ, ◌+◌, ◌<◌, ◌≤◌, true, false, List, [], ◌∷◌, ◌++◌, length, take, drop, refl, sym, ap, ◌∙◌, subst, arith, append-nil, append_assoc, None}
 use Rattle.std.proofs.lemmas.List.{length-take-le, take-append-drop, take-take, length-drop}
 use Rattle.std.proofs.Math.Seq.{drop-append_seam}
 use Rattle.std.specs.Prelude.{◌-◌}
@@ -16,9 +16,8 @@ use Rattle.cmark_stream_model.specs.Tails.{IsJoinedAt}
 use Rattle.cmark_stream_model.proofs.EndsApart.{ends-grow}
 use Rattle.cmark_stream_model.proofs.GrowingLines.{lines-append}
 use Rattle.cmark_stream_model.proofs.Leading.{lines-continue}
-use Rattle.cmark_stream_model.proofs.SettledCuts.{complete-row, stays-joined, whole-first}
+use Rattle.cmark_stream_model.proofs.SettledCuts.{complete-row, settled-cut, stays-joined, whole-first}
 use Rattle.cmark_stream_model.proofs.TailFacts.{joined-at}
-use Rattle.cmark_stream_model.proofs.TestedCuts.{tested-cut}
 use Rattle.cmark_stream_model.proofs.WholeLines.{whole-longer}
 
 abbrev row-of : Row → List Row → Row
@@ -37,18 +36,18 @@ module _ (options : Options) (lookup : Lookup) (text : List ℕ) (from : ℕ) (h
 
   -- bytes after the cut whose first line is that of the text
   joined-before : (middle : List ℕ) (rs : List Row) → ends_whole front middle ≡ true → rows_from from (lines middle) ≡ r ∷ rs → IsJoinedAt options lookup (front ++ middle) from
-  joined-before middle rs apart first = subst (IsJoinedAt options lookup (front ++ middle)) size (joined-at options lookup front middle (ends-grow options h.definitions lookup front middle r rs apart are cut ends))
+  joined-before middle rs apart first = subst (IsJoinedAt options lookup (front ++ middle)) size (joined-at options lookup front middle (ends-grow options lookup front middle r rs apart are cut ends))
     where
       are : rows_from (length front) (lines middle) ≡ r ∷ rs
       are = ap (λ n. rows_from n (lines middle)) size ∙ first
 
       cut : IsCut options front r rs
-      cut = tested-cut options h.metadata h.definitions front r rs h.resolved (h.parts (shown rs)) (h.begins (shown rs))
+      cut = settled-cut options h rs
 
       ends : continues (last_list None (blocks_at options 0 front)) (blocks_at options (length front) middle) ≡ false
       ends =
           ap (λ ls. continues (last_list None (blocks_at options 0 front)) (close_lines (lines_feed_all options (Between Nil) ls))) are
-          ∙ lines-continue options h.definitions r rs (last_list None (blocks_at options 0 front)) (h.ends_list (shown rs))
+          ∙ lines-continue options r rs (last_list None (blocks_at options 0 front)) (h.ends_list (shown rs))
 
   module _ (to : ℕ) (less : from < to) (within : to ≤ length text) (whole : ends_whole (take to text) (drop to text) ≡ true) where
     abbrev middle : List ℕ

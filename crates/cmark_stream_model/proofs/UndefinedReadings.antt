@@ -2,7 +2,6 @@
 -- of the text.
 use Rattle.std.proofs.Common.{◌≡◌, ℕ, zero, suc, ◌-◌, Bool, true, false, not, ◌==◌, ◌&&◌, ◌||◌, List, [], ◌∷◌, ◌++◌, append-nil, length, drop, take, refl, sym, ap, ◌∙◌, subst, Option, Some, None}
 use Rattle.std.specs.Prelude.{if◌then◌else◌, map}
-use Rattle.cmark_grammar.specs.Answers.{Destination}
 use Rattle.cmark_grammar.specs.BlockDocument.{BlockDocument, Reference as Definition}
 use Rattle.cmark_grammar.specs.BracketDecisions.{Named, following, between, place, stays, question, answered, with_answer, ask, defined_or_asked, refers, one_line_footnotes, is_footnote_label, footnote_reference, as_label, collapsed_or_shortcut, by_own_label, reference_or, unless_footnote, link_or, with_taken, wiki_text, wikilink, wikilink_or, decide, is_there, forms, name_in}
 use Rattle.cmark_grammar.specs.BracketReading.{Reads, Comes}

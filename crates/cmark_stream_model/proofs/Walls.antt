@@ -4,13 +4,13 @@ use Rattle.std.specs.Prelude.{if◌then◌else◌, cond, nat_le, nat_lt}
 use Rattle.std.proofs.lemmas.List.Sums.{take_while-cons}
 use Rattle.cmark_grammar.specs.Alignment.{Alignment}
 use Rattle.cmark_grammar.specs.Columns.{Column, is_blank, without_indent, bytes_of}
-use Rattle.cmark_grammar.specs.Lines.{onto}
+use Rattle.cmark_grammar.specs.Lines.{onto, lines}
 use Rattle.cmark_grammar.specs.MetadataBlockKind.{MetadataBlockKind, YamlStyle, PlusesStyle}
-use Rattle.cmark_grammar.specs.Metadata.{metadata_of, has_metadata, metadata_if, metadata_kind}
+use Rattle.cmark_grammar.specs.Metadata.{metadata_of, has_metadata, metadata_if, metadata_kind, ends_metadata, is_ended, holds_metadata, metadata_continuation}
 use Rattle.cmark_grammar.specs.Options.{Options}
 use Rattle.cmark_grammar.specs.Places.{Place, Apart, AfterLazy, is_after_task}
 use Rattle.cmark_grammar.specs.Rows.{Row, rows, shown, show_as, is_bare, is_blank_line, is_whole_line, indent_of, words_of}
-use Rattle.cmark_grammar.specs.Leaves.{Fence, underlines, is_thematic_break, is_atx_heading, run, fence_of, counted, code_continuation}
+use Rattle.cmark_grammar.specs.Leaves.{Fence, Continuation, GoesOn, Closes, Waits, Stops, underlines, is_thematic_break, is_atx_heading, run, fence_of, counted, code_continuation}
 use Rattle.cmark_grammar.specs.LinkDefinitions.{definition_in, further_bytes, bytes_over}
 use Rattle.cmark_grammar.specs.HtmlBlocks.{html_kind}
 use Rattle.cmark_grammar.specs.Containers.{Container, is_alert, enter, keeps, strip, strip_as, strips, is_bare_start, bare_after, container_of, width_of}
@@ -23,7 +23,9 @@ use Rattle.cmark_grammar.specs.Blocks.{Blocks, Nil, Paragraph, SetextHeading, Le
 use Rattle.cmark_block_model.specs.BlocksModel.{within, place_after}
 use Rattle.cmark_block_model.specs.BlocksByLine.{leaf_in, continuation_if, OpenLines, Between, AfterTag, InParagraph, InLeaf, InVerbatim, InContainer, blank_lines, close_lines, lines_take_lazy, leaf_begun, lines_inside_begun, lines_begin_as, lines_underline_or, lines_go_on_or, lines_kept_or, verbatim_line, lines_begin_in, lines_begin, lines_feed, lines_feed_all}
 use Rattle.cmark_block_model.proofs.RowPlaces.{kept-following}
-use Rattle.cmark_stream_model.specs.Growth.{fed_before, open_after, looks_ahead, are_blind, has_blank_line, are_resolved, HasNoMetadata}
+use Rattle.cmark_stream_model.specs.Growth.{fed_before, open_after, Parts, looks_ahead, are_blind, has_blank_line, are_resolved, decide, AreDecided, HasNoMetadata}
+use Rattle.cmark_stream_model.proofs.Fronts.{Steady, feed-steady}
+use Rattle.cmark_stream_model.proofs.MetadataLines.{ArePrefixed, IsWholly, AreLines, are-lines, feed-prefixed, enter-wholly, enter-none, strip-wholly, strip-told}
 
 pub both : (a b : Bool) → (a && b) ≡ true → (a ≡ true) × (b ≡ true)
 both true b e = (refl, e)
@@ -96,11 +98,18 @@ module _ (options : Options) where
   bare-front : (c : Column) (cs : List Column) (z : Bool) → is_blank c ≡ z → without_indent (c ∷ cs) ≡ drop (length (cond z (c ∷ take_while is_blank cs) [])) (c ∷ cs)
   bare-front c cs z e = ap (λ n. drop n (c ∷ cs)) (ap length (take_while-cons is_blank c cs ∙ ap (λ z. cond z (c ∷ take_while is_blank cs) []) e))
 
-  bare-following : (c : Column) (cs : List Column) → is_bare (without_indent (c ∷ cs)) ≡ true → is_bare (without_indent cs) ≡ true
+  pub bare-following : (c : Column) (cs : List Column) → is_bare (without_indent (c ∷ cs)) ≡ true → is_bare (without_indent cs) ≡ true
   bare-following c cs e = go (is_blank c) refl
     where
       go : (z : Bool) → is_blank c ≡ z → is_bare (without_indent cs) ≡ true
       go true q = sym (ap is_bare (bare-front c cs true q)) ∙ e
+      go false q = absurd (true≢false (sym e ∙ ap is_bare (bare-front c cs false q)))
+
+  pub bare-blank : (c : Column) (cs : List Column) → is_bare (without_indent (c ∷ cs)) ≡ true → is_blank c ≡ true
+  bare-blank c cs e = go (is_blank c) refl
+    where
+      go : (z : Bool) → is_blank c ≡ z → is_blank c ≡ true
+      go true q = q
       go false q = absurd (true≢false (sym e ∙ ap is_bare (bare-front c cs false q)))
 
   pub bare-drop : (n : ℕ) (cs : List Column) → is_bare (without_indent cs) ≡ true → is_bare (without_indent (drop n cs)) ≡ true
@@ -126,7 +135,7 @@ module _ (options : Options) where
   unfolding enter
   enter-blind k r e = blind-drop (width_of k r) r.columns e
 
-  blank-words : (r : Row) → is_blank_line r ≡ true → words_of r ≡ []
+  pub blank-words : (r : Row) → is_blank_line r ≡ true → words_of r ≡ []
   blank-words r e = go (without_indent r.columns) e
     where
       go : (cs : List Column) → is_bare cs ≡ true → bytes_of cs ≡ []
@@ -341,6 +350,8 @@ module _ (options : Options) where
       go false true = refl
       go false false = or-quiet (nests_if (container_of options r)) (nests_if (container_of options r)) (leaf_of options r a) (leaf_of options r b) refl (leaf-quiet r a b h)
 
+  -- ## Metadata
+
   pub no-metadata : HasNoMetadata options → (r : Row) → metadata_kind options r ≡ None
   no-metadata m r = go (is_whole_line r) (metadata_of (bytes_of r.columns))
     where
@@ -353,71 +364,179 @@ module _ (options : Options) where
       go true (Some kind) = ap (λ x. if x then Some kind else None) (off kind)
       go false o = refl
 
-  opens-quiet : HasNoMetadata options → (r : Row) (a b : List Row) → Sees r a b → quiet (opens options r a) ≡ quiet (opens options r b)
-  unfolding opens
-  opens-quiet m r a b h =
-      ap (λ k. quiet (if r.lazy then Plain else or_else (metadata_begun k a) (whole_opens options r a))) (no-metadata m r)
-      ∙ go r.lazy
-      ∙ sym (ap (λ k. quiet (if r.lazy then Plain else or_else (metadata_begun k b) (whole_opens options r b))) (no-metadata m r))
-    where
-      go : (z : Bool) → quiet (if z then Plain else whole_opens options r a) ≡ quiet (if z then Plain else whole_opens options r b)
-      go true = refl
-      go false = whole-quiet r a b h
+  -- both lists of lines decide alike whether metadata begins on the line
+  abbrev Told : Row → List Row → List Row → Type 0
+  Told r a b = (r.lazy ≡ true) ⊎ (quiet (metadata_begun (metadata_kind options r) a) ≡ quiet (metadata_begun (metadata_kind options r) b))
 
-  at-quiet : HasNoMetadata options → (place : Place) (r : Row) (a b : List Row) → Sees r a b → quiet (opens_at options place r a) ≡ quiet (opens_at options place r b)
-  at-quiet m place r a b h = go (is_after_task place && not r.lazy) (definition_at options place r)
+  none-told : (r : Row) (a b : List Row) → (r.lazy ≡ true) ⊎ (metadata_kind options r ≡ None) → Told r a b
+  none-told r a b h = ⊎_elim (λ e. inl e) (λ e. inr (ap (λ k. quiet (metadata_begun k a)) e ∙ sym (ap (λ k. quiet (metadata_begun k b)) e))) h
+
+  opens-quiet : (r : Row) (a b : List Row) → Told r a b → Sees r a b → quiet (opens options r a) ≡ quiet (opens options r b)
+  unfolding opens
+  opens-quiet r a b told h = ⊎_elim lazy (λ e. go r.lazy e) told
+    where
+      opened : Bool → List Row → Opening
+      opened z ahead = if z then Plain else or_else (metadata_begun (metadata_kind options r) ahead) (whole_opens options r ahead)
+
+      lazy : r.lazy ≡ true → quiet (opened r.lazy a) ≡ quiet (opened r.lazy b)
+      lazy e = ap (λ z. quiet (opened z a)) e ∙ sym (ap (λ z. quiet (opened z b)) e)
+
+      go : (z : Bool) → quiet (metadata_begun (metadata_kind options r) a) ≡ quiet (metadata_begun (metadata_kind options r) b) → quiet (opened z a) ≡ quiet (opened z b)
+      go true e = refl
+      go false e = or-quiet (metadata_begun (metadata_kind options r) a) (metadata_begun (metadata_kind options r) b) (whole_opens options r a) (whole_opens options r b) e (whole-quiet r a b h)
+
+  at-quiet : (place : Place) (r : Row) (a b : List Row) → Told r a b → Sees r a b → quiet (opens_at options place r a) ≡ quiet (opens_at options place r b)
+  at-quiet place r a b told h = go (is_after_task place && not r.lazy) (definition_at options place r)
     where
       go : (z : Bool) (d : Option ℕ) → quiet (if z then text_begun r else definition_or d (opens options r a)) ≡ quiet (if z then text_begun r else definition_or d (opens options r b))
       go true d = refl
       go false (Some width) = refl
-      go false None = opens-quiet m r a b h
+      go false None = opens-quiet r a b told h
 
-  begins-inside : (o : Opening) (one other : Container → OpenLines) (closed : Blocks) (r : Row) → ((k : Container) → one k ≡ other k) → lines_begin_as o one closed r ≡ lines_begin_as o other closed r
+  begins-inside : (o : Opening) (one other : Container → OpenLines) (closed : Blocks) (r : Row) → ((k : Container) → o ≡ Nests k → one k ≡ other k) → lines_begin_as o one closed r ≡ lines_begin_as o other closed r
   begins-inside Blank one other closed r e = refl
-  begins-inside (Nests k) one other closed r e = ap (λ x. InContainer closed k r [] (lines_inside_begun (is_alert k) x)) (e k)
+  begins-inside (Nests k) one other closed r e = ap (λ x. InContainer closed k r [] (lines_inside_begun (is_alert k) x)) (e k refl)
   begins-inside (Takes leaf n) one other closed r e = refl
   begins-inside Plain one other closed r e = refl
 
-  begin_in-same : HasNoMetadata options → (n : ℕ) (place : Place) (closed : Blocks) (r : Row) (a b : List Row) → Sees r a b → lines_begin_in options n place closed r a ≡ lines_begin_in options n place closed r b
-  begin_in-same m zero place closed r a b h = refl
-  begin_in-same m (suc n) place closed r a b h =
+  begin_in-same : (n : ℕ) (place : Place) (closed : Blocks) (r : Row) (a b : List Row) → IsWholly options r → Told r a b → Sees r a b → lines_begin_in options n place closed r a ≡ lines_begin_in options n place closed r b
+  begin_in-same zero place closed r a b w told h = refl
+  begin_in-same (suc n) place closed r a b w told h =
       sym (quiet-begins (opens_at options place r a) (inside a) closed r)
-      ∙ ap (λ o. lines_begin_as o (inside a) closed r) (at-quiet m place r a b h)
+      ∙ ap (λ o. lines_begin_as o (inside a) closed r) (at-quiet place r a b told h)
       ∙ quiet-begins (opens_at options place r b) (inside a) closed r
-      ∙ begins-inside (opens_at options place r b) (inside a) (inside b) closed r (λ k. begin_in-same m n (place_in k) Nil (enter k r) (within k (is_bare_start k r) a) (within k (is_bare_start k r) b) (sees-entered k (is_bare_start k r) r a b h))
+      ∙ begins-inside (opens_at options place r b) (inside a) (inside b) closed r
+      (λ k e. begin_in-same n (place_in k) Nil (enter k r) (within k (is_bare_start k r) a) (within k (is_bare_start k r) b) (enter-wholly options k r w)
+      (none-told (enter k r) (within k (is_bare_start k r) a) (within k (is_bare_start k r) b) (inr (enter-none options k place r b e w))) (sees-entered k (is_bare_start k r) r a b h))
     where
       inside : List Row → Container → OpenLines
       inside x k = lines_begin_in options n (place_in k) Nil (enter k r) (within k (is_bare_start k r) x)
 
-  begin-same : HasNoMetadata options → (closed : Blocks) (r : Row) (a b : List Row) → Sees r a b → lines_begin options closed r a ≡ lines_begin options closed r b
+  begin-same : (closed : Blocks) (r : Row) (a b : List Row) → IsWholly options r → Told r a b → Sees r a b → lines_begin options closed r a ≡ lines_begin options closed r b
   unfolding lines_begin
-  begin-same m closed r a b h = begin_in-same m (suc (length r.columns)) (place_after Apart closed) closed r a b h
+  begin-same closed r a b w told h = begin_in-same (suc (length r.columns)) (place_after Apart closed) closed r a b w told h
 
   -- ## One more line
 
-  feed-same : HasNoMetadata options → (o : OpenLines) (r : Row) (a b : List Row) → Sees r a b → lines_feed options o r a ≡ lines_feed options o r b
-  feed-same m (Between closed) r a b h = begin-same m closed r a b h
-  feed-same m AfterTag r a b h = begin_in-same m (suc (length r.columns)) AfterLazy Nil r a b h
-  feed-same m (InParagraph closed first more) r a b h =
-      ap (λ t. lines_underline_or (underlines r) (λ level. Between (join closed (SetextHeading level first more r Nil))) (lines_go_on_or t (InParagraph closed first (more ++ r ∷ [])) (lines_begin options (join closed (Paragraph first more Nil)) r a))) (texts-same r a b h)
-      ∙ ap (λ x. lines_underline_or (underlines r) (λ level. Between (join closed (SetextHeading level first more r Nil))) (lines_go_on_or (texts options r b) (InParagraph closed first (more ++ r ∷ [])) x)) (begin-same m (join closed (Paragraph first more Nil)) r a b h)
-  feed-same m (InLeaf closed leaf first had zero) r a b h = begin-same m (join closed (LeafBlock leaf first had Nil)) r a b h
-  feed-same m (InLeaf closed leaf first had (suc left)) r a b h = refl
-  feed-same m (InVerbatim closed verbatim first had waiting) r a b h =
-      ap (verbatim_line (continuation_if r.lazy verbatim r) closed verbatim first had waiting r) (begin-same m (join (join closed (LeafBlock (leaf_in verbatim) first had Nil)) (blank_lines waiting)) r a b h)
-  feed-same m (InContainer closed k first more inside) r a b h =
-      ap (λ z. lines_kept_or (keeps k bare r) (z && lines_take_lazy inside) (InContainer closed k first (more ++ r ∷ []) (lines_feed options inside (strip k bare r) (within k false a))) (lines_begin options (join closed (ContainerBlock k first more (close_lines inside) Nil)) r a)) (lazily-same k r a b h)
-      ∙ ap (λ x. lines_kept_or (keeps k bare r) (lazily options k r b && lines_take_lazy inside) (InContainer closed k first (more ++ r ∷ []) x) (lines_begin options (join closed (ContainerBlock k first more (close_lines inside) Nil)) r a)) (feed-same m inside (strip k bare r) (within k false a) (within k false b) (sees-inside k bare false r a b h))
-      ∙ ap (λ x. lines_kept_or (keeps k bare r) (lazily options k r b && lines_take_lazy inside) (InContainer closed k first (more ++ r ∷ []) (lines_feed options inside (strip k bare r) (within k false b))) x) (begin-same m (join closed (ContainerBlock k first more (close_lines inside) Nil)) r a b h)
+  -- the line begins a block, or is the first one after an alert's tag
+  abbrev Begins : OpenLines → Row → List Row → Type 0
+  Begins (Between closed) r ahead = Unit {0}
+  Begins AfterTag r ahead = Unit {0}
+  Begins (InParagraph closed first more) r ahead = Parts options (InParagraph closed first more) r ahead
+  Begins (InLeaf closed leaf first had left) r ahead = left ≡ 0
+  Begins (InVerbatim closed verbatim first had waiting) r ahead = Parts options (InVerbatim closed verbatim first had waiting) r ahead
+  Begins (InContainer closed k first more inside) r ahead = Parts options (InContainer closed k first more inside) r ahead
+
+  feed-same : (o : OpenLines) (r : Row) (a b : List Row) → ArePrefixed o → IsWholly options r → (Begins o r a → Told r a b) → Sees r a b → lines_feed options o r a ≡ lines_feed options o r b
+  feed-same (Between closed) r a b p w told h = begin-same closed r a b w (told tt) h
+  feed-same AfterTag r a b p w told h = begin_in-same (suc (length r.columns)) AfterLazy Nil r a b w (told tt) h
+  feed-same (InParagraph closed first more) r a b p w told h =
+      ap (λ t. lines_underline_or (underlines r) underlined (lines_go_on_or t on (lines_begin options off r a))) (texts-same r a b h)
+      ∙ go (underlines r) refl (texts options r b) refl
+    where
+      off : Blocks
+      off = join closed (Paragraph first more Nil)
+
+      on : OpenLines
+      on = InParagraph closed first (more ++ r ∷ [])
+
+      underlined : ℕ → OpenLines
+      underlined level = Between (join closed (SetextHeading level first more r Nil))
+
+      go : (u : Option ℕ) → underlines r ≡ u → (t : Bool) → texts options r b ≡ t
+          → lines_underline_or u underlined (lines_go_on_or t on (lines_begin options off r a)) ≡ lines_underline_or u underlined (lines_go_on_or t on (lines_begin options off r b))
+      go (Some level) e t q = refl
+      go None e true q = refl
+      go None e false q = begin-same off r a b w (told (e, texts-same r a b h ∙ q)) h
+  feed-same (InLeaf closed leaf first had zero) r a b p w told h = begin-same (join closed (LeafBlock leaf first had Nil)) r a b w (told refl) h
+  feed-same (InLeaf closed leaf first had (suc left)) r a b p w told h = refl
+  feed-same (InVerbatim closed verbatim first had waiting) r a b p w told h = go (continuation_if r.lazy verbatim r) refl
+    where
+      off : Blocks
+      off = join (join closed (LeafBlock (leaf_in verbatim) first had Nil)) (blank_lines waiting)
+
+      go : (c : Continuation) → continuation_if r.lazy verbatim r ≡ c
+          → verbatim_line c closed verbatim first had waiting r (lines_begin options off r a) ≡ verbatim_line c closed verbatim first had waiting r (lines_begin options off r b)
+      go GoesOn e = refl
+      go Closes e = refl
+      go Waits e = refl
+      go Stops e = begin-same off r a b w (told e) h
+  feed-same (InContainer closed k first more inside) r a b p w told h =
+      ap (λ z. lines_kept_or (keeps k bare r) (z && lines_take_lazy inside) (on (lines_feed options inside (strip k bare r) (within k false a))) (lines_begin options off r a)) (lazily-same k r a b h)
+      ∙ ap (λ x. lines_kept_or (keeps k bare r) (lazily options k r b && lines_take_lazy inside) (on x) (lines_begin options off r a))
+      (feed-same inside (strip k bare r) (within k false a) (within k false b) p.1 (strip-wholly options k bare r p.0 w)
+      (λ begins. none-told (strip k bare r) (within k false a) (within k false b) (strip-told options k bare r p.0 w)) (sees-inside k bare false r a b h))
+      ∙ go (keeps k bare r) refl (lazily options k r b && lines_take_lazy inside) refl
     where
       bare : Bool
       bare = bare_after (is_bare_start k first) more
 
+      off : Blocks
+      off = join closed (ContainerBlock k first more (close_lines inside) Nil)
+
+      on : OpenLines → OpenLines
+      on x = InContainer closed k first (more ++ r ∷ []) x
+
+      go : (o : Option Row) → keeps k (bare_after (is_bare_start k first) more) r ≡ o → (z : Bool) → (lazily options k r b && lines_take_lazy inside) ≡ z
+          → lines_kept_or o z (on (lines_feed options inside (strip k (bare_after (is_bare_start k first) more) r) (within k false b))) (lines_begin options off r a)
+          ≡ lines_kept_or o z (on (lines_feed options inside (strip k (bare_after (is_bare_start k first) more) r) (within k false b))) (lines_begin options off r b)
+      go (Some s) e z q = refl
+      go None e true q = refl
+      go None e false q = begin-same off r a b w (told (e, ap (λ z. z && lines_take_lazy inside) (lazily-same k r a b h) ∙ q)) h
+
+  -- ## Lines that decide about metadata
+
+  ended-append : (kind : MetadataBlockKind) (rs x : List Row) → AreLines options rs → is_ended kind rs ≡ true → is_ended kind (shown (rs ++ x)) ≡ true
+  ended-append kind [] x l e = absurd (true≢false (sym e))
+  ended-append kind (r ∷ rs) x l e = ap (λ z. is_ended kind (show_as z r (shown (rs ++ x)))) l.0.0 ∙ go (ended-append kind rs x l.1) (ends_metadata kind r) e
+    where
+      go : (is_ended kind rs ≡ true → is_ended kind (shown (rs ++ x)) ≡ true) → (z : Bool) → (z || is_ended kind rs) ≡ true → (z || is_ended kind (shown (rs ++ x))) ≡ true
+      go ih true t = refl
+      go ih false t = ih t
+
+  -- lines that decide about metadata decide alike, whatever follows them
+  decide-told : (r : Row) (rs x y : List Row) → AreLines options rs → decide (metadata_kind options r) rs ≡ true → Told r (shown (rs ++ x)) (shown (rs ++ y))
+  decide-told r rs x y l e = inr (go (metadata_kind options r) rs l e)
+    where
+      held : (kind : MetadataBlockKind) (s : Row) (ss : List Row) → AreLines options ss → (blank ends : Bool) → is_blank_line s ≡ blank → ends_metadata kind s ≡ ends → (blank || (ends || is_ended kind ss)) ≡ true
+          → holds_metadata kind (s ∷ shown (ss ++ x)) ≡ holds_metadata kind (s ∷ shown (ss ++ y))
+      held kind s ss m true ends p q t = rw p refl
+      held kind s ss m false true p q t = rw (p, q) refl
+      held kind s ss m false false p q t = rw (p, q) (ap (λ z. not false && z) (ended-append kind ss x m t ∙ sym (ended-append kind ss y m t)))
+
+      begun : (kind : MetadataBlockKind) (a b : List Row) → holds_metadata kind a ≡ holds_metadata kind b → quiet (metadata_begun (Some kind) a) ≡ quiet (metadata_begun (Some kind) b)
+      begun kind a b q = both-ways (holds_metadata kind a) (holds_metadata kind b) q
+        where
+          both-ways : (z w : Bool) → z ≡ w
+              → quiet (if z then Takes (MetadataBlock kind) (counted (metadata_continuation kind) a) else Plain) ≡ quiet (if w then Takes (MetadataBlock kind) (counted (metadata_continuation kind) b) else Plain)
+          both-ways true true q = refl
+          both-ways true false q = absurd (true≢false q)
+          both-ways false true q = absurd (true≢false (sym q))
+          both-ways false false q = refl
+
+      go : (o : Option MetadataBlockKind) (ss : List Row) → AreLines options ss → decide o ss ≡ true → quiet (metadata_begun o (shown (ss ++ x))) ≡ quiet (metadata_begun o (shown (ss ++ y)))
+      go None ss m t = refl
+      go (Some kind) [] m t = absurd (true≢false (sym t))
+      go (Some kind) (s ∷ ss) m t =
+          begun kind (shown ((s ∷ ss) ++ x)) (shown ((s ∷ ss) ++ y))
+          (ap (λ z. holds_metadata kind (show_as z s (shown (ss ++ x)))) m.0.0
+          ∙ held kind s ss m.1 (is_blank_line s) (ends_metadata kind s) refl refl t
+          ∙ sym (ap (λ z. holds_metadata kind (show_as z s (shown (ss ++ y)))) m.0.0))
+
+  begins-parts : (o : OpenLines) (r : Row) (ahead : List Row) → Steady Nil o → Begins o r ahead → Parts options o r ahead
+  begins-parts (Between closed) r ahead s h = tt
+  begins-parts AfterTag r ahead s h = absurd s
+  begins-parts (InParagraph closed first more) r ahead s h = h
+  begins-parts (InLeaf closed leaf first had left) r ahead s h = h
+  begins-parts (InVerbatim closed verbatim first had waiting) r ahead s h = h
+  begins-parts (InContainer closed k first more inside) r ahead s h = h
+
   -- the state after the lines does not depend on the lines after them
-  fed-same : HasNoMetadata options → (o : OpenLines) (rs x y : List Row) → are_resolved rs ≡ true → fed_before options x o rs ≡ fed_before options y o rs
-  fed-same m o [] x y e = refl
-  fed-same m o (r ∷ rs) x y e =
-      ap (λ z. fed_before options x z rs) (feed-same m o r (shown (rs ++ x)) (shown (rs ++ y)) sees) ∙ fed-same m (lines_feed options o r (shown (rs ++ y))) rs x y (both (are_blind r.columns || has_blank_line rs) (are_resolved rs) e).1
+  pub fed-same : (o : OpenLines) (rs x y : List Row) → Steady Nil o → ArePrefixed o → AreLines options rs → are_resolved rs ≡ true → AreDecided options x o rs → fed_before options x o rs ≡ fed_before options y o rs
+  fed-same o [] x y s p l e d = refl
+  fed-same o (r ∷ rs) x y s p l e d =
+      fed-same (lines_feed options o r (shown (rs ++ x))) rs x y (feed-steady options Nil o r (shown (rs ++ x)) s) (feed-prefixed options o r (shown (rs ++ x)) p) l.1 (both (are_blind r.columns || has_blank_line rs) (are_resolved rs) e).1 d.1
+      ∙ ap (λ z. fed_before options y z rs) (feed-same o r (shown (rs ++ x)) (shown (rs ++ y)) p l.0.1 (λ b. decide-told r rs x y l.1 (d.0 (begins-parts o r (shown (rs ++ x)) s b))) sees)
     where
       sees : Sees r (shown (rs ++ x)) (shown (rs ++ y))
       sees = go (are_blind r.columns) (has_blank_line rs) refl refl (both (are_blind r.columns || has_blank_line rs) (are_resolved rs) e).0
@@ -427,13 +546,21 @@ module _ (options : Options) where
           go false true p q t = inr (shown-alike (rs ++ x) (rs ++ y) (alike-following rs x y q))
           go false false p q t = absurd (true≢false (sym t))
 
-  fed-alone : (o : OpenLines) (rs : List Row) → fed_before options [] o rs ≡ lines_feed_all options o rs
+  pub fed-alone : (o : OpenLines) (rs : List Row) → fed_before options [] o rs ≡ lines_feed_all options o rs
   fed-alone o [] = refl
   fed-alone o (r ∷ rs) = ap (λ l. fed_before options [] (lines_feed options o r (shown l)) rs) (append-nil rs) ∙ fed-alone (lines_feed options o r (shown rs)) rs
 
-  -- so they are fed as if nothing followed
-  pub fed-settled : HasNoMetadata options → (o : OpenLines) (rs following : List Row) → are_resolved rs ≡ true → fed_before options following o rs ≡ lines_feed_all options o rs
-  fed-settled m o rs following e = fed-same m o rs following [] e ∙ fed-alone o rs
+  -- so they are fed as if nothing followed, and as if other lines followed
+  pub fed-settled : (rs following : List Row) → AreLines options rs → are_resolved rs ≡ true → AreDecided options following (Between Nil) rs
+      → (other : List Row) → fed_before options other (Between Nil) rs ≡ lines_feed_all options (Between Nil) rs
+  fed-settled rs following l e d other =
+      sym (fed-same (Between Nil) rs following other refl tt l e d) ∙ fed-same (Between Nil) rs following [] refl tt l e d ∙ fed-alone (Between Nil) rs
 
-  pub resolved-settled : HasNoMetadata options → (front : List ℕ) (following : List Row) → are_resolved (rows front) ≡ true → fed_before options following (Between Nil) (rows front) ≡ open_after options front
-  resolved-settled m front following e = fed-settled m (Between Nil) (rows front) following e
+  pub resolved-settled : (front : List ℕ) (following : List Row) → are_resolved (rows front) ≡ true → AreDecided options following (Between Nil) (rows front)
+      → (other : List Row) → fed_before options other (Between Nil) (rows front) ≡ open_after options front
+  resolved-settled front following e d other = fed-settled (rows front) following (are-lines options 0 (lines front)) e d other
+
+  -- without metadata nothing is to be decided
+  pub none-decided : HasNoMetadata options → (following : List Row) (o : OpenLines) (rs : List Row) → AreDecided options following o rs
+  none-decided m following o [] = tt
+  none-decided m following o (r ∷ rs) = (λ parts. ap (λ k. decide k rs) (no-metadata m r), none-decided m following (lines_feed options o r (shown (rs ++ following))) rs)

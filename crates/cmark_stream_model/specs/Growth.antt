@@ -11,6 +11,8 @@ use Rattle.cmark_grammar.specs.Questions.{Saying}
 use Rattle.cmark_grammar.specs.Readers.{Reader}
 use Rattle.cmark_grammar.specs.SpanDocuments.{Segment, ReadsAll}
 use Rattle.cmark_grammar.specs.Lines.{lines, ends_line}
+use Rattle.cmark_grammar.specs.Metadata.{is_ended, metadata_kind}
+use Rattle.cmark_grammar.specs.MetadataBlockKind.{MetadataBlockKind}
 use Rattle.cmark_grammar.specs.Options.{Options}
 use Rattle.cmark_grammar.specs.Places.{Apart}
 use Rattle.cmark_grammar.specs.Columns.{Column}
@@ -115,7 +117,24 @@ abbrev pub are_resolved : List Row → Bool
 are_resolved [] = true
 are_resolved (r ∷ rs) = (are_blind r.columns || has_blank_line rs) && are_resolved rs
 
--- no metadata is read; the end of metadata is searched for in all later lines
+-- these lines decide whether a block of metadata begins before them: the first of them is blank or ends it, or a later one ends it
+abbrev pub decide_kind : MetadataBlockKind → List Row → Bool
+decide_kind kind [] = false
+decide_kind kind (r ∷ rs) = is_blank_line r || is_ended kind (r ∷ rs)
+
+abbrev pub decide : Option MetadataBlockKind → List Row → Bool
+decide None rs = true
+decide (Some kind) rs = decide_kind kind rs
+
+module _ (options : Options) where
+  -- Lines that decide by themselves which of them begin metadata, though further lines follow. The end of metadata is searched for in all later
+  -- lines. So each line that continues no open block, and may begin metadata, has its end among these lines
+  abbrev pub AreDecided : (following : List Row) → OpenLines → List Row → Type 0
+  AreDecided following o [] = Unit {0}
+  AreDecided following o (r ∷ rs) =
+      (Parts options o r (shown (rs ++ following)) → decide (metadata_kind options r) rs ≡ true) × AreDecided following (lines_feed options o r (shown (rs ++ following))) rs
+
+-- no metadata is read
 abbrev pub HasNoMetadata : Options → Type 0
 HasNoMetadata options = (options.yaml_style_metadata_blocks ≡ false) × (options.pluses_delimited_metadata_blocks ≡ false)
 
@@ -151,16 +170,27 @@ abbrev pub continues : (list : Option ℕ) → Blocks → Bool
 continues None blocks = false
 continues (Some delimiter) blocks = goes_on delimiter blocks
 
--- whether the blocks that begin with this opening may continue this list
-abbrev pub may_continue : (list : Option ℕ) → Opening → Bool
-may_continue None opening = false
-may_continue (Some delimiter) Blank = true
-may_continue (Some delimiter) (Nests (BlockQuote alert)) = false
-may_continue (Some delimiter) (Nests (Item other number width task)) = other == delimiter
-may_continue (Some delimiter) (Nests (Footnote label old size)) = false
-may_continue (Some delimiter) (Nests (ListDefinition width)) = true
-may_continue (Some delimiter) (Takes leaf more) = false
-may_continue (Some delimiter) Plain = false
+-- whether the blocks that begin with this opening may continue this list. If definition lists are read, a paragraph may be the next title of
+-- one
+abbrev pub may_continue : (titles : Bool) → (list : Option ℕ) → Opening → Bool
+may_continue titles None opening = false
+may_continue titles (Some delimiter) Blank = true
+may_continue titles (Some delimiter) (Nests (BlockQuote alert)) = false
+may_continue titles (Some delimiter) (Nests (Item other number width task)) = other == delimiter
+may_continue titles (Some delimiter) (Nests (Footnote label old size)) = false
+may_continue titles (Some delimiter) (Nests (ListDefinition width)) = true
+may_continue titles (Some delimiter) (Takes leaf more) = false
+may_continue titles (Some delimiter) Plain = titles && (definition_delimiter == delimiter)
+
+-- this opening continues no list, and begins no paragraph, which may be a title
+abbrev pub stands_apart : Opening → Bool
+stands_apart Blank = false
+stands_apart (Nests (BlockQuote alert)) = true
+stands_apart (Nests (Item delimiter number width task)) = false
+stands_apart (Nests (Footnote label old size)) = true
+stands_apart (Nests (ListDefinition width)) = false
+stands_apart (Takes leaf more) = true
+stands_apart Plain = false
 
 -- the document of a text is the document of its first bytes, joined with the document of the tail
 abbrev pub IsJoined : Options → Lookup → (front tail : List ℕ) → Type 0

@@ -4,9 +4,10 @@ ghost use Rattle.std.specs.Prelude.{◌≡◌, ℕ, ◌≤◌, ◌<◌, Bool, tr
 ghost use Rattle.cmark_grammar.specs.Answers.{Lookup};
 ghost use Rattle.cmark_grammar.specs.BlockDocument.{Reference};
 ghost use Rattle.cmark_grammar.specs.Blocks.{Blocks, Nil, join};
-ghost use Rattle.cmark_block_model.specs.BlocksByLine.{Between as BetweenBlocks};
+ghost use Rattle.cmark_block_model.specs.BlocksByLine.{OpenLines, Between as BetweenBlocks};
 ghost use Rattle.cmark_block_model.specs.BlocksModel.{blocks, place_after};
 ghost use Rattle.cmark_block_model.specs.DocumentModel.{document};
+ghost use Rattle.cmark_grammar.specs.DefinitionLists.{begins_definition};
 ghost use Rattle.cmark_grammar.specs.Event.{Event, Ranged};
 ghost use Rattle.cmark_grammar.specs.Html.{moved_all, pieces_from, at_line_start, pieces, last_piece, html};
 ghost use Rattle.cmark_grammar.specs.Labels.{fold};
@@ -26,7 +27,7 @@ ghost use Rattle.cmark_block_model.specs.Tails.{document_after};
 ghost use Rattle.cmark_stream_model.specs.Tails.{IsJoinedAt};
 ghost use Rattle.cmark_stream_model.specs.Settled.{IsSettledAt, StaysJoinedAt};
 ghost use Rattle.cmark_stream_model.specs.Undefined.{HasNoDefinitions, IsReadAlone};
-ghost use Rattle.cmark_stream_model.specs.Growth.{is_blank, ends_whole, fed_before, open_after, Parts, blocks_at, IsCut, begins_apart, last_list, continues, may_continue, document_before, document_of_tail, ReadInTurn, are_resolved, HasNoMetadata, definition_or, is_outside_of_lists, IsJoined};
+ghost use Rattle.cmark_stream_model.specs.Growth.{is_blank, ends_whole, fed_before, open_after, Parts, blocks_at, IsCut, begins_apart, last_list, continues, may_continue, document_before, document_of_tail, ReadInTurn, are_resolved, AreDecided, HasNoMetadata, definition_or, is_outside_of_lists, IsJoined};
 
 /// The blocks before a cut are the blocks of the first bytes alone, whatever follows. The blocks after it are those of the tail's
 /// lines alone.
@@ -38,12 +39,21 @@ pub fn blocks_before_a_cut_stay()
         ≡ join (blocks options front) (blocks_at options (length front) tail) }
 {}
 
-/// Some lines look at no later line, and others have a blank line after them. If no metadata is read, later lines do not change their
-/// effect.
+/// Some lines look at no later line, and others have a blank line after them. If they also decide by themselves which of them begin
+/// metadata, no other lines after them change their effect.
 pub fn resolved_lines_are_settled()
-    ensures { (options : Options) → HasNoMetadata options → (front : List ℕ) (tail : List Row)
+    ensures { (options : Options) (front : List ℕ) (tail : List Row)
         → are_resolved (rows front) ≡ true
-        → fed_before options tail (BetweenBlocks Nil) (rows front) ≡ open_after options front }
+        → AreDecided options tail (BetweenBlocks Nil) (rows front)
+        → (other : List Row)
+        → fed_before options other (BetweenBlocks Nil) (rows front) ≡ open_after options front }
+{}
+
+/// If no metadata is read, lines decide by themselves which of them begin metadata: none of them does.
+pub fn lines_without_metadata_are_decided()
+    ensures { (options : Options) → HasNoMetadata options
+        → (tail : List Row) (state : OpenLines) (lines : List Row)
+        → AreDecided options tail state lines }
 {}
 
 /// If the tail continues no list, the document of a text with a cut has two parts. They are the document of the bytes before the cut, and
@@ -104,10 +114,10 @@ pub fn html_is_cut()
         (moved_all (moved_all at_line_start earlier) later).image) }
 {}
 
-/// If no definition lists are read, a line begins the same block after other blocks as at the beginning of a text.
+/// A line without a definition's marker begins the same block after other blocks as at the beginning of a text.
 pub fn lines_begin_apart()
     ensures { (options : Options) (before : Blocks) (r : Row) (ahead : List Row)
-        → options.definition_list ≡ false
+        → begins_definition options r ≡ false
         → opens_at options (place_after Apart before) r ahead ≡ opens_at options Apart r ahead }
 {}
 
@@ -197,11 +207,13 @@ pub fn tails_continue_no_list()
         → begins_apart (blocks_at options at tail) ≡ true }
 {}
 
-/// If neither metadata nor definition lists are read, a test finds cuts. The line begins a block outside of all open ones. Each earlier
-/// line looks at no later line or has a blank line after it.
+/// A test finds cuts. The line has no definition's marker, and begins a block outside of all open ones. Each earlier line looks at no later line
+/// or has a blank line after it. No earlier line may begin metadata whose end may still come.
 pub fn tested_cuts_are_cuts()
-    ensures { (options : Options) → HasNoMetadata options → options.definition_list ≡ false
-        → (front : List ℕ) (r : Row) (rs : List Row) → are_resolved (rows front) ≡ true
+    ensures { (options : Options) (front : List ℕ) (r : Row) (rs : List Row)
+        → begins_definition options r ≡ false
+        → are_resolved (rows front) ≡ true
+        → AreDecided options (r ∷ rs) (BetweenBlocks Nil) (rows front)
         → Parts options (open_after options front) r (shown rs)
         → is_blank (opens_at options Apart r (shown rs)) ≡ false → IsCut options front r rs }
 {}
@@ -277,23 +289,23 @@ pub fn readings_continue_at_an_offset()
         [] later → IsReading text profile [] (first ++ later) }
 {}
 
-/// If no definition lists are read, the document is joined at a cut unless the tail continues the list before it. The list before a cut and a
-/// list of another character after it are two lists.
+/// The document is joined at a cut unless the tail continues the list before it. The list before a cut and a list of another character after it
+/// are two lists.
 pub fn documents_are_cut_between_lists()
-    ensures { (options : Options) → options.definition_list ≡ false
-        → (lookup : Lookup) (front tail : List ℕ) (r : Row) (rs : List Row)
+    ensures { (options : Options) (lookup : Lookup) (front tail : List ℕ) (r : Row) (rs : List Row)
         → ends_whole front tail ≡ true → rows_from (length front) (lines tail) ≡ r ∷ rs
         → IsCut options front r rs
         → continues (last_list None (blocks_at options 0 front))
         (blocks_at options (length front) tail) ≡ false → IsJoined options lookup front tail }
 {}
 
-/// If no definition lists are read, the first line of a tail decides whether the tail may continue a list.
+/// The first line of a tail decides whether the tail may continue a list. If definition lists are read, a paragraph may continue one: a later
+/// line may make it a title.
 pub fn first_lines_decide_about_lists()
-    ensures { (options : Options) → options.definition_list ≡ false
-        → (list : Option ℕ) (at : ℕ) (tail : List ℕ) (r : Row) (rs : List Row)
+    ensures { (options : Options) (list : Option ℕ) (at : ℕ) (tail : List ℕ) (r : Row)
+        (rs : List Row)
         → rows_from at (lines tail) ≡ r ∷ rs
-        → may_continue list (opens_at options Apart r (shown rs)) ≡ false
+        → may_continue options.definition_list list (opens_at options Apart r (shown rs)) ≡ false
         → continues list (blocks_at options at tail) ≡ false }
 {}
 

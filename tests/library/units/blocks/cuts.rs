@@ -57,17 +57,70 @@ fn texts_have_cuts(rt: HostRuntime) -> Result<(), Fail> {
     Ok(())
 }
 
-// Metadata and definitions of a definition list can change earlier blocks.
+// Texts with the last cut if metadata between lines of `---` is read.
+const METADATA: &[(&str, usize)] = &[
+    ("a\n\nb\n\nc\n\n", 6),
+    // metadata whose end has come
+    ("---\na: b\n---\nc\n\n", 13),
+    ("---\na: b\n...\nc\n\nd\n\n", 16),
+    ("---\na: b\n\nc\n---\n# d\n\n", 16),
+    ("a\n\n---\nb\n\nc\n---\nd\n\n", 16),
+    // metadata whose end may still come
+    ("---\na: b\n\nc\n\n", 0),
+    ("---\n# a\n\nb\n\n", 0),
+    ("a\n\n---\nb\n\nc\n\n", 3),
+    ("a\n\n---\nb\n\n***\n\n", 3),
+    ("---\n---\na\n\n", 0),
+    // lines that begin no metadata, whatever follows
+    ("---\n\na\n\n", 5),
+    ("---\n---\n\na\n\n", 9),
+    ("a\n---\nb\n\n", 6),
+    ("```\n---\n```\na\n\n", 12),
+    ("> ---\na\n\n", 6),
+    ("- ---\n\na\n\n", 7),
+    (" ---\na\n\n", 5),
+    ("----\na\n\n", 5),
+    ("+++\n# a\n\n", 4),
+];
+
 #[test]
-fn some_options_leave_no_cut(rt: HostRuntime) -> Result<(), Fail> {
-    let text = "a\n\nb\n\nc\n\n";
-    assert_eq!(rt; last_cut(rt.alloc(), text, 0, Options::empty())?, 6);
-    for options in [
-        Options::ENABLE_DEFINITION_LIST,
-        Options::ENABLE_YAML_STYLE_METADATA_BLOCKS,
-        Options::ENABLE_PLUSES_DELIMITED_METADATA_BLOCKS,
-    ] {
-        assert_eq!(rt; last_cut(rt.alloc(), text, 0, options)?, 0);
+fn lines_that_may_begin_metadata_bar_cuts(rt: HostRuntime) -> Result<(), Fail> {
+    for (text, cut) in METADATA {
+        assert_eq!(rt; last_cut(rt.alloc(), text, 0, Options::ENABLE_YAML_STYLE_METADATA_BLOCKS)?, *cut);
+    }
+    let pluses = Options::ENABLE_PLUSES_DELIMITED_METADATA_BLOCKS;
+    assert_eq!(rt; last_cut(rt.alloc(), "+++\n# a\n\n", 0, pluses)?, 0);
+    assert_eq!(rt; last_cut(rt.alloc(), "+++\na\n+++\nb\n\n", 0, pluses)?, 10);
+    assert_eq!(rt; last_cut(rt.alloc(), "a\n+++\n\nb\n\n", 0, pluses)?, 7);
+    Ok(())
+}
+
+// Texts with the last cut if definition lists are read.
+const TERMS: &[(&str, usize)] = &[
+    ("a\n\nb\n\nc\n\n", 6),
+    ("# a\nb\n\n", 4),
+    // a definition makes the paragraph before it a title
+    ("a\n: b\n\n", 0),
+    ("a\n\n: b\n\n", 0),
+    ("a\n\nb\n\n: c\n\n", 3),
+    // a paragraph after a definition may be the next title
+    ("a\n: b\n\nc\n\n", 0),
+    ("a\n: b\n\nc\n\nd\n\n", 10),
+    ("a\n: b\n\nc\n: d\n\n", 0),
+    ("a\n: b\n\n# c\n\n", 7),
+    ("a\n: b\n\n> c\n\n", 7),
+    ("a\n: b\n\n***\nc\n\n", 11),
+    // the search does not tell definition lists from others
+    ("- a\n\nb\n\n", 0),
+    ("- a\n\nb\n\nc\n\n", 8),
+    ("- a\n\n# b\n\n", 5),
+    ("a\n\n- b\n\n", 3),
+];
+
+#[test]
+fn definitions_bar_cuts(rt: HostRuntime) -> Result<(), Fail> {
+    for (text, cut) in TERMS {
+        assert_eq!(rt; last_cut(rt.alloc(), text, 0, Options::ENABLE_DEFINITION_LIST)?, *cut);
     }
     Ok(())
 }
@@ -110,7 +163,7 @@ fn main() {
 ";
 
 // The number of bytes that the searches look at if the text grows by `chunk` bytes at a time, and each search continues after the last cut.
-fn bytes_read(alloc: Global, text: &str, chunk: usize) -> Result<usize, AllocError> {
+fn bytes_read(alloc: Global, text: &str, chunk: usize, options: Options) -> Result<usize, AllocError> {
     let mut from = 0;
     let mut size = 0;
     let mut read = 0;
@@ -120,7 +173,7 @@ fn bytes_read(alloc: Global, text: &str, chunk: usize) -> Result<usize, AllocErr
             continue;
         };
         read += size - from;
-        from = last_cut(alloc, now, from, Options::GITHUB)?;
+        from = last_cut(alloc, now, from, options)?;
     }
     Ok(read)
 }
@@ -138,12 +191,15 @@ fn the_search_continues_after_a_cut(rt: HostRuntime) -> Result<(), Fail> {
 
 #[test]
 fn a_growing_document_is_read_a_few_times(rt: HostRuntime) -> Result<(), Fail> {
-    let mut text = String::new(rt.alloc());
+    let mut text = String::from_str(rt.alloc(), "---\ntitle: Bread\n---\n\n")?;
     for _ in 0..20 {
         text.push_str(DOCUMENT)?;
     }
-    let read = bytes_read(rt.alloc(), text.as_str(), 20)?;
+    let read = bytes_read(rt.alloc(), text.as_str(), 20, Options::GITHUB)?;
     println!(rt; "{} bytes read of {}", read, text.len())?;
     assert!(rt; read <= 8 * text.len());
+    let all = bytes_read(rt.alloc(), text.as_str(), 20, Options::all())?;
+    println!(rt; "{} bytes read of {}, with all options", all, text.len())?;
+    assert!(rt; all <= 8 * text.len());
     Ok(())
 }

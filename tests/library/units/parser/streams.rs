@@ -103,10 +103,42 @@ fn random_texts_have_their_html(rt: HostRuntime) -> Result<(), Fail> {
 
 #[test]
 fn random_texts_without_definitions_have_their_html(rt: HostRuntime) -> Result<(), Fail> {
-    for options in [Options::empty(), Options::GITHUB] {
+    for options in [
+        Options::empty(),
+        Options::GITHUB,
+        Options::ENABLE_YAML_STYLE_METADATA_BLOCKS,
+        Options::ENABLE_PLUSES_DELIMITED_METADATA_BLOCKS,
+        Options::ENABLE_DEFINITION_LIST,
+        Options::all(),
+    ] {
         let kept = compare(rt.alloc(), &rt, Kind::Plain, options, 2, 300, UNDEFINED)?;
         println!(rt; "kept {}", kept)?;
         assert!(rt; kept > 300);
+    }
+    Ok(())
+}
+
+// Texts with options, and the HTML that is settled after them.
+const SETTLED: &[(&str, Options, &str)] = &[
+    // front matter bars nothing
+    ("---\na: b\n---\n# c\n\nd\n\n", Options::ENABLE_YAML_STYLE_METADATA_BLOCKS, "<h1>c</h1>\n"),
+    ("+++\na = 1\n+++\n\nc\n\nd\n\n", Options::ENABLE_PLUSES_DELIMITED_METADATA_BLOCKS, "<p>c</p>\n"),
+    // the end of the metadata may still come
+    ("---\n# c\n\nd\n\n", Options::ENABLE_YAML_STYLE_METADATA_BLOCKS, ""),
+    ("a\n\n---\n# c\n\nd\n\n", Options::ENABLE_YAML_STYLE_METADATA_BLOCKS, "<p>a</p>\n"),
+    // a paragraph is settled, but not directly after a definition list
+    ("a\n\nb\n\n", Options::ENABLE_DEFINITION_LIST, "<p>a</p>\n"),
+    ("a\n: b\n\nc\n\n", Options::ENABLE_DEFINITION_LIST, ""),
+    ("a\n: b\n\n# c\n\n", Options::ENABLE_DEFINITION_LIST, "<dl>\n<dt>a</dt>\n<dd>b</dd>\n</dl>\n"),
+];
+
+#[test]
+fn texts_with_metadata_and_definitions_are_settled(rt: HostRuntime) -> Result<(), Fail> {
+    for (text, options, settled) in SETTLED {
+        let mut stream = stream_of(rt.alloc(), Kind::Plain, *options)?;
+        stream.push(text)?;
+        stream.refresh()?;
+        assert_eq!(rt; stream.settled(), *settled);
     }
     Ok(())
 }

@@ -1,36 +1,16 @@
-use Rattle.std.proofs.Common.{[], sym, ap, subst, ◌∙◌}
+use Rattle.std.proofs.Common.{[], sym, subst}
 use Rattle.std.specs.Str.{IsCharBoundary}
-use Rattle.cmark_grammar.specs.Options.{Options}
-use Rattle.cmark_stream_model.specs.Growth.{HasNoMetadata}
 use Rattle.cmark_stream_model.specs.Settled.{IsSettledAt}
 use Rattle.cmark_stream_model.proofs.SettledCuts.{stays-joined}
 use Rattle.cmark_values.specs.Shown.{shown_options}
-use Rattle.cmark_blocks.proofs.CutSteps.{neither}
 use Rattle.cmark_blocks.proofs.ReferenceSteps.{no_reference}
 use Rattle.cmark_blocks.proofs.SearchSteps.{starts-here}
 use Rattle.cmark_blocks.proofs.cuts.last_cut.Goals as goal
-
-pub returns-then-reads_metadata-clause-stays : goal.returns-then-reads_metadata-clause-stays
-returns-then-reads_metadata-clause-stays c = λ settled. stays-joined (shown_options c.args.options) c.args.text.now c.args.from settled
-
-pub returns-then-reads_definition_lists-clause-stays : goal.returns-then-reads_definition_lists-clause-stays
-returns-then-reads_definition_lists-clause-stays c = λ settled. stays-joined (shown_options c.args.options) c.args.text.now c.args.from settled
 
 pub find_cut-requires-clause-starts : goal.find_cut-requires-clause-starts
 find_cut-requires-clause-starts c =
     starts-here c.args.text.now (shown_options c.args.options) _ c.args.from c.in_ok-pass.pass
     (c.in_ok-pass.ensures.runs [] [] (λ folded. no_reference c.new-definitions.result folded (c.new-definitions.ensures folded)) c.new-footnotes.ensures)
-
-pub find_cut-requires-clause-metadata : goal.find_cut-requires-clause-metadata
-find_cut-requires-clause-metadata c =
-    let runs = c.in_ok-pass.ensures.runs [] [] (λ folded. no_reference c.new-definitions.result folded (c.new-definitions.ensures folded)) c.new-footnotes.ensures in
-    let options = shown_options c.args.options in
-    subst HasNoMetadata (sym runs.options_is) (neither options.yaml_style_metadata_blocks options.pluses_delimited_metadata_blocks (sym c.reads_metadata.ensures ∙ c.if-reads_metadata.false))
-
-pub find_cut-requires-clause-definitions : goal.find_cut-requires-clause-definitions
-find_cut-requires-clause-definitions c =
-    let runs = c.in_ok-pass.ensures.runs [] [] (λ folded. no_reference c.new-definitions.result folded (c.new-definitions.ensures folded)) c.new-footnotes.ensures in
-    ap (λ (o : Options). o.definition_list) runs.options_is ∙ sym c.reads_definition_lists.ensures ∙ c.if-reads_definition_lists.false
 
 -- the beginning is settled for the pass too
 pub returns-clause-settled : goal.returns-clause-settled

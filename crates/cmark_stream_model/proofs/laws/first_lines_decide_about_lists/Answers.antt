@@ -6,4 +6,4 @@ use Rattle.cmark_stream_model.proofs.Leading.{lines-continue}
 use Rattle.cmark_stream_model.proofs.laws.first_lines_decide_about_lists.Goals as goal
 
 pub returns : goal.returns
-returns c options off list at following r rs are e = ap (λ ls. continues list (close_lines (lines_feed_all options (Between Nil) ls))) are ∙ lines-continue options off r rs list e
+returns c options list at following r rs are e = ap (λ ls. continues list (close_lines (lines_feed_all options (Between Nil) ls))) are ∙ lines-continue options r rs list e

@@ -6,4 +6,4 @@ use Rattle.cmark_stream_model.proofs.Leading.{lines-apart}
 use Rattle.cmark_stream_model.proofs.laws.tails_continue_no_list.Goals as goal
 
 pub returns : goal.returns
-returns c options off at following r rs are e = ap (λ ls. begins_apart (close_lines (lines_feed_all options (Between Nil) ls))) are ∙ lines-apart options off r rs e
+returns c options off at following r rs are e = ap (λ ls. begins_apart (close_lines (lines_feed_all options (Between Nil) ls))) are ∙ lines-apart options r rs off e

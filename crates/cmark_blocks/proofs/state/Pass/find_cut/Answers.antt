@@ -5,6 +5,7 @@ use Rattle.cmark_leaf_nodes.specs.TextColumns.{StandInText}
 use Rattle.cmark_leaf_nodes.proofs.TextColumnSteps.{line-in_text}
 use Rattle.cmark_line_rules.specs.Rests.{row_of, IsIn}
 use Rattle.cmark_values.specs.Shown.{shown_options}
+use Rattle.cmark_blocks.specs.Cuts.{shown_undecided}
 use Rattle.cmark_blocks.proofs.CutSteps.{is-first}
 use Rattle.cmark_blocks.proofs.SearchSteps.{chosen, searches-start, searches-step}
 use Rattle.cmark_blocks.proofs.state.Pass.find_cut.Goals as goal
@@ -14,7 +15,7 @@ loop-self-init g c = (
   c.requires.good,
   refl,
   subst (IsCharBoundary c.args.self.now.text.now) c.requires.starts.line_end c.requires.good.begins,
-  λ settled. searches-start g.E.EntityLookup.replacement c.args.self.now c.args.from c.requires.good c.requires.starts c.requires.metadata c.requires.definitions settled (not (c.args.from == 0)) (is-first c.args.from),
+  λ settled. searches-start g.E.EntityLookup.replacement c.args.self.now c.args.from c.requires.good c.requires.starts settled (not (c.args.from == 0)) (is-first c.args.from),
 )
 
 pub facts_of-facts-requires : goal.facts_of-facts-requires
@@ -53,12 +54,13 @@ loop-self-preserved g c =
       c.feed.ensures.text ∙ c.loop-self.invariant.1,
       chosen (IsCharBoundary first.text.now) _ old.line_end c.loop-self.search.cut c.after-search.result.cut c.after-search.ensures.cut
           (subst (λ t. IsCharBoundary t old.line_end) (ap (λ t. t.now) c.loop-self.invariant.1) c.loop-self.invariant.0.begins) c.loop-self.invariant.2,
-      λ settled. searches-step replacement first.text.now (shown_options first.options) (replacement first.entities.now) c.args.from old c.feed.new.self c.new-line.result c.loop-self.search.cut c.loop-self.search.is_resolved c.loop-self.search.after_item
+      λ settled. searches-step replacement first.text.now (shown_options first.options) (replacement first.entities.now) c.args.from old c.feed.new.self c.new-line.result c.loop-self.search.cut c.loop-self.search.is_resolved c.loop-self.search.after_item (shown_undecided c.loop-self.search.undecided)
           (c.loop-self.invariant.3 settled) c.as_bytes.result.now same lt c.new-line.ensures.line (c.new-line.ensures.further lt)
-          facts.result.begins facts.result.is_outside facts.result.is_decided facts.result.is_blank facts.result.is_blind
-          facts.ensures.begins facts.ensures.is_outside facts.ensures.is_decided facts.ensures.is_blank facts.ensures.is_blind
+          facts.result.begins facts.result.lists.is_outside facts.result.lists.is_apart facts.result.lists.is_marked facts.result.is_decided facts.result.is_blank facts.result.is_blind
+          facts.ensures.begins facts.ensures.is_outside facts.ensures.is_unmarked facts.ensures.is_apart facts.ensures.is_marked facts.ensures.is_decided facts.ensures.is_blank facts.ensures.is_blind
           c.in_ok-feed.ensures.runs c.feed.ensures.good c.in_ok-feed.ensures.line_end
-          c.after-search.result.cut c.after-search.result.is_resolved c.after-search.result.after_item c.after-search.ensures.cut c.after-search.ensures.resolved c.after-search.ensures.after_item,
+          c.after-search.result.cut c.after-search.result.is_resolved c.after-search.result.after_item (shown_undecided c.after-search.result.undecided) c.after-search.ensures.cut c.after-search.ensures.resolved c.after-search.ensures.after_item
+          (ap shown_undecided c.after-search.ensures.undecided ∙ c.after-undecided.ensures),
     )
 
 pub returns-clause-settled : goal.returns-clause-settled
