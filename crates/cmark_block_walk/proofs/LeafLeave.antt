@@ -16,16 +16,15 @@ use Rattle.cmark_grammar.specs.SpanDocuments.{Segment, Given, is_cell, segments}
 use Rattle.cmark_items.specs.declared.item.Item.{Item}
 use Rattle.cmark_leaf_text.specs.declared.stretch.LeafLine.{LeafLine}
 use Rattle.cmark_block_walk.specs.declared.walk.Walk.{Walk}
-use Rattle.cmark_block_walk.specs.declared.reading.Met.TheVariants as met
 use Rattle.cmark_block_walk.specs.declared.reading.Stage.TheVariants as stage
-use Rattle.cmark_block_walk.specs.Walking.{Drawn, Gives, Goes, HoldsLines, IsFirst, IsStaged, Remains, leaf_at, left_above, left_after, left_from, leaving, texts_of, tight_below}
+use Rattle.cmark_block_walk.specs.Walking.{Drawn, GivesLeaf, Goes, HoldsLines, IsFirst, IsStaged, Remains, leaf_at, left_above, left_after, left_from, leaving, texts_of, tight_below}
 use Rattle.cmark_block_walk.proofs.WalkSteps.{Focus, IsFocusAt, IsItem, at-item, at_range, beyond, left-staged, moved, over-range, passed, remains-before, staged}
 use Rattle.cmark_block_walk.proofs.LeaveSteps.{EndsAs, leaving-none, leaving-some}
 
 -- the lines of the leaf are met, and the events after them are left
 pub meets-leaf : (walk : Walk) (item : Item) (ix : TreeIndex) (cell : Bool) (lines : List LeafLine) → IsFocusAt walk ix → IsItem walk.tree ix item
     → ((text : List ℕ) (texts : List CowStr) (node : BlockNode) → Drawn text texts item node → cell ≡ is_cell node.kind) → walk.stage ≡ stage.Lines → HoldsLines walk lines
-    → (left : List Segment) → Remains walk left → Gives left (met.Leaf cell) lines (staged walk stage.Following)
+    → (left : List Segment) → Remains walk left → GivesLeaf left cell lines (staged walk stage.Following)
 meets-leaf walk item ix cell lines at is in-cell now holds left r = (
   leaf_at r.here,
   left_from stage.Following r.here r.above,

@@ -1,8 +1,14 @@
 -- Items whose event is no short one.
-use Rattle.std.proofs.Common.{◌≡◌, ℕ, Bool, true, false, true≢false, List, Some, None, refl, sym, ap, ◌∙◌, subst}
+use Rattle.std.proofs.Common.{◌≡◌, inl, inr, ℕ, Bool, true, false, true≢false, List, Option, Some, None, refl, sym, ap, ◌∙◌, subst}
 use Rattle.std.proofs.lemmas.Option.{same_Some}
 use Rattle.std.specs.Char.{encode_utf8}
+use Rattle.cmark_tree.specs.declared.tree_index.TreeIndex.{TreeIndex}
+use Rattle.cmark_tree.specs.Forest.{Forest, Nil, Node}
+use Rattle.cmark_tree.specs.Arena.{Entry, Placed, Stands, first}
+use Rattle.cmark_tree.specs.Tree.{entry_at, focus_of}
 use Rattle.cmark_tree.specs.Zip.{Zip}
+use Rattle.cmark_tree.proofs.Steps.{in_right}
+use Rattle.cmark_grammar.specs.Event as event
 use Rattle.cmark_grammar.specs.BlockDocument as document
 use Rattle.cmark_grammar.specs.BlockDocument.{BlockKind, BlockNode}
 use Rattle.cmark_grammar.specs.BlockReading as reads
@@ -17,8 +23,12 @@ use Rattle.cmark_values.specs.declared.text.CowStr.{CowStr}
 use Rattle.cmark_block_walk.specs.declared.reading.Glance.{Glance}
 use Rattle.cmark_block_walk.specs.declared.reading.Glance.TheVariants as glance
 use Rattle.cmark_block_walk.specs.declared.walk.Walk.{Walk}
-use Rattle.cmark_block_walk.specs.Walking.{Drawn, IsElement, IsLeafElement, IsLongGlance, Outer, ReadsAs, StandsBelow, has_texts, is_long, is_synthesized, task_body, texts_of, tight_below}
+use Rattle.cmark_block_walk.specs.declared.reading.Stage.{Stage}
+use Rattle.cmark_block_walk.specs.declared.reading.Stage.TheVariants as stage
+use Rattle.cmark_block_walk.specs.Walking.{Drawn, IsAt, IsElement, IsLeafElement, IsLong, IsLongFrom, IsLongGlance, MayBeginWithEnd, NoEndIsNext, Outer, OwnsText, ReadsAs, StandsBelow, has_texts, is_long, is_synthesized, left_from, task_body, texts_of, tight_below}
+use Rattle.cmark_block_walk.proofs.EndSteps.{NotInside, before-otherwise, listed-otherwise, no-end, owns-otherwise, task-otherwise}
 use Rattle.cmark_block_walk.proofs.Paths.{spelt-kind, within-kind}
+use Rattle.cmark_block_walk.proofs.WalkSteps.{left-staged}
 
 -- an item that is neither a task marker nor a text without source is an element with a text of its own
 pub long-texts : (b : ItemBody) → is_long b ≡ true → None ≡ task_body b → false ≡ is_synthesized b → has_texts b ≡ true
@@ -109,3 +119,40 @@ inside-drawn text texts start end tight _ kind e n = absurd (let q : None ≡ So
 
 pub other-inside : (text : List ℕ) (texts : List CowStr) (item : Item) (tight : Bool) (node : BlockNode) → Drawn text texts item node → IsOther item.body → reads.Inside ≡ read_as (kind_within tight node.kind)
 other-inside text texts item tight node d n = inside-drawn text texts item.start item.end tight item.body node.kind (within-kind item.start item.end node (kind_over text texts item.start item.end (shape item.body)) d.shown) n
+
+-- ## The next event is not an end
+
+owned : (b : ItemBody) → is_long b ≡ true → task_body b ≡ None → OwnsText b
+owned (body.TaskListMarker is_checked) l t = absurd (let q : Some is_checked ≡ None = t in cc)
+owned (body.SynthesizeText x) l t = inl refl
+owned (body.SynthesizeChar x) l t = inl refl
+owned _ l t = inr l
+
+long-otherwise : (walk : Walk) (item : Item) → is_long item.body ≡ true → NotInside walk item
+long-otherwise walk item long = go (task_body item.body) refl
+  where
+    go : (task : Option Bool) → task_body item.body ≡ task → NotInside walk item
+    go None e = owns-otherwise walk item (owned item.body long e)
+    go (Some is_checked) e = task-otherwise walk item is_checked e
+
+entry-in : (walk : Walk) (ix : TreeIndex) (right : Forest (Placed Item)) → Stands (entry_at walk.tree) right → focus_of right ≡ Some ix → (e : Entry Item) × (entry_at walk.tree ix.ix ≡ Some e)
+entry-in walk ix Nil st f = absurd (let q : None ≡ Some ix = f in cc)
+entry-in walk ix (Node p f g) st fo =
+    let entry : Entry Item = record { item = p.item; child = first f; next = first g } in
+    (entry, subst (λ k. entry_at walk.tree k ≡ Some entry) (ap (λ k. k.ix) (same_Some (record { ix = p.ix }) ix fo)) st.0)
+
+pub long-no-end : (walk : Walk) → IsLong walk → NoEndIsNext walk
+long-no-end walk l = go walk.stage refl l.1.long
+  where
+    at : IsAt walk l.0
+    at = l.1.at
+
+    go : (now : Stage) → walk.stage ≡ now → IsLongFrom now walk l.0 → NoEndIsNext walk
+    go stage.Before now long =
+        let e = entry-in walk l.0 at.0.1.z.right (in_right walk.tree.nodes walk.tree.first at.0.1.z at.0.1.stands.below.holds.forest) (at.1 at.0.1.z at.0.1.stands.below.holds) in
+        before-otherwise walk e.0.item l.0 walk.tree at.1 (λ other has. ap (λ (x : Entry Item). x.item) (same_Some e.0 other (sym e.1 ∙ has))) now (long-otherwise walk e.0.item (long e.0 e.1))
+    go (stage.Marked is_checked start end) now long = λ left r m.
+        no-end (left_from (stage.Marked is_checked start end) r.here r.above) (λ tag e. let q : event.TaskListMarker is_checked ≡ event.End tag = e in cc) (subst MayBeginWithEnd (left-staged walk (stage.Marked is_checked start end) left now r) m)
+    go (stage.Listed is_checked start end) now long = listed-otherwise walk is_checked start end now
+    go stage.Lines now long = absurd long
+    go stage.Following now long = absurd long

@@ -5,23 +5,19 @@ use Rattle.cmark_tree.specs.declared.tree_index.TreeIndex.{TreeIndex}
 use Rattle.cmark_tree.specs.Zip.{Zip, pushed, past, Sibling, HasFocus}
 use Rattle.cmark_tree.specs.Tree.{Holds}
 use Rattle.cmark_grammar.specs.BlockReading as reads
-use Rattle.cmark_grammar.specs.Event as event
 use Rattle.cmark_grammar.specs.SpanDocuments.{Segment}
 use Rattle.cmark_items.specs.declared.item.Item.{Item}
 use Rattle.cmark_leaf_text.specs.declared.stretch.LeafLine.{LeafLine}
-use Rattle.cmark_text.specs.declared.event.Event.{Event}
 use Rattle.cmark_text.specs.declared.short.PlainTag.{PlainTag}
 use Rattle.cmark_text.specs.declared.short.Short.{Short}
 use Rattle.cmark_text.specs.declared.short.Short.TheVariants as short
 use Rattle.cmark_text.specs.Short.{IsShortZeroCopy, shown_plain, shown_short}
-use Rattle.cmark_text.specs.Shown.{shown}
 use Rattle.cmark_block_walk.specs.declared.reading.Brief.{Brief}
 use Rattle.cmark_block_walk.specs.declared.reading.Brief.TheVariants as brief
 use Rattle.cmark_block_walk.specs.declared.reading.Stage.TheVariants as stage
-use Rattle.cmark_block_walk.specs.declared.reading.Met.{Met}
 use Rattle.cmark_block_walk.specs.declared.walk.Walk.{Walk}
-use Rattle.cmark_block_walk.specs.Walking.{Gives, GivesBrief, GivesRanged, GivesShort, Goes, IsFirst, Remains, definitions_of, text_of}
-use Rattle.cmark_block_walk.proofs.WalkSteps.{IsFocusAt, IsItem, Lasts, Leaf-at, Reads-at, enters-around-as, enters-leaf-as, gives-met, moved, passes-alone-as, staged}
+use Rattle.cmark_block_walk.specs.Walking.{GivesBrief, GivesShort, Goes, Remains, definitions_of, text_of}
+use Rattle.cmark_block_walk.proofs.WalkSteps.{IsFocusAt, IsItem, Lasts, Leaf-at, Reads-at, enters-around-as, enters-leaf-as, moved, passes-alone-as, staged}
 
 module _ (walk : Walk) (item : Item) (ix : TreeIndex) (t : Tree Item) (at : IsFocusAt walk ix) (is : IsItem walk.tree ix item) (before : walk.stage ≡ stage.Before) where
   pub enters-leaf-short : (tag : PlainTag) → Reads-at walk item (reads.Around (shown_plain tag)) → Leaf-at walk item true → GivesShort walk (short.Start tag) item.start item.end (staged walk stage.Lines)
@@ -39,17 +35,11 @@ module _ (walk : Walk) (item : Item) (ix : TreeIndex) (t : Tree Item) (at : IsFo
 pub goes-short : (old new : Walk) (s : Short) (start end : ℕ) → GivesShort old s start end new → Goes old → Goes new
 goes-short old new s start end g goes = let first = g.gives goes.0 goes.1 in (first.0, first.2)
 
--- the event of this result is given
-pub gives-made : (old new : Walk) (s : Short) (start end : ℕ) (e : Event) (met : Met) (lines : List LeafLine) → GivesShort old s start end new → shown e ≡ shown_short s → GivesRanged e start end met
-    → (left : List Segment) → Remains old left → Gives left met lines new
-gives-made old new s start end e met lines g is ranged left r =
-    gives-met e start end met lines left new ranged (subst (λ (x : event.Event). IsFirst left (record { event = x; start = start; end = end }) new) (sym is) (g.gives left r))
-
 -- the result of a step after steps without an event is the result from before these
 pub after-lasting : (old walk new : Walk) (b : Brief) (lines : List LeafLine) → Lasts old walk → GivesBrief walk b lines new → GivesBrief old b lines new
 after-lasting old walk new (brief.Short s start end) lines l g = record { gives = λ left r. g.gives left (l.remains left r); lent = subst (λ text. IsShortZeroCopy text s start end) l.text g.lent }
 after-lasting old walk new (brief.Leaf is_cell) lines l g = λ left r. g left (l.remains left r)
-after-lasting old walk new brief.Long lines l g = λ left r. g left (l.remains left r)
+after-lasting old walk new brief.Long lines l g = (λ left r. g.0 left (l.remains left r), g.1)
 after-lasting old walk new brief.Over lines l g = λ left r. g left (l.remains left r)
 
 pub lasts-on : (old walk new : Walk) → Lasts old walk → ((left : List Segment) → Remains walk left → Remains new left) → Goes new → definitions_of new ≡ definitions_of walk → text_of new ≡ text_of walk → Lasts old new

@@ -28,14 +28,13 @@ use Rattle.cmark_items.specs.declared.item.Item.{Item}
 use Rattle.cmark_items.specs.declared.item.ItemBody.{ItemBody}
 use Rattle.cmark_items.specs.declared.item.ItemBody.TheVariants as body
 use Rattle.cmark_items.specs.ItemNodes.{ranged, kind_over, shape}
-use Rattle.cmark_leaf_text.specs.declared.stretch.LeafLine.{LeafLine}
+use Rattle.cmark_text.specs.Ranged.{shown_ranged}
+use Rattle.cmark_text.specs.declared.ranged.Ranged.{Ranged}
 use Rattle.cmark_block_walk.specs.declared.walk.Walk.{Walk}
 use Rattle.cmark_block_walk.specs.declared.reading.Stage.{Stage}
 use Rattle.cmark_block_walk.specs.declared.reading.Stage.TheVariants as stage
-use Rattle.cmark_block_walk.specs.declared.reading.Met.{Met}
-use Rattle.cmark_block_walk.specs.declared.reading.Met.TheVariants as met
 use Rattle.cmark_block_walk.specs.Reads.{tag_in}
-use Rattle.cmark_block_walk.specs.Walking.{Drawn, Draws, DrawsInside, IsOneText, own_text_end, Outer, StandsBelow, StandsAt, Remains, Goes, Gives, GivesRanged, IsFirst, IsAt, IsElement, IsStaged, left_from, left_above, leaving, tight_below, text_of, texts_of, definitions_of}
+use Rattle.cmark_block_walk.specs.Walking.{Drawn, Draws, DrawsInside, IsOneText, own_text_end, Outer, StandsBelow, StandsAt, Remains, Goes, GivesRanged, IsFirst, IsAt, IsElement, IsStaged, left_from, left_above, leaving, tight_below, text_of, texts_of, definitions_of}
 use Rattle.cmark_block_walk.proofs.LeafKinds.{leaf-within, inside-leaf, inside-block, settled-leaf, only-leaves-inside}
 
 -- the walk with its tree in another place
@@ -190,11 +189,9 @@ module _ (walk : Walk) (item : Item) (ix : TreeIndex) (t : Tree Item) where
     draws = f.draws_after;
   }
 
--- the result of a step, and the events that are left
-pub gives-met : (e : TextEvent) (start end : ℕ) (met : Met) (lines : List LeafLine) (left : List Segment) (walk : Walk) → GivesRanged e start end met → IsFirst left (record { event = shown e; start = start; end = end }) walk → Gives left met lines walk
-gives-met e start end (met.Event given) lines left walk g f = (f.0, f.1 ∙ ap (λ x. Given x ∷ f.0) (sym g), f.2)
-gives-met e start end (met.Leaf is_cell) lines left walk g f = absurd g
-gives-met e start end met.Over lines left walk g f = absurd g
+-- the event of a step, and the events that are left
+pub gives-ranged : (e : TextEvent) (start end : ℕ) (given : Ranged) (left : List Segment) (walk : Walk) → GivesRanged e start end given → IsFirst left (record { event = shown e; start = start; end = end }) walk → IsFirst left (shown_ranged given) walk
+gives-ranged e start end given left walk g f = (f.0, f.1 ∙ ap (λ x. Given x ∷ f.0) (sym g), f.2)
 
 pub goes-after : (left : List Segment) (given : event.Ranged) (walk : Walk) → IsFirst left given walk → Goes walk
 goes-after left given walk g = (g.0, g.2)
@@ -345,10 +342,6 @@ focus-number walk ix (Node p inner later) st f =
 
 pub focus-node : (walk : Walk) (ix : TreeIndex) → IsAt walk ix → HasNode walk.tree ix.ix
 focus-node walk ix a = focus-number walk ix a.0.1.z.right (in_right walk.tree.nodes walk.tree.first a.0.1.z a.0.1.stands.below.holds.forest) (a.1 a.0.1.z a.0.1.stands.below.holds)
-
-pub err-then : {A E : Type 0} (r : Result A E) (P Q : Type 0) → (P → Q) → OnErr r P → OnErr r Q
-err-then (Ok a) P Q h p = tt
-err-then (Err e) P Q h p = h p
 
 pub ok-then : {A E : Type 0} (r : Result A E) (P Q : A → Type 0) → ((a : A) → P a → Q a) → IfOk r P → IfOk r Q
 ok-then (Ok a) P Q h p = h a p

@@ -4,7 +4,8 @@ use Rattle.std.specs.Str.{IsCharBoundary}
 use Rattle.cmark_values.specs.declared.text.CowStr.{CowStr}
 use Rattle.cmark_text.specs.declared.event.Event.{Event as TextEvent}
 use Rattle.cmark_text.specs.declared.short.Short.{Short}
-use Rattle.cmark_text.specs.Ranged.{IsRangedZeroCopy, shown_ranged}
+use Rattle.cmark_text.specs.Ranged.{shown_ranged}
+use Rattle.cmark_text.specs.declared.ranged.Ranged.{Ranged}
 use Rattle.cmark_text.specs.Short.{IsShortZeroCopy, ranged_short, shown_plain, shown_short}
 use Rattle.cmark_text.specs.Shown.{shown}
 use Rattle.cmark_tree.specs.Forest as forest
@@ -34,12 +35,8 @@ use Rattle.cmark_items.specs.ItemNodes.{shown_item}
 use Rattle.cmark_leaf_text.specs.declared.stretch.LeafLine.{LeafLine}
 use Rattle.cmark_leaf_text.specs.Stretches.{AreLines}
 use Rattle.cmark_block_walk.specs.declared.walk.Walk.{Walk}
-use Rattle.cmark_block_walk.specs.declared.reading.Met.{Met}
-use Rattle.cmark_block_walk.specs.declared.reading.Met.TheVariants as met
 use Rattle.cmark_block_walk.specs.declared.reading.Brief.{Brief}
 use Rattle.cmark_block_walk.specs.declared.reading.Brief.TheVariants as brief
-use Rattle.cmark_block_walk.specs.declared.reading.BriefStep.{BriefStep}
-use Rattle.cmark_block_walk.specs.declared.reading.BriefStep.TheVariants as brief_step
 use Rattle.cmark_block_walk.specs.declared.reading.Glance.{Glance}
 use Rattle.cmark_block_walk.specs.declared.reading.Glance.TheVariants as glance
 use Rattle.cmark_block_walk.specs.declared.reading.Stage.{Stage}
@@ -270,17 +267,13 @@ pub record AreLinesOf (text : List ℕ) (leaf : Leaf) (lines : List LeafLine) : 
   pub are : lines ≡ lines_of leaf.stretches
   pub in_turn : AreLines text 0 lines
 
--- a call gives the first of these events and leaves, and the others are left; or there is none
-abbrev pub Gives : List Segment → Met → List LeafLine → Walk → Type 0
-Gives left (met.Event given) lines walk = (others : List Segment) × (left ≡ Given (shown_ranged given) ∷ others) × Remains walk others
-Gives left (met.Leaf is_cell) lines walk = (leaf : Leaf) × (others : List Segment) × (left ≡ Content leaf ∷ others) × AreLinesOf walk.text.now leaf lines × Remains walk others × (is_cell ≡ leaf.is_cell)
-Gives left met.Over lines walk = (left ≡ []) × Remains walk []
+-- a call gives a leaf, the first of these events and leaves, and the others are left
+abbrev pub GivesLeaf : List Segment → (is_cell : Bool) → List LeafLine → Walk → Type 0
+GivesLeaf left is_cell lines walk = (leaf : Leaf) × (others : List Segment) × (left ≡ Content leaf ∷ others) × AreLinesOf walk.text.now leaf lines × Remains walk others × (is_cell ≡ leaf.is_cell)
 
--- the zero-copy law of the item that is met
-abbrev pub MeetsZeroCopy : List ℕ → Met → Type 0
-MeetsZeroCopy text (met.Event given) = IsRangedZeroCopy text given
-MeetsZeroCopy text (met.Leaf is_cell) = Unit {0}
-MeetsZeroCopy text met.Over = Unit {0}
+-- there are no events and leaves
+abbrev pub GivesNone : List Segment → Walk → Type 0
+GivesNone left walk = (left ≡ []) × Remains walk []
 
 -- this event is the first of those left, and the others remain
 abbrev pub IsFirst : List Segment → event.Ranged → Walk → Type 0
@@ -290,13 +283,6 @@ IsFirst left given walk = (others : List Segment) × (left ≡ Given given ∷ o
 pub record GivesShort (old : Walk) (short : Short) (start end : ℕ) (new : Walk) : Type 0 where
   pub gives : (left : List Segment) → Remains old left → IsFirst left (ranged_short short start end) new
   pub lent : IsShortZeroCopy (text_of old) short start end
-
--- a call gives the first of those left, and the others remain; if that is an event of another kind, it is left too
-abbrev pub GivesBrief : Walk → Brief → List LeafLine → Walk → Type 0
-GivesBrief old (brief.Short short start end) lines new = GivesShort old short start end new
-GivesBrief old (brief.Leaf is_cell) lines new = (left : List Segment) → Remains old left → Gives left (met.Leaf is_cell) lines new
-GivesBrief old brief.Long lines new = (left : List Segment) → Remains old left → Remains new left
-GivesBrief old brief.Over lines new = (left : List Segment) → Remains old left → Gives left met.Over lines new
 
 -- an element with a text of its own: a heading with attributes, fenced code, a table or a footnote definition
 abbrev pub has_texts : ItemBody → Bool
@@ -348,19 +334,26 @@ pub record IsLongAt (walk : Walk) (ix : TreeIndex) : Type 0 where
   pub at : IsAt walk ix
   pub long : IsLongFrom walk.stage walk ix
 
--- the result of a step, which may give nothing. Else it is the first of those left, and the others remain; an event of another kind is then
--- the next one, at the focus
-abbrev pub GivesShortStep : Walk → BriefStep → List LeafLine → Walk → Type 0
-GivesShortStep old (brief_step.Short short start end) lines new = GivesShort old short start end new
-GivesShortStep old (brief_step.Leaf is_cell) lines new = GivesBrief old (brief.Leaf is_cell) lines new
-GivesShortStep old (brief_step.Long ix) lines new = GivesBrief old brief.Long lines new × IsLongAt new ix
-GivesShortStep old brief_step.Silent lines new = (left : List Segment) → Remains old left → Remains new left
-GivesShortStep old brief_step.Over lines new = GivesBrief old brief.Over lines new
+-- the next event is not a short one
+abbrev pub IsLong : Walk → Type 0
+IsLong walk = (ix : TreeIndex) × IsLongAt walk ix
+
+-- a call gives the first of those left, and the others remain; if that is an event of another kind, it is still the next one
+abbrev pub GivesBrief : Walk → Brief → List LeafLine → Walk → Type 0
+GivesBrief old (brief.Short short start end) lines new = GivesShort old short start end new
+GivesBrief old (brief.Leaf is_cell) lines new = (left : List Segment) → Remains old left → GivesLeaf left is_cell lines new
+GivesBrief old brief.Long lines new = ((left : List Segment) → Remains old left → Remains new left) × IsLong new
+GivesBrief old brief.Over lines new = (left : List Segment) → Remains old left → GivesNone left new
+
+-- the result of a step, which may give nothing
+abbrev pub GivesStep : Walk → Option Brief → List LeafLine → Walk → Type 0
+GivesStep old None lines new = (left : List Segment) → Remains old left → Remains new left
+GivesStep old (Some brief) lines new = GivesBrief old brief lines new
 
 -- a step gives something, or leaves fewer steps that give nothing
-abbrev pub ComesNearer : Walk → BriefStep → Walk → Type 0
-ComesNearer old brief_step.Silent new = silent_steps new.stage < silent_steps old.stage
-ComesNearer old _ new = Unit {0}
+abbrev pub ComesNearer : Walk → Option Brief → Walk → Type 0
+ComesNearer old None new = silent_steps new.stage < silent_steps old.stage
+ComesNearer old (Some brief) new = Unit {0}
 
 -- an item is read this way, or has a text of its own
 abbrev pub ReadsAs : Glance → Reads → Type 0
@@ -438,7 +431,5 @@ abbrev pub IsLeafAfter : Walk → TreeIndex → Option Item → Type 0
 IsLeafAfter walk ix found = (z : Zip Item) (here : BlockDocument) (above : List Outer) → StandsAt walk z here above → BeginsAfter walk above found (after_first_of here)
 
 -- this event with this range
-abbrev pub GivesRanged : TextEvent → (start end : ℕ) → Met → Type 0
-GivesRanged event start end (met.Event given) = shown_ranged given ≡ record { event = shown event; start = start; end = end }
-GivesRanged event start end (met.Leaf is_cell) = ⊥
-GivesRanged event start end met.Over = ⊥
+abbrev pub GivesRanged : TextEvent → (start end : ℕ) → Ranged → Type 0
+GivesRanged event start end given = shown_ranged given ≡ record { event = shown event; start = start; end = end }

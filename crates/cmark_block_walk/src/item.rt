@@ -8,7 +8,6 @@ ghost use Rattle.cmark_grammar.specs.BlockReading.{read_as};
 ghost use Rattle.cmark_block_model.specs.DrawnDocument.{kind_within};
 ghost use Rattle.cmark_block_walk.specs.Reads.{tag_in, end_in};
 ghost use Rattle.cmark_block_walk.specs.Walking.{Drawn, IsDrawn, Outer, StandsBelow, IsBelow, tight_below, text_of, texts_of, is_synthesized, has_texts};
-ghost use Rattle.cmark_text.specs.Short.{IsShortZeroCopy, shown_short};
 ghost use Rattle.cmark_text.specs.Shown.{shown, shown_tag, shown_end};
 ghost use Rattle.cmark_values.specs.Shown.{level_number};
 ghost use Rattle.cmark_text.specs.ZeroCopy.{IsZeroCopy};
@@ -21,7 +20,7 @@ use crate::walk::Walk;
 use bitflags::Flags;
 use cmark_items::{HeadingAttributes, Item, ItemBody};
 use cmark_scan_lines::scan_table_head;
-use cmark_text::{CodeBlockKind, CowStr, Event, HeadingLevel, Short, Tag, TagEnd};
+use cmark_text::{CodeBlockKind, CowStr, Event, HeadingLevel, Tag, TagEnd};
 use std::alloc::{AllocError, Global};
 
 impl<'a> Walk<'a> {
@@ -146,26 +145,6 @@ impl<'a> Walk<'a> {
             }
         }
         false
-    }
-}
-
-// An event that owns nothing, as an `Event`.
-#[inline(always)]
-pub(crate) fn event_of<'a>(alloc: Global, short: Short<'a>) -> Event<'a>
-    ensures value { shown result ≡ shown_short short.entry }
-    ensures lent { (text : List ℕ) (start end : ℕ) → IsShortZeroCopy text short.entry start end
-        → IsZeroCopy text result start end }
-{
-    match short {
-        Short::Text(text) => Event::Text(CowStr::Borrowed(text.as_str())),
-        Short::Code(text) => Event::Code(CowStr::Borrowed(text)),
-        Short::Html(text) => Event::Html(CowStr::Borrowed(text)),
-        Short::InlineHtml(text) => Event::InlineHtml(CowStr::Borrowed(text)),
-        Short::Start(tag) => Event::Start(tag.tag(alloc)),
-        Short::End(tag) => Event::End(tag),
-        Short::SoftBreak => Event::SoftBreak,
-        Short::HardBreak => Event::HardBreak,
-        Short::Rule => Event::Rule,
     }
 }
 

@@ -2,9 +2,8 @@
 
 ghost use Rattle.std.specs.Prelude.{◌≡◌, List, IfOk, OnErr, OnOk};
 ghost use Rattle.cmark_grammar.specs.SpanDocuments.{Segment, is_cell};
-ghost use Rattle.cmark_block_walk.specs.declared.reading.Met.TheVariants as met;
 ghost use Rattle.cmark_block_walk.specs.declared.reading.Stage.TheVariants as stage;
-ghost use Rattle.cmark_block_walk.specs.Walking.{GoesOn, LeavesTheSame, Remains, Gives, IsAt, HoldsLines, HasText};
+ghost use Rattle.cmark_block_walk.specs.Walking.{GoesOn, LeavesTheSame, Remains, GivesLeaf, IsAt, HoldsLines, HasText};
 ghost use Rattle.cmark_leaf_text.specs.declared.stretch.LeafLine.{LeafLine};
 
 use crate::kind::{is_cell, own_text_end};
@@ -26,7 +25,7 @@ impl<'a> Walk<'a> {
         requires before { self.old.stage ≡ stage.Lines }
         ensures given { IfOk result
             (λ is_cell. (left : List Segment) → Remains self.old left
-            → Gives left (met.Leaf is_cell) lines.new.items self.new) }
+            → GivesLeaf left is_cell lines.new.items self.new) }
         ensures refused { OnErr result (LeavesTheSame self.old self.new) }
         ensures goes_on { GoesOn self.old self.new }
     {

@@ -7,17 +7,17 @@ ghost use Rattle.cmark_grammar.specs.BlockReading as reads;
 ghost use Rattle.cmark_grammar.specs.BlockReading.{read_as};
 ghost use Rattle.cmark_block_model.specs.DrawnDocument.{kind_within};
 ghost use Rattle.cmark_grammar.specs.SpanDocuments.{Segment};
+ghost use Rattle.cmark_text.specs.Ranged.{IsRangedZeroCopy, shown_ranged};
 ghost use Rattle.cmark_text.specs.Shown.{shown_tag};
 ghost use Rattle.cmark_text.specs.declared.event.Event.TheVariants as event;
-ghost use Rattle.cmark_leaf_text.specs.declared.stretch.LeafLine.{LeafLine};
 ghost use Rattle.cmark_block_walk.specs.declared.reading.Stage.TheVariants as stage;
-ghost use Rattle.cmark_block_walk.specs.Walking.{GivesRanged, GoesOn, LeavesTheSame, Drawn, Remains, Goes, Gives, Outer, StandsBelow, text_of, texts_of, tight_below, IsAt, MeetsZeroCopy, IsTaskAt, IsTitleIn, IsListAfter, IsLeafAfter, IsLeafElement};
+ghost use Rattle.cmark_block_walk.specs.Walking.{GivesRanged, GoesOn, LeavesTheSame, Drawn, Remains, Goes, IsFirst, Outer, StandsBelow, text_of, texts_of, tight_below, IsAt, IsTaskAt, IsTitleIn, IsListAfter, IsLeafAfter, IsLeafElement};
 
 use crate::kind::{is_leaf, is_list, is_title};
-use crate::reading::{Glance, Met, Stage};
+use crate::reading::{Glance, Stage};
 use crate::walk::{Walk, begun, given};
 use cmark_items::Item;
-use cmark_text::{Event, Tag};
+use cmark_text::{Event, Ranged, Tag};
 use cmark_tree::TreeIndex;
 use std::alloc::AllocError;
 
@@ -28,14 +28,14 @@ impl<'a> Walk<'a> {
         &mut self,
         ix: TreeIndex,
         is_checked: bool,
-    ) -> Result<Met<'a>, AllocError>
+    ) -> Result<Ranged<'a>, AllocError>
         requires at { IsAt self.old ix }
         requires before { self.old.stage ≡ stage.Before }
         requires task { IsTaskAt self.old ix is_checked }
         ensures given { IfOk result
-            (λ met. (left : List Segment) (lines : List LeafLine) → Remains self.old left
-            → Gives left met lines self.new) }
-        ensures lent { IfOk result (MeetsZeroCopy (text_of self.old)) }
+            (λ given. (left : List Segment) → Remains self.old left
+            → IsFirst left (shown_ranged given) self.new) }
+        ensures lent { IfOk result (IsRangedZeroCopy (text_of self.old)) }
         ensures refused { OnErr result (LeavesTheSame self.old self.new) }
         ensures goes_on { GoesOn self.old self.new }
     {
@@ -62,15 +62,15 @@ impl<'a> Walk<'a> {
         ix: TreeIndex,
         is_checked: bool,
         leaf: Item,
-    ) -> Result<Met<'a>, AllocError>
+    ) -> Result<Ranged<'a>, AllocError>
         requires at { IsAt self.old ix }
         requires before { self.old.stage ≡ stage.Before }
         requires task { IsTaskAt self.old ix is_checked }
         requires following { IsLeafAfter self.old ix (Some leaf) }
         ensures given { IfOk result
-            (λ met. (left : List Segment) (lines : List LeafLine) → Remains self.old left
-            → Gives left met lines self.new) }
-        ensures lent { IfOk result (MeetsZeroCopy (text_of self.old)) }
+            (λ given. (left : List Segment) → Remains self.old left
+            → IsFirst left (shown_ranged given) self.new) }
+        ensures lent { IfOk result (IsRangedZeroCopy (text_of self.old)) }
         ensures refused { OnErr result (LeavesTheSame self.old self.new) }
         ensures goes_on { GoesOn self.old self.new }
     {
@@ -109,13 +109,13 @@ impl<'a> Walk<'a> {
         is_checked: bool,
         start: usize,
         end: usize,
-    ) -> Result<Met<'a>, AllocError>
+    ) -> Result<Ranged<'a>, AllocError>
         requires at { IsAt self.old ix }
         requires listed { self.old.stage ≡ stage.Listed is_checked start end }
         ensures given { IfOk result
-            (λ met. (left : List Segment) (lines : List LeafLine) → Remains self.old left
-            → Gives left met lines self.new) }
-        ensures lent { IfOk result (MeetsZeroCopy (text_of self.old)) }
+            (λ given. (left : List Segment) → Remains self.old left
+            → IsFirst left (shown_ranged given) self.new) }
+        ensures lent { IfOk result (IsRangedZeroCopy (text_of self.old)) }
         ensures refused { OnErr result (LeavesTheSame self.old self.new) }
         ensures goes_on { GoesOn self.old self.new }
     {
@@ -174,12 +174,12 @@ impl<'a> Walk<'a> {
     }
 
     // Gives the task marker of the leaf at the focus, which is between these byte offsets; the walk is then before the leaf's lines.
-    pub(crate) fn meet_marker(&mut self, is_checked: bool, start: usize, end: usize) -> Met<'a>
+    pub(crate) fn meet_marker(&mut self, is_checked: bool, start: usize, end: usize) -> Ranged<'a>
         requires goes { Goes self.old }
         requires marked { self.old.stage ≡ stage.Marked is_checked start end }
-        ensures given { (left : List Segment) (lines : List LeafLine) → Remains self.old left
-            → Gives left result lines self.new }
-        ensures lent { MeetsZeroCopy (text_of self.old) result }
+        ensures given { (left : List Segment) → Remains self.old left
+            → IsFirst left (shown_ranged result) self.new }
+        ensures lent { IsRangedZeroCopy (text_of self.old) result }
         ensures goes_on { GoesOn self.old self.new }
     {
         self.stage = Stage::Lines;
@@ -189,9 +189,9 @@ impl<'a> Walk<'a> {
 
 // A task marker with its range.
 #[inline(always)]
-fn marker<'a>(is_checked: bool, start: usize, end: usize) -> Met<'a>
+fn marker<'a>(is_checked: bool, start: usize, end: usize) -> Ranged<'a>
     ensures value { GivesRanged (event.TaskListMarker is_checked) start end result }
-    ensures lent { (text : List ℕ) → MeetsZeroCopy text result }
+    ensures lent { (text : List ℕ) → IsRangedZeroCopy text result }
 {
     given(Event::TaskListMarker(is_checked), start, end)
 }

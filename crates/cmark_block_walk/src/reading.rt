@@ -1,23 +1,8 @@
-//! The reading of an item, and the results of a walk's steps.
+//! The reading of an item, and the result of a walk's step.
 
-use cmark_text::{PlainTag, Ranged, Short};
-use cmark_tree::TreeIndex;
+use cmark_text::{PlainTag, Short};
 
-/// The next item of a walk.
-#[derive(Drop)]
-pub enum Met<'a> {
-    /// An event of the blocks.
-    Event(Ranged<'a>),
-    /// The content of a leaf, whose lines are passed separately.
-    Leaf {
-        /// Whether it is a table cell.
-        is_cell: bool,
-    },
-    /// Nothing: the document has ended.
-    Over,
-}
-
-/// The next item of a walk, without building an `Event`.
+/// The next item of a walk, without an `Event`.
 #[derive(Clone, Copy)]
 pub enum Brief<'a> {
     /// An event that owns nothing, and its range in byte offsets of the text.
@@ -27,7 +12,7 @@ pub enum Brief<'a> {
         /// Whether it is a table cell.
         is_cell: bool,
     },
-    /// An event of another kind, which is still the next one.
+    /// An event of another kind, which is still the next one: `take_long` returns it.
     Long,
     /// Nothing: the document has ended.
     Over,
@@ -74,22 +59,4 @@ pub(crate) enum Glance<'a> {
     Inside,
     /// An event that has a text of its own, or a task marker.
     Long,
-}
-
-/// The result of a walk's step, without building an `Event`.
-#[derive(Clone, Copy)]
-pub(crate) enum BriefStep<'a> {
-    /// An event that owns nothing, and its range in byte offsets of the text.
-    Short(Short<'a>, usize, usize),
-    /// The lines of a leaf.
-    Leaf {
-        /// Whether it is a table cell.
-        is_cell: bool,
-    },
-    /// An event of another kind, which is still the next one, and the focus.
-    Long(TreeIndex),
-    /// Nothing: a paragraph of a tight list begins or ends.
-    Silent,
-    /// Nothing: the document has ended.
-    Over,
 }

@@ -1,4 +1,4 @@
-//! The walk over a document's tree, without building an `Event`.
+//! The steps of a walk over a document's tree, without an `Event`.
 
 ghost use Rattle.std.specs.Prelude.{◌≡◌, List, IfOk, OnErr};
 ghost use Rattle.cmark_tree.specs.Zip.{Zip};
@@ -10,11 +10,11 @@ ghost use Rattle.cmark_grammar.specs.Tokens.{slice};
 ghost use Rattle.cmark_text.specs.Excerpt.{excerpt_bytes};
 ghost use Rattle.cmark_leaf_text.specs.declared.stretch.LeafLine.{LeafLine as LeafLines};
 ghost use Rattle.cmark_block_walk.specs.declared.reading.Stage.TheVariants as stage;
-ghost use Rattle.cmark_block_walk.specs.Walking.{GoesOn, LeavesTheSame, ComesNearer, Drawn, GivesBrief, GivesShortStep, GlancesZeroCopy, Goes, IsAt, IsBelow, IsDrawn, IsLongGlance, IsPast, NoEndIsNext, Outer, ReadsAs, Remains, StandsBelow, definitions_of, text_of, texts_of, tight_below};
+ghost use Rattle.cmark_block_walk.specs.Walking.{GoesOn, LeavesTheSame, ComesNearer, Drawn, GivesBrief, GivesStep, GlancesZeroCopy, Goes, IsAt, IsBelow, IsDrawn, IsLongGlance, IsPast, NoEndIsNext, Outer, ReadsAs, Remains, StandsBelow, definitions_of, text_of, texts_of, tight_below};
 
 use crate::item::first_number;
 use crate::kind::is_leaf;
-use crate::reading::{Brief, BriefStep, Glance, Stage};
+use crate::reading::{Brief, Glance, Stage};
 use crate::walk::Walk;
 use cmark_items::{Item, ItemBody};
 use cmark_leaf_text::LeafLine;
@@ -23,8 +23,10 @@ use cmark_tree::TreeIndex;
 use std::alloc::AllocError;
 
 impl<'a> Walk<'a> {
-    /// Like `next`, but builds no `Event`: an event that owns nothing is given, and any other one is left as the next. The lines of a leaf
-    /// replace the content of `lines`, as for `next`.
+    /// The next event, if it owns nothing, or the next leaf. An event of another kind is reported as `Brief::Long` and is still the next
+    /// one: [`take_long`](Walk::take_long) returns it. The lines of a leaf replace the content of `lines`: byte offsets of the text, in
+    /// order, one line for each stretch of the text without a gap. After the last item the result is `Over`, also in all further calls. If
+    /// memory is refused, all events and leaves remain, and the content of `lines` is unspecified.
     #[inline(always)]
     pub fn next_short(&mut self, lines: &mut Vec<LeafLine>) -> Result<Brief<'a>, AllocError>
         requires { Goes self.old }
@@ -41,52 +43,43 @@ impl<'a> Walk<'a> {
             let Ok(step) = self.short_step(lines) else {
                 return Err(AllocError);
             };
-            match step {
-                BriefStep::Short(short, start, end) => {
-                    return Ok(Brief::Short(short, start, end));
-                }
-                BriefStep::Leaf { is_cell } => return Ok(Brief::Leaf { is_cell }),
-                BriefStep::Long(_) => return Ok(Brief::Long),
-                BriefStep::Silent => {}
-                BriefStep::Over => return Ok(Brief::Over),
+            if let Some(brief) = step {
+                return Ok(brief);
             }
         }
     }
 
-    // Into the focus or past it, or up after the last sibling. It gives nothing if a paragraph of a tight list begins or ends.
+    // Into the focus or past it, or up after the last sibling. `None` if a paragraph of a tight list begins or ends.
     #[inline(always)]
-    pub(crate) fn short_step(
-        &mut self,
-        lines: &mut Vec<LeafLine>,
-    ) -> Result<BriefStep<'a>, AllocError>
+    fn short_step(&mut self, lines: &mut Vec<LeafLine>) -> Result<Option<Brief<'a>>, AllocError>
         requires { Goes self.old }
         ensures given { IfOk result
-            (λ brief. GivesShortStep self.old brief lines.new.items self.new) }
+            (λ brief. GivesStep self.old brief lines.new.items self.new) }
         ensures refused { OnErr result (LeavesTheSame self.old self.new) }
         ensures nearer { IfOk result (λ brief. ComesNearer self.old brief self.new) }
         ensures goes_on { GoesOn self.old self.new }
     {
         let Some(ix) = self.tree.cur() else {
-            return Ok(self.leave_short());
+            return Ok(Some(self.leave_short()));
         };
         match self.stage {
             Stage::Before => self.enter_short(ix),
             Stage::Lines => {
                 let is_cell = self.meet_leaf(ix, lines)?;
-                Ok(BriefStep::Leaf { is_cell })
+                Ok(Some(Brief::Leaf { is_cell }))
             }
             Stage::Following => Ok(self.leave_leaf_short(ix)),
-            Stage::Marked { .. } | Stage::Listed { .. } => Ok(BriefStep::Long(ix)),
+            Stage::Marked { .. } | Stage::Listed { .. } => Ok(Some(Brief::Long)),
         }
     }
 
     // Into the focus, or past it if it is one event.
     #[inline(always)]
-    fn enter_short(&mut self, ix: TreeIndex) -> Result<BriefStep<'a>, AllocError>
+    fn enter_short(&mut self, ix: TreeIndex) -> Result<Option<Brief<'a>>, AllocError>
         requires at { IsAt self.old ix }
         requires before { self.old.stage ≡ stage.Before }
         ensures given { IfOk result
-            (λ brief. (lines : List LeafLines) → GivesShortStep self.old brief lines self.new) }
+            (λ brief. (lines : List LeafLines) → GivesStep self.old brief lines self.new) }
         ensures refused { OnErr result (LeavesTheSame self.old self.new) }
         ensures nearer { IfOk result (λ brief. ComesNearer self.old brief self.new) }
         ensures goes_on { GoesOn self.old self.new }
@@ -96,29 +89,29 @@ impl<'a> Walk<'a> {
             Glance::Around(tag) => {
                 if is_leaf(item) {
                     self.stage = Stage::Lines;
-                    return Ok(BriefStep::Short(Short::Start(tag), item.start, item.end));
+                    return Ok(Some(Brief::Short(Short::Start(tag), item.start, item.end)));
                 }
                 self.tree.push()?;
-                Ok(BriefStep::Short(Short::Start(tag), item.start, item.end))
+                Ok(Some(Brief::Short(Short::Start(tag), item.start, item.end)))
             }
             Glance::Alone(short) => {
                 self.tree.next_sibling(ix);
-                Ok(BriefStep::Short(short, item.start, item.end))
+                Ok(Some(Brief::Short(short, item.start, item.end)))
             }
             Glance::Inside => {
                 self.stage = Stage::Lines;
-                Ok(BriefStep::Silent)
+                Ok(None)
             }
-            Glance::Long => Ok(BriefStep::Long(ix)),
+            Glance::Long => Ok(Some(Brief::Long)),
         }
     }
 
     // Out of the leaf in the focus, and past it.
     #[inline(always)]
-    fn leave_leaf_short(&mut self, ix: TreeIndex) -> BriefStep<'a>
+    fn leave_leaf_short(&mut self, ix: TreeIndex) -> Option<Brief<'a>>
         requires at { IsAt self.old ix }
         requires following { self.old.stage ≡ stage.Following }
-        ensures given { (lines : List LeafLines) → GivesShortStep self.old result lines self.new }
+        ensures given { (lines : List LeafLines) → GivesStep self.old result lines self.new }
         ensures nearer { ComesNearer self.old result self.new }
         ensures goes_on { GoesOn self.old self.new }
     {
@@ -127,27 +120,26 @@ impl<'a> Walk<'a> {
         self.tree.next_sibling(ix);
         self.stage = Stage::Before;
         match end {
-            Some(end) => BriefStep::Short(Short::End(end), item.start, item.end),
-            None => BriefStep::Silent,
+            Some(end) => Some(Brief::Short(Short::End(end), item.start, item.end)),
+            None => None,
         }
     }
 
     // Up after the last sibling, and past the parent.
     #[inline(always)]
-    fn leave_short(&mut self) -> BriefStep<'a>
+    fn leave_short(&mut self) -> Brief<'a>
         requires { IsPast self.old }
-        ensures given { (lines : List LeafLines) → GivesShortStep self.old result lines self.new }
-        ensures nearer { ComesNearer self.old result self.new }
+        ensures given { (lines : List LeafLines) → GivesBrief self.old result lines self.new }
         ensures goes_on { GoesOn self.old self.new }
     {
         let Some(ix) = self.tree.pop() else {
-            return BriefStep::Over;
+            return Brief::Over;
         };
         let item = *self.tree.item(ix);
         let end = self.end(item);
         self.tree.next_sibling(ix);
         match end {
-            Some(end) => BriefStep::Short(Short::End(end), item.start, item.end),
+            Some(end) => Brief::Short(Short::End(end), item.start, item.end),
             None => unreachable!(),
         }
     }

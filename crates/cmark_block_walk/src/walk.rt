@@ -10,16 +10,14 @@ ghost use Rattle.cmark_block_model.specs.Ranges.{InOrder, AllAt};
 ghost use Rattle.cmark_grammar.specs.SpanDocuments.{Segment, segments};
 ghost use Rattle.cmark_text.specs.declared.event.Event.TheVariants as event;
 ghost use Rattle.cmark_items.specs.ItemNodes.{shown_forest, nodes_of};
+ghost use Rattle.cmark_text.specs.Ranged.{IsRangedZeroCopy, shown_ranged};
 ghost use Rattle.cmark_text.specs.ZeroCopy.{IsZeroCopy};
-ghost use Rattle.cmark_leaf_text.specs.declared.stretch.LeafLine.{LeafLine};
 ghost use Rattle.cmark_block_walk.specs.declared.reading.Stage.TheVariants as stage;
-ghost use Rattle.cmark_block_walk.specs.Walking.{GoesOn, LeavesTheSame, Remains, Goes, Gives, definitions_of, text_of, IsAt, IsItemAt, IsLongAt, IsLongItemAt, GivesRanged, NoEndIsNext, MeetsZeroCopy, has_texts, is_synthesized};
+ghost use Rattle.cmark_block_walk.specs.Walking.{GoesOn, LeavesTheSame, Remains, IsFirst, definitions_of, text_of, IsAt, IsItemAt, IsLong, IsLongItemAt, GivesRanged, has_texts, is_synthesized};
 
-use crate::item::event_of;
 use crate::kind::{is_leaf, is_synthesized, task_of};
-use crate::reading::{BriefStep, Met, Stage};
+use crate::reading::Stage;
 use cmark_items::{Allocations, Item};
-use cmark_leaf_text::LeafLine;
 use cmark_references::RefDefs;
 use cmark_text::{Event, Ranged, Tag};
 use cmark_tree::{Tree, TreeIndex};
@@ -75,52 +73,21 @@ impl<'a> Walk<'a> {
         &self.allocations.refdefs
     }
 
-    /// The next event with its range, or the next leaf. The lines of a leaf then replace the content of `lines`: byte offsets of the text,
-    /// in order, one line for each stretch of the text without a gap. After the last item the result is `Over`, also in all further calls.
-    /// If memory is refused, all events and leaves remain, and the content of `lines` is unspecified.
-    #[inline(always)]
-    pub fn next(&mut self, lines: &mut Vec<LeafLine>) -> Result<Met<'a>, AllocError>
-        requires { Goes self.old }
-        ensures given { IfOk result
-            (λ met. (left : List Segment) → Remains self.old left
-            → Gives left met lines.new.items self.new) }
-        ensures lent { IfOk result (MeetsZeroCopy (text_of self.old)) }
-        ensures refused { OnErr result
-            ((left : List Segment) → Remains self.old left → Remains self.new left) }
-        ensures ends { OnErr result (NoEndIsNext self.old) }
-        ensures goes { Goes self.new }
-        ensures definitions { definitions_of self.new ≡ definitions_of self.old }
-        ensures text { text_of self.new ≡ text_of self.old }
-    {
-        // Only paragraphs of tight lists give nothing, at their start and at their end.
-        loop {
-            let Ok(step) = self.short_step(lines) else {
-                return Err(AllocError);
-            };
-            match step {
-                BriefStep::Short(short, start, end) => {
-                    let event = event_of(self.alloc, short);
-                    return Ok(given(event, start, end));
-                }
-                BriefStep::Leaf { is_cell } => return Ok(Met::Leaf { is_cell }),
-                BriefStep::Long(ix) => return self.long_step(ix),
-                BriefStep::Silent => {}
-                BriefStep::Over => return Ok(Met::Over),
-            }
-        }
-    }
-
-    // Past an event that may own a text, at the focus.
+    /// The next event with its range, after [`next_short`](Walk::next_short) reported it as long. If memory is refused, all events and
+    /// leaves remain.
     #[inline(never)]
-    fn long_step(&mut self, ix: TreeIndex) -> Result<Met<'a>, AllocError>
-        requires { IsLongAt self.old ix }
+    pub fn take_long(&mut self) -> Result<Ranged<'a>, AllocError>
+        requires { IsLong self.old }
         ensures given { IfOk result
-            (λ met. (left : List Segment) (lines : List LeafLine) → Remains self.old left
-            → Gives left met lines self.new) }
-        ensures lent { IfOk result (MeetsZeroCopy (text_of self.old)) }
+            (λ given. (left : List Segment) → Remains self.old left
+            → IsFirst left (shown_ranged given) self.new) }
+        ensures lent { IfOk result (IsRangedZeroCopy (text_of self.old)) }
         ensures refused { OnErr result (LeavesTheSame self.old self.new) }
         ensures goes_on { GoesOn self.old self.new }
     {
+        let Some(ix) = self.tree.cur() else {
+            unreachable!()
+        };
         match self.stage {
             Stage::Marked {
                 is_checked,
@@ -137,14 +104,14 @@ impl<'a> Walk<'a> {
     }
 
     // Into the focus or past it, if it has a text of its own or is a task marker.
-    fn enter(&mut self, ix: TreeIndex) -> Result<Met<'a>, AllocError>
+    fn enter(&mut self, ix: TreeIndex) -> Result<Ranged<'a>, AllocError>
         requires at { IsAt self.old ix }
         requires before { self.old.stage ≡ stage.Before }
         requires long { IsLongItemAt self.old ix }
         ensures given { IfOk result
-            (λ met. (left : List Segment) (lines : List LeafLine) → Remains self.old left
-            → Gives left met lines self.new) }
-        ensures lent { IfOk result (MeetsZeroCopy (text_of self.old)) }
+            (λ given. (left : List Segment) → Remains self.old left
+            → IsFirst left (shown_ranged given) self.new) }
+        ensures lent { IfOk result (IsRangedZeroCopy (text_of self.old)) }
         ensures refused { OnErr result (LeavesTheSame self.old self.new) }
         ensures goes_on { GoesOn self.old self.new }
     {
@@ -159,15 +126,15 @@ impl<'a> Walk<'a> {
     }
 
     // Past a text that does not occur in the source.
-    fn pass_text(&mut self, ix: TreeIndex, item: Item) -> Result<Met<'a>, AllocError>
+    fn pass_text(&mut self, ix: TreeIndex, item: Item) -> Result<Ranged<'a>, AllocError>
         requires at { IsAt self.old ix }
         requires before { self.old.stage ≡ stage.Before }
         requires item { IsItemAt self.old ix item }
         requires synthesized { is_synthesized item.body ≡ true }
         ensures given { IfOk result
-            (λ met. (left : List Segment) (lines : List LeafLine) → Remains self.old left
-            → Gives left met lines self.new) }
-        ensures lent { IfOk result (MeetsZeroCopy (text_of self.old)) }
+            (λ given. (left : List Segment) → Remains self.old left
+            → IsFirst left (shown_ranged given) self.new) }
+        ensures lent { IfOk result (IsRangedZeroCopy (text_of self.old)) }
         ensures refused { OnErr result (LeavesTheSame self.old self.new) }
         ensures goes_on { GoesOn self.old self.new }
     {
@@ -179,15 +146,15 @@ impl<'a> Walk<'a> {
     }
 
     // Into an element that has a text of its own.
-    fn enter_element(&mut self, ix: TreeIndex, item: Item) -> Result<Met<'a>, AllocError>
+    fn enter_element(&mut self, ix: TreeIndex, item: Item) -> Result<Ranged<'a>, AllocError>
         requires at { IsAt self.old ix }
         requires before { self.old.stage ≡ stage.Before }
         requires item { IsItemAt self.old ix item }
         requires texts { has_texts item.body ≡ true }
         ensures given { IfOk result
-            (λ met. (left : List Segment) (lines : List LeafLine) → Remains self.old left
-            → Gives left met lines self.new) }
-        ensures lent { IfOk result (MeetsZeroCopy (text_of self.old)) }
+            (λ given. (left : List Segment) → Remains self.old left
+            → IsFirst left (shown_ranged given) self.new) }
+        ensures lent { IfOk result (IsRangedZeroCopy (text_of self.old)) }
         ensures refused { OnErr result (LeavesTheSame self.old self.new) }
         ensures goes_on { GoesOn self.old self.new }
     {
@@ -210,22 +177,22 @@ impl<'a> Walk<'a> {
 
 // The start of an element with an item's range.
 #[inline(always)]
-pub(crate) fn begun<'a>(tag: Tag<'a>, item: Item) -> Met<'a>
+pub(crate) fn begun<'a>(tag: Tag<'a>, item: Item) -> Ranged<'a>
     ensures value { GivesRanged (event.Start tag.entry) item.start item.end result }
-    ensures lent { (text : List ℕ) → MeetsZeroCopy text result }
+    ensures lent { (text : List ℕ) → IsRangedZeroCopy text result }
 {
     given(Event::Start(tag), item.start, item.end)
 }
 
 // An event with its range.
 #[inline(always)]
-pub(crate) fn given<'a>(event: Event<'a>, start: usize, end: usize) -> Met<'a>
+pub(crate) fn given<'a>(event: Event<'a>, start: usize, end: usize) -> Ranged<'a>
     ensures value { GivesRanged event.entry start end result }
     ensures lent { (text : List ℕ) → IsZeroCopy text event.entry start end
-        → MeetsZeroCopy text result }
+        → IsRangedZeroCopy text result }
 {
-    Met::Event(Ranged {
+    Ranged {
         event,
         range: start..end,
-    })
+    }
 }

@@ -1,6 +1,6 @@
 -- Steps of a walk with spans: the events that are left.
 use Rattle.std.proofs.Common.{◌≡◌, inl, inr, ℕ, zero, suc, ◌≤◌, ◌-◌, arith, Bool, true, false, List, [], ◌∷◌, ◌++◌, append_assoc, append-nil, length, Option, refl, sym, ap, ◌∙◌, subst}
-use Rattle.std.specs.Prelude.{Err, IfSome, None, Ok, OnOk, Result, Some, option_map}
+use Rattle.std.specs.Prelude.{Err, IfOk, IfSome, None, Ok, OnOk, Result, Some, option_map}
 use Rattle.std.specs.Global.{Vec}
 use Rattle.cmark_grammar.specs.Answers.{Lookup}
 use Rattle.cmark_grammar.specs.Event.{Ranged, Text}
@@ -19,7 +19,10 @@ use Rattle.cmark_slot_events.specs.LinkStarts as starts
 use Rattle.cmark_slot_events.specs.LinkStarts.{IsStartFirst}
 use Rattle.cmark_inline.specs.PlainStretches.{StandUpTo}
 use Rattle.cmark_inline.specs.Resolved.{Answered}
-use Rattle.cmark_slot_events.specs.Events.{events_to_come}
+use Rattle.cmark_slot_events.specs.Events.{AreLeft, events_to_come}
+use Rattle.cmark_slot_events.specs.Opens.{AreOpened, Follows}
+use Rattle.cmark_text.specs.Ranged.{shown_ranged}
+use Rattle.cmark_text.specs.declared.ranged.Ranged.{Ranged as Given}
 use Rattle.cmark_inline.specs.declared.callback.BrokenLink.{BrokenLink}
 use Rattle.cmark_slot_events.specs.declared.leaf_events.LeafEvents.{LeafEvents}
 use Rattle.cmark_inline_model.specs.FirstEvents.{BeginWithEnd}
@@ -39,8 +42,8 @@ use Rattle.cmark_block_walk.specs.declared.walk.Walk.{Walk}
 use Rattle.cmark_block_walk.specs.Walking as walking
 use Rattle.cmark_block_walk.specs.Walking.{lines_of}
 use Rattle.cmark_event_walk.specs.declared.span_walk.SpanWalk.{SpanWalk}
-use Rattle.cmark_event_walk.specs.Walking.{ArePlaced, Ends, EntersLeaf, GivesLines, GivesStart, HasAsked, HasRange, IsOnlyLine, IsReadBy, Passes, ReadsLeaf, ReadsSame, Remains, StandsAt, callback_of, definitions_of, expansion_left_of, link_in, link_to_come, opened_of, source_of, spans_to_come}
-use Rattle.cmark_event_walk.proofs.Walks.{Lasts, following-at, closed, closed-at, met-by, one-left, same-at}
+use Rattle.cmark_event_walk.specs.Walking.{ArePlaced, Ends, EntersLeaf, Gives, GivesLines, GivesStart, HasAsked, HasRange, IsOnlyLine, IsReadBy, Passes, ReadsLeaf, ReadsSame, Remains, StandsAt, callback_of, definitions_of, expansion_left_of, link_in, link_to_come, opened_of, source_of, spans_to_come}
+use Rattle.cmark_event_walk.proofs.Walks.{Lasts, following-at, closed, closed-at, met-by, one-left, same-at, spanned-at}
 
 -- a text in which each byte stands for itself
 stand-whole : (options : Options) (lookup : Lookup) (is_cell : Bool) (text : List ℕ) → StandUpTo options lookup is_cell text 0 (length text) → StandWhole options lookup is_cell text
@@ -170,6 +173,16 @@ module _ {E F : Type 0} (Says : F → BrokenLink → Option (CowStr × CowStr) �
               ∙ ap (λ l. l ++ m.later) (sym first)
               ∙ sym (ap (λ b. spans_to_come b walk ++ m.later) inside);
         }
+
+    -- an event that is not a short one is passed
+    pub long-gives : {X : Type 0} (result : Result Given X) (walk : SpanWalk E F) (leaf_events : LeafEvents) (r : IsReadBy replacement reader walk) → walk.in_leaf ≡ true → leaf_events.slots ≡ walk.events.slots → AreOpened (source_of walk) leaf_events.walk.opened.items → OnOk result (AreLeft walk.leaf leaf_events)
+        → IfOk result (λ given. Follows (source_of walk) (opened_of walk) (shown_ranged given) leaf_events.walk.opened.items) → IfOk result (λ given. events_to_come walk.leaf walk.events ≡ shown_ranged given ∷ events_to_come walk.leaf leaf_events)
+        → IfOk result (λ given. Gives Says replacement reader walk given (record walk { events = leaf_events }))
+    long-gives (Ok given) walk leaf_events r inside slots opened left follows first = record {
+      range = follows.range;
+      passes = spanned walk leaf_events (shown_ranged given ∷ []) r inside (spanned-at walk leaf_events r.left r.stands inside slots opened left) first;
+    }
+    long-gives (Err x) walk leaf_events r inside slots opened left follows first = tt
 
     -- the start of a link is passed
     pub start-passes : (walk : SpanWalk E F) (leaf_events : LeafEvents) (r : IsReadBy replacement reader walk) → walk.in_leaf ≡ true → StandsAt (record walk { events = leaf_events }) r.left

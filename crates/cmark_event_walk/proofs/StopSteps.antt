@@ -1,5 +1,5 @@
 -- If memory is refused, the questions of the call are the first questions of the events that were left.
-use Rattle.std.proofs.Common.{◌≡◌, ℕ, false, List, [], ◌∷◌, ◌++◌, Option, append_assoc, append-nil, ap, ◌∙◌, length, refl, subst, sym}
+use Rattle.std.proofs.Common.{◌≡◌, false, List, [], ◌∷◌, ◌++◌, Option, append_assoc, append-nil, ap, ◌∙◌, length, refl, subst, sym}
 use Rattle.cmark_grammar.specs.Answers.{Lookup}
 use Rattle.cmark_grammar.specs.Event.{Ranged}
 use Rattle.cmark_grammar.specs.LeafReading.{Between}

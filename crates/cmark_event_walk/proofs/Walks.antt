@@ -1,6 +1,6 @@
 -- Steps of a walk with spans: its state.
-use Rattle.std.proofs.Common.{◌≡◌, ◌⊎◌, inl, inr, ℕ, ◌<◌, ◌≤◌, ◌+◌, ◌*◌, ◌-◌, arith, Bool, true, false, List, [], ◌∷◌, length, refl, sym, ap, ◌∙◌, subst}
-use Rattle.std.specs.Prelude.{None, Option, Some, is_some}
+use Rattle.std.proofs.Common.{◌≡◌, ◌⊎◌, inl, inr, ℕ, ◌<◌, ◌≤◌, ◌*◌, ◌-◌, arith, Bool, true, false, List, [], ◌∷◌, length, refl, sym, ap, ◌∙◌, subst}
+use Rattle.std.specs.Prelude.{is_some}
 use Rattle.std.specs.Global.{Vec}
 use Rattle.cmark_grammar.specs.LeafText.{Leaf}
 use Rattle.cmark_grammar.specs.SpanDocuments.{Segment, Given, Content}
@@ -30,15 +30,6 @@ use Rattle.cmark_event_walk.specs.Walking.{BeforeLeaf, BlocksLeft, EntersLeaf, H
 
 none-opened : (source : List ℕ) (opened : List Opened) → opened ≡ [] → AreOpened source opened
 none-opened source opened e = subst (AreOpened source) (sym e) (λ k d lt. absurd (omega (arith, lt)))
-
--- an option that is not None has a value, and any other is None
-pub some-of : {A : Type 0} (o : Option A) → is_some o ≡ true → (x : A) × (o ≡ Some x)
-some-of (Some x) e = (x, refl)
-some-of None e = absurd (let q : false ≡ true = e in cc)
-
-pub none-of : {A : Type 0} (o : Option A) → is_some o ≡ false → o ≡ None
-none-of (Some x) e = absurd (let q : true ≡ false = e in cc)
-none-of None e = refl
 
 -- a fact of Short and of Long is a fact of any result but Over
 pub before-over : (P : Next → Type 0) (n : Next) → (n ≡ next.Over → ⊥) → ((short : Short) (start end : ℕ) → n ≡ next.Short short start end → P (next.Short short start end)) → (n ≡ next.Long → P next.Long) → P n

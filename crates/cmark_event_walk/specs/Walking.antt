@@ -1,5 +1,5 @@
 -- The state of a walk with spans, and the events that it has left.
-use Rattle.std.specs.Prelude.{◌≡◌, ℕ, ◌+◌, ◌*◌, ◌<◌, ◌≤◌, Bool, true, false, List, [], ◌∷◌, ◌++◌, length, Option, Some, None, is_some, option_map}
+use Rattle.std.specs.Prelude.{◌≡◌, ℕ, ◌+◌, ◌*◌, ◌<◌, ◌≤◌, Bool, true, false, List, [], ◌∷◌, ◌++◌, length, Option, None, is_some, option_map}
 use Rattle.cmark_grammar.specs.Answers.{Lookup}
 use Rattle.cmark_grammar.specs.Event.{Ranged, Start}
 use Rattle.cmark_inline_model.specs.LeafSpans.{IsRange}
@@ -29,6 +29,7 @@ use Rattle.cmark_inline.specs.declared.steps.Steps.{Steps}
 use Rattle.cmark_inline.specs.Decided.{said}
 use Rattle.cmark_inline.specs.Linked.{said_by}
 use Rattle.cmark_slot_events.specs.LinkStarts as starts
+use Rattle.cmark_slot_events.specs.Longs as longs
 use Rattle.cmark_slot_events.specs.Opens as opens
 use Rattle.cmark_inline.specs.PlainStretches.{IsSetOf}
 use Rattle.cmark_inline.specs.Resolved.{Answered, ResolvesAs}
@@ -177,6 +178,14 @@ module _ {E F : Type 0} where
   abbrev pub link_to_come : SpanWalk E F → Option Link
   link_to_come walk = link_in walk.in_leaf walk
 
+  -- the next event is not a short one: it may own a text, or is a task marker
+  abbrev pub IsLongIn : (in_leaf : Bool) → SpanWalk E F → Type 0
+  IsLongIn true walk = longs.IsLong walk.events
+  IsLongIn false walk = walking.IsLong walk.walk
+
+  abbrev pub IsLong : SpanWalk E F → Type 0
+  IsLong walk = IsLongIn walk.in_leaf walk
+
   -- more than the number of all events that are left, if a leaf has fewer than 2^66
   abbrev pub events_left : SpanWalk E F → ℕ
   events_left walk = walk.budget * 73786976294838206464 + opens.events_left walk.events
@@ -257,6 +266,13 @@ module _ {E F : Type 0} (replacement : E → Lookup) (reader : Reader) where
   KeepsAfterLeaf old next.Long new = Unit {0}
   KeepsAfterLeaf old next.Over new = KeepsLeft old new
 
+-- `replacement` is the look-up that a value of E represents
+module _ {E F : Type 0} (replacement : E → Lookup) where
+  -- the next event was reported as long: it is not a short one, and for each reader it is not the end of an element
+  pub record ComesLong (old new : SpanWalk E F) : Type 0 where
+    pub long : IsLong new
+    pub no_end : (reader : Reader) → NoEndIsNext replacement reader old
+
 -- ## The result of a call
 
 -- the call returned the events of several lines at once
@@ -266,6 +282,14 @@ are_lines (coming.Block short start end) = false
 are_lines (coming.Lines short start end) = true
 are_lines coming.Long = false
 are_lines coming.Over = false
+
+-- this holds if the next event was reported as long
+abbrev pub IfLong : Coming → Type 0 → Type 0
+IfLong (coming.Span short start end) P = Unit {0}
+IfLong (coming.Block short start end) P = Unit {0}
+IfLong (coming.Lines short start end) P = Unit {0}
+IfLong coming.Long P = P
+IfLong coming.Over P = Unit {0}
 
 -- the callback was asked some questions, one after the other
 abbrev pub HasAsked : {F : Type 0} → (F → BrokenLink → Option (CowStr × CowStr) → F → Type 0) → (before after : F) → Type 0
@@ -293,10 +317,10 @@ module _ {E F : Type 0} (Says : F → BrokenLink → Option (CowStr × CowStr) �
     pub answered : Answered Says taken (callback_of old) (callback_of new)
     pub left : (plan : Plan) → (rest : List Exchange) × (events : List Ranged) × AreByPlan plan [] rest × Remains replacement reader old (taken ++ rest) events
 
-  -- a call returns the first of the events that were left, with its range; or None, if no event was left
-  abbrev pub Gives : SpanWalk E F → Option Given → SpanWalk E F → Type 0
-  Gives old None new = Ends old new
-  Gives old (Some given) new = HasRange (source_of old) (shown_ranged given) × Passes (shown_ranged given ∷ []) old new
+  -- a call returns the first of the events that were left, with its range
+  pub record Gives (old : SpanWalk E F) (given : Given) (new : SpanWalk E F) : Type 0 where
+    pub range : HasRange (source_of old) (shown_ranged given)
+    pub passes : Passes (shown_ranged given ∷ []) old new
 
   -- the event that this short event represents, with this range, is the first of those that were left
   pub record GivesShort (old : SpanWalk E F) (short : Short) (start end : ℕ) (new : SpanWalk E F) : Type 0 where
@@ -347,10 +371,6 @@ module _ {E F : Type 0} (Says : F → BrokenLink → Option (CowStr × CowStr) �
   GivesInLeaf old (next.Short short start end) new = GivesShort old short start end new
   GivesInLeaf old next.Long new = Passes [] old new
   GivesInLeaf old next.Over new = Passes [] old new
-
-  abbrev pub GivesSpan : SpanWalk E F → Option Given → SpanWalk E F → Type 0
-  GivesSpan old None new = Passes [] old new
-  GivesSpan old (Some given) new = HasRange (source_of old) (shown_ranged given) × Passes (shown_ranged given ∷ []) old new
 
   -- the grammar reads the leaf as the events that are left in it now
   pub record ReadsLeaf (leaf : Leaf) (old new : SpanWalk E F) : Type 0 where

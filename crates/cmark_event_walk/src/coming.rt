@@ -14,7 +14,7 @@ pub enum Coming<'a> {
     /// text, joined by line feeds, with their range.
     // It has the same fields as the variants above. With other fields `to_html` took a tenth more instructions on texts with markup.
     Lines(Short<'a>, usize, usize),
-    /// The next event is of another kind. The walk has not returned it yet.
+    /// The next event is of another kind. The walk has not returned it yet: `take_long` does.
     Long,
     /// No event is left.
     Over,

@@ -1,6 +1,6 @@
 //! The walk over a document's events with the spans of its leaves.
 
-ghost use Rattle.std.specs.Prelude.{◌≡◌, ◌≢◌, ◌<◌, ◌≤◌, true, false, List, [], is_some, length, option_map, IfOk, IfSome, OnErr, OnOk, OnSome};
+ghost use Rattle.std.specs.Prelude.{◌≡◌, ◌≢◌, ◌<◌, ◌≤◌, true, false, List, [], is_some, length, option_map, IfOk, IfSome, OnErr, OnOk};
 ghost use Rattle.cmark_grammar.specs.Event.{Ranged as Shown};
 ghost use Rattle.cmark_grammar.specs.Questions.{Exchange};
 ghost use Rattle.cmark_grammar.specs.Readers.{Reader as GrammarReader};
@@ -11,6 +11,7 @@ ghost use Rattle.cmark_inline.specs.Footnoted.{SameFootnotes};
 ghost use Rattle.cmark_inline_model.specs.LeafExtents.{extents};
 ghost use Rattle.cmark_references.specs.Links.{shown_link};
 ghost use Rattle.cmark_inline.specs.Resolved.{StopsAs};
+ghost use Rattle.cmark_slot_events.specs.Shorts.{IfLong as IfNextLong};
 ghost use Rattle.cmark_leaf_text.specs.Stretches.{AreLines};
 ghost use Rattle.cmark_block_walk.specs.Walking.{Remains as BlocksRemain, definitions_of as block_definitions, text_of};
 ghost use Rattle.cmark_text.specs.Excerpt.{excerpt_bytes};
@@ -22,7 +23,7 @@ ghost use Rattle.cmark_event_walk.specs.Walking.{ArePlaced, HasAsked, HasPlaces,
 
 use crate::coming::Coming;
 use crate::plain::{Lines, plain_lines};
-use cmark_block_walk::{Brief, Met, Walk};
+use cmark_block_walk::{Brief, Walk};
 use cmark_inline::{BrokenLinkCallback, InlineState, Reader, SpecialBytes, Steps, special_bytes};
 use cmark_leaf_text::{LeafLine, LeafText};
 use cmark_references::{FootnoteDefs, Link, RefDefs};
@@ -54,7 +55,7 @@ pub struct SpanWalk<'input, 'e, E, F> {
 }
 
 impl<'input, 'e, E: EntityLookup, F: BrokenLinkCallback<'input> + Drop> SpanWalk<'input, 'e, E, F> {
-    ghost use Rattle.cmark_event_walk.specs.Walking.{BeforeLeaf, KeepsAround, EntersLeaf, Gives, GivesComing, GivesInLeaf, GivesSpan, GivesStart, IsCounted, IsReadBy, KeepsAfterLeaf, KeepsLeft, LeavesFewer, LeavesFewerAfter, LeavesLeaf, NoEndIsNext, ReadsLeaf, ReadsSame, Remains, Stands, Stops, are_lines, callback_of, definitions_of, events_left, expansion_left_of, footnotes_of, link_to_come, options_of, source_of, steps_of};
+    ghost use Rattle.cmark_event_walk.specs.Walking.{BeforeLeaf, ComesLong, KeepsAround, EntersLeaf, Gives, GivesComing, GivesInLeaf, GivesStart, IfLong, IsCounted, IsLong, IsReadBy, KeepsAfterLeaf, LeavesFewer, LeavesFewerAfter, LeavesLeaf, NoEndIsNext, ReadsLeaf, ReadsSame, Remains, Stands, Stops, are_lines, callback_of, definitions_of, events_left, expansion_left_of, footnotes_of, link_to_come, options_of, source_of, steps_of};
 
     /// Returns a walk over the rest of `walk`, which is a walk over the blocks of `text`. `budget` is more than the number of events and
     /// leaves that `walk` still returns. `entities` maps entity names to their characters. `footnotes` are the footnotes that the text
@@ -119,6 +120,11 @@ impl<'input, 'e, E: EntityLookup, F: BrokenLinkCallback<'input> + Drop> SpanWalk
         self.walk.definitions()
     }
 
+    /// The allocator of the walk.
+    pub fn allocator(&self) -> Global {
+        *self.lines.allocator()
+    }
+
     /// How much the searches in the leaves have looked at so far.
     pub fn steps(&self) -> Steps
         ensures { result ≡ steps_of self.now }
@@ -126,56 +132,9 @@ impl<'input, 'e, E: EntityLookup, F: BrokenLinkCallback<'input> + Drop> SpanWalk
         self.inline.steps()
     }
 
-    /// Returns the next event with its range, or `None` if no event is left. After an error (out of memory) the walk cannot be continued.
-    #[inline(always)]
-    pub fn next(&mut self) -> Result<Option<Ranged<'input>>, AllocError>
-        requires stands { Stands self.old }
-        requires ready { F.ready (callback_of self.old) }
-        ensures ready { F.ready (callback_of self.new) }
-        ensures stands { OnOk result (Stands self.new) }
-        ensures given { (reader : GrammarReader) → IsReadBy E.replacement reader self.old
-            → IfOk result (λ given. Gives F.answers E.replacement reader self.old given self.new) }
-        ensures lent { IfOk result (λ given. IfSome given (IsRangedZeroCopy (source_of self.old))) }
-        ensures fewer { IfOk result
-            (λ given. OnSome given (events_left self.new < events_left self.old)) }
-        ensures ends { OnErr result
-            ((reader : GrammarReader) → NoEndIsNext E.replacement reader self.old) }
-        ensures asked { OnErr result
-            (HasAsked F.answers (callback_of self.old) (callback_of self.new)) }
-        ensures stops { (reader : GrammarReader) → IsReadBy E.replacement reader self.old
-            → OnErr result (Stops F.answers E.replacement reader self.old self.new) }
-        ensures counted { IsCounted self.new }
-        ensures definitions { definitions_of self.new ≡ definitions_of self.old }
-        ensures footnotes { SameFootnotes (footnotes_of self.old) (footnotes_of self.new) }
-        ensures source { source_of self.new ≡ source_of self.old }
-    {
-        loop {
-            let Ok(span) = self.next_span() else {
-                return Err(AllocError);
-            };
-            if let Some(given) = span {
-                return Ok(Some(given));
-            }
-            let Ok(met) = self.walk.next(&mut self.lines) else {
-                return Err(AllocError);
-            };
-            match met {
-                Met::Event(given) => {
-                    self.budget -= 1;
-                    return Ok(Some(given));
-                }
-                Met::Over => return Ok(None),
-                Met::Leaf { is_cell } => {
-                    self.budget -= 1;
-                    self.enter_leaf(is_cell)?;
-                }
-            }
-        }
-    }
-
-    /// Like [`next`](SpanWalk::next), but builds no `Event`. An event that owns nothing is returned and consumed. Any other is reported as
-    /// `Coming::Long` and left for `next`. `joins` says whether the events of several plain lines may be returned at once, as
-    /// `Coming::Lines`. After an error (out of memory) the walk cannot be continued.
+    /// Returns the next event with its range, without an `Event`. An event that owns nothing is consumed. Any other is reported as
+    /// `Coming::Long` and left for [`take_long`](SpanWalk::take_long). `joins` says whether the events of several plain lines may be
+    /// returned at once, as `Coming::Lines`. After an error (out of memory) the walk cannot be continued.
     #[inline(always)]
     pub fn next_short(&mut self, joins: bool) -> Result<Coming<'input>, AllocError>
         requires stands { Stands self.old }
@@ -186,6 +145,8 @@ impl<'input, 'e, E: EntityLookup, F: BrokenLinkCallback<'input> + Drop> SpanWalk
             → IfOk result
             (λ coming. GivesComing F.answers E.replacement reader self.old coming self.new) }
         ensures joins { joins ≡ false → IfOk result (λ coming. are_lines coming ≡ false) }
+        ensures long { IfOk result
+            (λ coming. IfLong coming (ComesLong E.replacement self.old self.new)) }
         ensures fewer { IfOk result (λ coming. LeavesFewerAfter self.old coming self.new) }
         ensures ends { OnErr result
             ((reader : GrammarReader) → NoEndIsNext E.replacement reader self.old) }
@@ -231,6 +192,35 @@ impl<'input, 'e, E: EntityLookup, F: BrokenLinkCallback<'input> + Drop> SpanWalk
         }
     }
 
+    /// Returns the next event with its range, after [`next_short`](SpanWalk::next_short) reported it as long. Asks nothing. After an error
+    /// (out of memory) the walk cannot be continued.
+    #[inline(always)]
+    pub fn take_long(&mut self) -> Result<Ranged<'input>, AllocError>
+        requires stands { Stands self.old }
+        requires long { IsLong self.old }
+        ensures stands { OnOk result (Stands self.new) }
+        ensures given { (reader : GrammarReader) → IsReadBy E.replacement reader self.old
+            → IfOk result (λ given. Gives F.answers E.replacement reader self.old given self.new) }
+        ensures lent { IfOk result (IsRangedZeroCopy (source_of self.old)) }
+        ensures fewer { OnOk result (events_left self.new < events_left self.old) }
+        ensures ends { OnErr result
+            ((reader : GrammarReader) → NoEndIsNext E.replacement reader self.old) }
+        ensures callback { callback_of self.new ≡ callback_of self.old }
+        ensures counted { IsCounted self.new }
+        ensures definitions { definitions_of self.new ≡ definitions_of self.old }
+        ensures footnotes { SameFootnotes (footnotes_of self.old) (footnotes_of self.new) }
+        ensures source { source_of self.new ≡ source_of self.old }
+    {
+        if self.in_leaf {
+            return self.events.take_long(&self.leaf);
+        }
+        let Ok(given) = self.walk.take_long() else {
+            return Err(AllocError);
+        };
+        self.budget -= 1;
+        Ok(given)
+    }
+
     /// The callback, as the questions so far left it.
     pub fn callback(&self) -> &F
         ensures { result.now ≡ callback_of self.now }
@@ -250,7 +240,7 @@ impl<'input, 'e, E: EntityLookup, F: BrokenLinkCallback<'input> + Drop> SpanWalk
         self.events.link_ahead()
     }
 
-    /// Consumes the start of the link that is next, like `next`, but builds no `Event`. After an error (out of memory) the walk cannot be
+    /// Consumes the start of the link that is next, like `take_long`, but builds no `Event`. After an error (out of memory) the walk cannot be
     /// continued.
     #[inline(always)]
     pub fn pass_link(&mut self) -> Result<(), AllocError>
@@ -281,6 +271,8 @@ impl<'input, 'e, E: EntityLookup, F: BrokenLinkCallback<'input> + Drop> SpanWalk
         requires { Stands self.old }
         ensures stands { OnOk result (Stands self.new) }
         ensures outside { IfOk result (λ next. LeavesLeaf next self.new) }
+        ensures long { IfOk result
+            (λ next. IfNextLong next (ComesLong E.replacement self.old self.new)) }
         ensures given { (reader : GrammarReader) → IsReadBy E.replacement reader self.old
             → IfOk result
             (λ next. GivesInLeaf F.answers E.replacement reader self.old next self.new) }
@@ -306,43 +298,6 @@ impl<'input, 'e, E: EntityLookup, F: BrokenLinkCallback<'input> + Drop> SpanWalk
             return Ok(Next::Over);
         }
         Ok(next)
-    }
-
-    // Returns the next event of the current leaf. The result is `None` if there is no current leaf or it has no more events; the walk is
-    // then in no leaf.
-    #[inline(always)]
-    fn next_span(&mut self) -> Result<Option<Ranged<'input>>, AllocError>
-        requires { Stands self.old }
-        ensures stands { OnOk result (Stands self.new) }
-        ensures outside { IfOk result (λ given. is_some given ≡ false → self.new.in_leaf ≡ false) }
-        ensures given { (reader : GrammarReader) → IsReadBy E.replacement reader self.old
-            → IfOk result
-            (λ given. GivesSpan F.answers E.replacement reader self.old given self.new) }
-        ensures kept { (reader : GrammarReader)
-            → IfOk result
-            (λ given. is_some given ≡ false → KeepsLeft E.replacement reader self.old self.new) }
-        ensures ends { OnErr result
-            ((reader : GrammarReader) → NoEndIsNext E.replacement reader self.old) }
-        ensures lent { IfOk result (λ given. IfSome given (IsRangedZeroCopy (source_of self.old))) }
-        ensures fewer { IfOk result
-            (λ given. OnSome given (events_left self.new < events_left self.old)) }
-        ensures most { OnOk result (events_left self.new ≤ events_left self.old) }
-        ensures few { OnOk result
-            (self.old.in_leaf ≡ true → length self.new.events.slots.items < 18446744073709551616) }
-        ensures slots { OnOk result (self.new.events.slots ≡ self.old.events.slots) }
-        ensures around { KeepsAround self.old self.new }
-    {
-        if !self.in_leaf {
-            return Ok(None);
-        }
-        let Ok(given) = self.events.next(&self.leaf) else {
-            return Err(AllocError);
-        };
-        if given.is_some() {
-            return Ok(given);
-        }
-        self.in_leaf = false;
-        Ok(given)
     }
 
     // Returns the text of the leaf whose lines are in `lines`, with its range in the source and its number of lines. It does so only if the

@@ -1,3 +1,4 @@
+pub mod ItemSteps
 pub mod LineSteps
 pub mod ParseSteps
 pub mod RenderSteps

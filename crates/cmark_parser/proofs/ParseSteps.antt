@@ -1,5 +1,5 @@
 -- Steps of a parser.
-use Rattle.std.specs.Prelude.{IfOk, IfSome, OnErr, Option, Result, Err, IsUtf8, is_some, option_map}
+use Rattle.std.specs.Prelude.{IfOk, IfSome, OnErr, OnOk, Option, Result, Err, IsUtf8, is_err, is_some, option_map}
 use Rattle.std.specs.declared.alloc.AllocError.{AllocError}
 use Rattle.std.proofs.Common.{◌≡◌, ◌+◌, ◌*◌, ◌<◌, ◌≤◌, ℕ, suc, Bool, true, false, if◌then◌else◌, List, [], ◌∷◌, ◌++◌, length, None, Some, Ok, inl, inr, refl, sym, ap, ◌∙◌, subst, arith}
 use Rattle.cmark_block_model.proofs.Drawings.{derived}
@@ -145,7 +145,7 @@ module _ {E F : Type 0} (replacement : E → Lookup) where
       → GoesOn (Remains replacement) IsOver new
   goes old new e same known r = inr (some-left new e (subst (λ reader. walking.IsReadBy replacement reader new.spans) (reader-same old new same known r.same) r))
 
-left-of : {E F : Type 0} → (parser : Parser E F) → parser.is_over ≡ false → events_left parser ≡ suc (walking.events_left parser.spans)
+pub left-of : {E F : Type 0} → (parser : Parser E F) → parser.is_over ≡ false → events_left parser ≡ suc (walking.events_left parser.spans)
 left-of parser e = ap (λ b. if b then 0 else suc (walking.events_left parser.spans)) e
 
 -- a link is next only if the parser is not over
@@ -176,15 +176,15 @@ module _ {E F : Type 0} (Says : F → BrokenLink → Option (CowStr × CowStr) �
   }
 
   -- an event is returned, and the others are left
-  pub gives-some : (old new : Parser E F) (item : Item) → old.is_over ≡ false → new.is_over ≡ false → walking.Gives (SaysIfAny Says) replacement (reader_for replacement old) old.spans (Some item) new.spans
+  pub gives-some : (old new : Parser E F) (item : Item) → old.is_over ≡ false → new.is_over ≡ false → walking.Gives (SaysIfAny Says) replacement (reader_for replacement old) old.spans item new.spans
       → IsRangedZeroCopy (text_of old) item → walking.events_left new.spans < walking.events_left old.spans → text_of new ≡ text_of old → definitions new ≡ definitions old → SameFootnotes (footnotes old) (footnotes new) → IsCounted new → GivesStep Says replacement old (Some (Ok item)) new
   gives-some old new item e n gives lent less text same known counted =
-      let p = passes-of (shown_ranged item ∷ []) old new e n same known gives.1 in
+      let p = passes-of (shown_ranged item ∷ []) old new e n same known gives.passes in
       record {
         next = record {
           taken = p.taken;
-          first = (p.asks, (shown_ranged item, record { is = refl; range = gives.0; lent = lent }, p.back));
-          goes_on = goes replacement old new n same known gives.1.read_by;
+          first = (p.asks, (shown_ranged item, record { is = refl; range = gives.range; lent = lent }, p.back));
+          goes_on = goes replacement old new n same known gives.passes.read_by;
           over = λ over. absurd (let q : true ≡ false = sym over ∙ e in cc);
         };
         text = text;
@@ -193,34 +193,6 @@ module _ {E F : Type 0} (Says : F → BrokenLink → Option (CowStr × CowStr) �
         counted = counted;
         fewer = let a = left-of old e in let b = left-of new n in omega (arith, a, b, less);
       }
-
-  -- no event was left
-  pub gives-none : (old new : Parser E F) → old.is_over ≡ false → new.is_over ≡ true → walking.Gives (SaysIfAny Says) replacement (reader_for replacement old) old.spans None new.spans → text_of new ≡ text_of old → definitions new ≡ definitions old
-      → SameFootnotes (footnotes old) (footnotes new) → IsCounted new → GivesStep Says replacement old None new
-  gives-none old new e n ends text same known counted = record {
-    next = record {
-      taken = ends.taken;
-      first = (asked-of Says ends.taken old.spans.callback new.spans.callback ends.answered, subst (λ b. Left replacement b old ends.taken []) (sym e) ends.none, n);
-      goes_on = inl n;
-      over = λ over. absurd (let q : true ≡ false = sym over ∙ e in cc);
-    };
-    text = text;
-    definitions = same;
-    footnotes = known;
-    counted = counted;
-    fewer = tt;
-  }
-
-  -- after the end
-  pub gives-nothing : (parser : Parser E F) → parser.is_over ≡ true → IsCounted parser → GivesStep Says replacement parser None parser
-  gives-nothing parser e counted = record {
-    next = record { taken = []; first = (refl, subst (λ b. Left replacement b parser [] []) (sym e) (refl, refl), e); goes_on = inl e; over = λ over. (refl, refl, e) };
-    text = refl;
-    definitions = refl;
-    footnotes = λ folded. refl;
-    counted = counted;
-    fewer = tt;
-  }
 
   -- after the end, the short result is Over
   pub gives-over : (parser : Parser E F) → parser.is_over ≡ true → IsCounted parser → GivesAs Says replacement parser next.Over parser
@@ -352,6 +324,13 @@ module _ {E F : Type 0} (Says : F → BrokenLink → Option (CowStr × CowStr) �
         → OnErr o ((reader : Reader) → walking.NoEndIsNext replacement reader old.spans) → OnErr o (walking.Stops (SaysIfAny Says) replacement (reader_for replacement old) old.spans new.spans) → GivesOrErr Says replacement old o new
     gives-or-err (Ok coming) n h less ends stops = gives-coming coming n h less
     gives-or-err (Err error) n h less ends stops = gives-error old new error e n ends stops text same known counted
+
+  -- the parser takes an event that is not a short one
+  pub gives-taken : (old new : Parser E F) (o : Result Item AllocError) → old.is_over ≡ false → new.is_over ≡ is_err o → text_of new ≡ text_of old → definitions new ≡ definitions old → SameFootnotes (footnotes old) (footnotes new) → IsCounted new
+      → IfOk o (λ given. walking.Gives (SaysIfAny Says) replacement (reader_for replacement old) old.spans given new.spans) → IfOk o (IsRangedZeroCopy (text_of old)) → OnOk o (walking.events_left new.spans < walking.events_left old.spans)
+      → OnErr o ((reader : Reader) → walking.NoEndIsNext replacement reader old.spans) → walking.Stops (SaysIfAny Says) replacement (reader_for replacement old) old.spans new.spans → GivesStep Says replacement old (Some o) new
+  gives-taken old new (Ok item) e n text same known counted gives lent less ends stops = gives-some old new item e n gives lent less text same known counted
+  gives-taken old new (Err error) e n text same known counted gives lent less ends stops = gives-error old new error e n ends stops text same known counted
 
 -- ## A parser at the start
 

@@ -1,5 +1,5 @@
 -- A parser of the rest of a text.
-use Rattle.std.proofs.Common.{◌≡◌, ◌+◌, ◌*◌, ◌<◌, ◌≤◌, ℕ, false, List, [], ◌∷◌, ◌++◌, length, take, inr, ap, subst, sym, arith}
+use Rattle.std.proofs.Common.{◌≡◌, ◌+◌, ◌*◌, ◌<◌, ◌≤◌, ℕ, false, List, [], ◌∷◌, ◌++◌, length, take, inr, subst, sym, arith}
 use Rattle.std.specs.Prelude.{IsUtf8}
 use Rattle.cmark_block_model.specs.Tails.{document_after}
 use Rattle.cmark_grammar.specs.Answers.{Lookup}

@@ -47,7 +47,7 @@ use Rattle.cmark_text.specs.declared.ranged.Ranged.{Ranged as Given}
 use Rattle.cmark_text.specs.Ranged.{shown_ranged}
 use Rattle.cmark_parser.specs.declared.parse.Parser.{Parser}
 use Rattle.cmark_parser.specs.declared.parse.OffsetIter.{OffsetIter}
-use Rattle.cmark_parser.specs.Walking.{GoesOn, GivesNext, ReadsFrom}
+use Rattle.cmark_parser.specs.Walking.{GoesOn, GivesNext, NoEndIsNext, ReadsFrom}
 
 -- an item is the event of `r`. The range of `r` is in the text and cuts no character, and the event keeps the zero-copy law over this range
 pub record Shows (text : List ℕ) (event : Event) (r : Ranged) : Type 0 where
@@ -86,6 +86,12 @@ is_last (Ok (coming.Lines short start end)) = false
 is_last (Ok coming.Long) = false
 is_last (Ok coming.Over) = true
 is_last (Err e) = true
+
+-- this holds if the next event was reported as long
+abbrev pub IfNextLong : Next → Type 0 → Type 0
+IfNextLong (next.Short short start end) P = Unit {0}
+IfNextLong next.Long P = P
+IfNextLong next.Over P = Unit {0}
 
 module _ {E F : Type 0} where
   -- an upper bound of the number of events that are left
@@ -136,6 +142,11 @@ module _ {E F : Type 0} where
   abbrev pub link_to_come : Parser E F → Option Link
   link_to_come parser = link_unless parser.is_over parser
 
+  -- the walk is not over, and the next event is not a short one
+  pub record IsLong (parser : Parser E F) : Type 0 where
+    pub going : parser.is_over ≡ false
+    pub long : walking.IsLong parser.spans
+
   -- for each folded label, the parser has the first definition of this document with that label, as the definition spells it (CommonMark
   -- 4.7)
   abbrev pub DefinesAs : BlockDocument → Parser E F → Type 0
@@ -169,6 +180,9 @@ module _ {E F : Type 0} where
 
   abbrev pub ranged_steps : OffsetIter E F → Steps
   ranged_steps iter = steps_of iter.parser
+
+  abbrev pub IsRangedLong : OffsetIter E F → Type 0
+  IsRangedLong iter = IsLong iter.parser
 
   abbrev pub IsRangedCounted : OffsetIter E F → Type 0
   IsRangedCounted iter = IsCounted iter.parser
@@ -208,6 +222,11 @@ module _ {E F : Type 0} (replacement : E → Lookup) where
   pub record CanGo (parser : Parser E F) : Type 0 where
     pub goes : GoesOn Remains IsOver parser
     pub counted : IsCounted parser
+
+  -- the next event was reported as long: it is not a short one and, whatever the answers are, not the end of an element
+  pub record ComesLong (old new : Parser E F) : Type 0 where
+    pub long : IsLong new
+    pub no_end : NoEndIsNext Remains old
 
   -- the parser is at the start of the reading of a text, with this reference expansion limit
   abbrev pub ReadsWithin : (limit : ℕ) → List ℕ → Options → Lookup → Parser E F → Type 0

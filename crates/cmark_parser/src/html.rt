@@ -8,8 +8,8 @@ ghost use Rattle.cmark_text.specs.Appended.{Writes};
 ghost use Rattle.cmark_text.specs.Short.{shown_short};
 ghost use Rattle.cmark_values.specs.Shown.{shown_options};
 ghost use Rattle.cmark_parser.specs.Filters.{filtered_by};
-ghost use Rattle.cmark_parser.specs.Parsing.{CanGo, IsReady};
-ghost use Rattle.cmark_parser.specs.Rendering.{IsHtmlBy, IsHtmlOfRest, IsSafeHtmlOf, WritesLink, WritesLong, WritesNext, WritesRest, written};
+ghost use Rattle.cmark_parser.specs.Parsing.{CanGo, IsLong, IsReady};
+ghost use Rattle.cmark_parser.specs.Rendering.{IsHtmlBy, IsHtmlOfRest, IsSafeHtmlOf, WritesEvent, WritesLink, WritesLong, WritesNext, WritesRest, written};
 ghost use Rattle.cmark_safe.specs.SafeHtml.{IsSafe};
 
 use crate::filter::{Filter, Filtering};
@@ -226,8 +226,8 @@ fn write_lines<'a>(
     write_short(out, writer, text)
 }
 
-// Appends the HTML of the next event, of any kind. If it opens an image, the HTML of the events up to the end of the image follows, so that
-// no image is open afterwards. Returns false if the events are over before that. The start of a link is written without an `Event`.
+// Appends the HTML of the next event, which is not short. If it opens an image, the HTML of the events up to the end of the image follows,
+// so that no image is open afterwards. Returns false if the events are over before that. The start of a link is written without an `Event`.
 fn write_long<'a, E: EntityLookup, F: BrokenLinkCallback<'a> + Drop, T: Filter>(
     out: &mut String,
     writer: &mut Writer<'a>,
@@ -236,6 +236,7 @@ fn write_long<'a, E: EntityLookup, F: BrokenLinkCallback<'a> + Drop, T: Filter>(
 ) -> Result<bool, AllocError>
     requires goes { CanGo E.replacement parser.old }
     requires ready { IsReady F.ready parser.old }
+    requires long { IsLong parser.old }
     ensures writes { IfOk result
         (λ is_given. WritesLong F.answers E.replacement (T.filtered filter.now) is_given
         parser.old (written (writing writer.old) (string_bytes out.old))
@@ -290,25 +291,48 @@ fn write_any<'a, E: EntityLookup, F: BrokenLinkCallback<'a> + Drop, T: Filter>(
 ) -> Result<bool, AllocError>
     requires goes { CanGo E.replacement parser.old }
     requires ready { IsReady F.ready parser.old }
+    requires long { IsLong parser.old }
     ensures writes { IfOk result
         (λ is_given. WritesLong F.answers E.replacement (T.filtered filter.now) is_given
         parser.old (written (writing writer.old) (string_bytes out.old))
         parser.new (written (writing writer.new) (string_bytes out.new))) }
     ensures ready { IsReady F.ready parser.new }
 {
-    loop {
+    write_taken(out, writer, parser, filter)?;
+    while writer.image.is_some() {
         let is_given = write_next(out, writer, parser, filter)?;
         if !is_given {
             return Ok(false);
         }
-        if writer.image.is_none() {
-            return Ok(true);
-        }
     }
+    Ok(true)
 }
 
-// Appends the HTML of the next event, of any kind, and returns whether there was one. The function is not inlined, because an `Event` needs
-// a large frame, which is cleared on entry. So only events that need it pay for it.
+// Appends the HTML of the next event, which is not short. The function is not inlined, because an `Event` needs a large frame, which is
+// cleared on entry. So only events that need it pay for it.
+#[inline(never)]
+fn write_taken<'a, E: EntityLookup, F: BrokenLinkCallback<'a> + Drop, T: Filter>(
+    out: &mut String,
+    writer: &mut Writer<'a>,
+    parser: &mut Parser<'a, E, F>,
+    filter: &T,
+) -> Result<(), AllocError>
+    requires goes { CanGo E.replacement parser.old }
+    requires ready { IsReady F.ready parser.old }
+    requires long { IsLong parser.old }
+    ensures writes { OnOk result
+        (WritesEvent F.answers E.replacement (T.filtered filter.now)
+        parser.old (written (writing writer.old) (string_bytes out.old))
+        parser.new (written (writing writer.new) (string_bytes out.new))) }
+    ensures ready { IsReady F.ready parser.new }
+{
+    let given = parser.take_long()?;
+    let event = filter.event_of(*out.allocator(), given.event)?;
+    write_event(out, writer, event)
+}
+
+// Appends the HTML of the next event, of any kind, and returns whether there was one. It serves the inside of an image, and is not inlined
+// for the reason above.
 #[inline(never)]
 fn write_next<'a, E: EntityLookup, F: BrokenLinkCallback<'a> + Drop, T: Filter>(
     out: &mut String,

@@ -1,6 +1,7 @@
 //! The parser: from a text to the events of its document, and to their HTML.
 #![tactic(auto)]
 
+mod event;
 mod filter;
 mod html;
 mod parse;

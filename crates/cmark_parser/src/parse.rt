@@ -1,14 +1,15 @@
 //! The parser: iterators over the events of a text's document.
 
-ghost use Rattle.std.specs.Prelude.{◌≡◌, ◌*◌, ◌≤◌, length, true, false, None, IfOk, is_some, option_copied, option_map};
+ghost use Rattle.std.specs.Prelude.{◌≡◌, ◌*◌, ◌≤◌, length, true, false, None, Some, IfOk, is_some, option_copied, option_map};
 ghost use Rattle.std.specs.Iterator.{at_most};
 ghost use Rattle.std.specs.Option.{ForSome};
 ghost use Rattle.cmark_grammar.specs.Options.{no_options};
 ghost use Rattle.cmark_values.specs.Shown.{shown_options};
 ghost use Rattle.cmark_inline.specs.Counted.{total};
-ghost use Rattle.cmark_event_walk.specs.Walking.{are_lines};
+ghost use Rattle.cmark_event_walk.specs.Walking.{IfLong, are_lines};
 ghost use Rattle.cmark_parser.specs.Parsing.{is_last};
 
+use crate::event::ranged_event;
 use bitflags::Flags;
 use cmark_block_walk::Walk;
 use cmark_blocks::{FirstPass, run_first_pass};
@@ -87,7 +88,7 @@ impl<'input, E: EntityLookup> Parser<'input, E> {
 }
 
 impl<'input, E: EntityLookup, F: BrokenLinkCallback<'input> + Drop> Parser<'input, E, F> {
-    ghost use Rattle.cmark_parser.specs.Parsing.{Reads, Defines, DefinesFootnotes, CanGo, CanGoRanged, GivesOrErr, GivesStartOrErr, GivesStep, IsReady, ReadsWithin, callback_of, definitions, link_to_come, steps_of, text_of, walk_of};
+    ghost use Rattle.cmark_parser.specs.Parsing.{Reads, Defines, DefinesFootnotes, CanGo, CanGoRanged, ComesLong, GivesOrErr, GivesStartOrErr, GivesStep, IsLong, IsReady, ReadsWithin, callback_of, definitions, link_to_come, steps_of, text_of, walk_of};
 
     /// Returns a parser of `text` with these options. If there is a callback, it is asked about each reference without a definition, while
     /// events are returned. `entities` maps entity names to their characters. Fails only if memory is refused.
@@ -184,15 +185,17 @@ impl<'input, E: EntityLookup, F: BrokenLinkCallback<'input> + Drop> Parser<'inpu
         OffsetIter { parser: self }
     }
 
-    // Like `next`, but builds no `Event`. An event that owns nothing is returned and consumed. Any other is reported as `Coming::Long` and
-    // left for `advance`. `joins` says whether the events of several plain lines may be returned at once, as `Coming::Lines`. After an error
-    // (out of memory) the walk is over.
+    // Returns the next event with its range, without an `Event`. An event that owns nothing is consumed. Any other is reported as
+    // `Coming::Long` and left for `take_long`. `joins` says whether the events of several plain lines may be returned at once, as
+    // `Coming::Lines`. After an error (out of memory) the walk is over.
     #[inline(always)]
     pub(crate) fn next_short(&mut self, joins: bool) -> Result<Coming<'input>, AllocError>
         requires goes { CanGo E.replacement self.old }
         requires ready { IsReady F.ready self.old }
         ensures gives { GivesOrErr F.answers E.replacement self.old result self.new }
         ensures joins { joins ≡ false → IfOk result (λ coming. are_lines coming ≡ false) }
+        ensures long { IfOk result
+            (λ coming. IfLong coming (ComesLong E.replacement self.old self.new)) }
         ensures ready { IsReady F.ready self.new }
     {
         if !self.is_over {
@@ -233,6 +236,19 @@ impl<'input, E: EntityLookup, F: BrokenLinkCallback<'input> + Drop> Parser<'inpu
         }
     }
 
+    // Returns the next event with its range, after `next_short` reported it as long. After an error (out of memory) the walk is over.
+    #[inline(always)]
+    pub(crate) fn take_long(&mut self) -> Result<Ranged<'input>, AllocError>
+        requires goes { CanGo E.replacement self.old }
+        requires long { IsLong self.old }
+        ensures gives { GivesStep F.answers E.replacement self.old (Some result) self.new }
+        ensures callback { callback_of self.new ≡ callback_of self.old }
+    {
+        let given = self.spans.take_long();
+        self.is_over = given.is_err();
+        given
+    }
+
     // Returns the next event with its range. An error (out of memory) is the last item.
     #[inline(always)]
     pub(crate) fn advance(&mut self) -> Option<Result<Ranged<'input>, AllocError>>
@@ -241,19 +257,17 @@ impl<'input, E: EntityLookup, F: BrokenLinkCallback<'input> + Drop> Parser<'inpu
         ensures gives { GivesStep F.answers E.replacement self.old result self.new }
         ensures ready { IsReady F.ready self.new }
     {
-        if self.is_over {
-            return None;
-        }
-        match self.spans.next() {
-            Ok(Some(given)) => Some(Ok(given)),
-            Ok(None) => {
-                self.is_over = true;
-                None
+        match self.next_short(false) {
+            Ok(Coming::Span(short, start, end)) => {
+                Some(Ok(ranged_event(self.spans.allocator(), short, start, end)))
             }
-            Err(error) => {
-                self.is_over = true;
-                Some(Err(error))
+            Ok(Coming::Block(short, start, end)) => {
+                Some(Ok(ranged_event(self.spans.allocator(), short, start, end)))
             }
+            Ok(Coming::Lines(_, _, _)) => unreachable!(),
+            Ok(Coming::Long) => Some(self.take_long()),
+            Ok(Coming::Over) => None,
+            Err(error) => Some(Err(error)),
         }
     }
 }
@@ -305,7 +319,7 @@ pub struct OffsetIter<'input, E, F = DefaultBrokenLinkCallback> {
 }
 
 impl<'input, E: EntityLookup, F: BrokenLinkCallback<'input> + Drop> OffsetIter<'input, E, F> {
-    ghost use Rattle.cmark_parser.specs.Parsing.{CanGoRanged, GivesNextOrErr, GivesStep, IsRangedReady, callback_of, ranged_definitions, ranged_steps, ranged_text, walk_of};
+    ghost use Rattle.cmark_parser.specs.Parsing.{CanGoRanged, GivesNextOrErr, GivesStep, IfNextLong, IsRangedLong, IsRangedReady, callback_of, ranged_definitions, ranged_steps, ranged_text, walk_of};
 
     /// The link reference definitions of the text, as [`Parser::reference_definitions`] returns them.
     pub fn reference_definitions(&self) -> &RefDefs<'input>
@@ -321,14 +335,15 @@ impl<'input, E: EntityLookup, F: BrokenLinkCallback<'input> + Drop> OffsetIter<'
         self.parser.callback()
     }
 
-    /// Like `next`, but builds no `Event`. An event that owns nothing is returned and consumed. Any other is reported as `Next::Long` and
-    /// left for `next` or `next_ranged`. If memory is refused, nothing is returned any more.
+    /// The next event with its range, without an `Event`. An event that owns nothing is returned and consumed. Any other is reported as
+    /// `Next::Long` and left for [`take_long`](OffsetIter::take_long). If memory is refused, nothing is returned any more.
     #[inline(always)]
     pub fn next_short(&mut self) -> Result<Next<'input>, AllocError>
         requires goes { CanGoRanged E.replacement self.old }
         requires ready { IsRangedReady F.ready self.old }
         ensures gives { GivesNextOrErr F.answers E.replacement
             (walk_of self.old) result (walk_of self.new) }
+        ensures long { IfOk result (λ next. IfNextLong next (IsRangedLong self.new)) }
         ensures ready { IsRangedReady F.ready self.new }
     {
         match self.parser.next_short(false)? {
@@ -340,16 +355,18 @@ impl<'input, E: EntityLookup, F: BrokenLinkCallback<'input> + Drop> OffsetIter<'
         }
     }
 
-    /// Like `next`, but the event and its range are one value.
+    /// The next event with its range, after [`next_short`](OffsetIter::next_short) reported it as long. If memory is refused, nothing is
+    /// returned any more.
     #[inline(always)]
-    pub fn next_ranged(&mut self) -> Option<Result<Ranged<'input>, AllocError>>
+    pub fn take_long(&mut self) -> Result<Ranged<'input>, AllocError>
         requires goes { CanGoRanged E.replacement self.old }
         requires ready { IsRangedReady F.ready self.old }
+        requires long { IsRangedLong self.old }
         ensures gives { GivesStep F.answers E.replacement
-            (walk_of self.old) result (walk_of self.new) }
+            (walk_of self.old) (Some result) (walk_of self.new) }
         ensures ready { IsRangedReady F.ready self.new }
     {
-        self.parser.advance()
+        self.parser.take_long()
     }
 
     /// How much the searches of the spans have looked at so far, as [`Parser::steps`] returns it.

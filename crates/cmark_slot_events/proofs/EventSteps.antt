@@ -1,5 +1,5 @@
 -- Slots as slots of the model, whose texts and links are moved out one after the other.
-use Rattle.std.proofs.Common.{◌≡◌, ◌≢◌, ℕ, zero, suc, ◌<◌, ◌≤◌, ◌+◌, drop, List, [], ◌∷◌, ◌++◌, length, get_or, set, Option, Some, None, Result, Ok, Err, refl, sym, ap, subst, ◌∙◌, arith}
+use Rattle.std.proofs.Common.{◌≡◌, ◌≢◌, ℕ, zero, suc, ◌<◌, ◌≤◌, ◌+◌, drop, List, [], ◌∷◌, ◌++◌, length, get_or, set, true, Option, Some, None, Result, Ok, Err, refl, sym, ap, subst, ◌∙◌, arith}
 use Rattle.std.specs.Prelude.{All, IfOk, IsSomeAnd, OnOk, map, reverse, slice_get}
 use Rattle.std.proofs.Math.Seq.{drop-cons}
 use Rattle.std.proofs.lemmas.List.{drop_all, length-set, reverse-append, map-append}
@@ -14,9 +14,9 @@ use Rattle.cmark_leaf_text.specs.declared.leaf_text.LeafText.{LeafText}
 use Rattle.cmark_values.specs.declared.text.CowStr.{CowStr}
 use Rattle.cmark_text.specs.Ranged.{shown_ranged}
 use Rattle.cmark_text.specs.declared.ranged.Ranged.{Ranged as Given}
-use Rattle.cmark_slot_events.specs.Opens.{Gives, Passes}
+use Rattle.cmark_slot_events.specs.Longs.{is_long}
 use Rattle.cmark_slots.specs.SlotViews.{slot_as, shown_slot, shown_slots, first_of, slot_end, text_named, link_of, link_named, shown_element, IsThere, Differ, AreOnce, EndsAfter, CanBeGiven}
-use Rattle.cmark_slot_events.specs.Events.{shown_open, shown_opened, events_of, event_in, KeepsOthers, IsFirst, with_given}
+use Rattle.cmark_slot_events.specs.Events.{shown_open, shown_opened, events_of, event_as, held_in, KeepsOthers}
 use Rattle.cmark_slot_events.specs.declared.leaf_events.Opened.{Opened}
 use Rattle.cmark_references.specs.declared.link.Link.{Link}
 use Rattle.cmark_slots.specs.declared.slot.Element.{Element}
@@ -124,67 +124,60 @@ module _ (leaf : LeafText) (texts : List CowStr) (links : List Link) (slot : Slo
       ∙ ap (λ l. begins e ∷ slot_events (source_of leaf) l (shown_opened opened1)) (sym seen)
       ∙ ap (λ x. x ∷ events_of leaf texts1 links1 slots opened1) (sym g)
 
-  -- a slot whose range is the range of its bytes
-  single-kind : (k : SlotKind) → ((end : ℕ) → k ≡ kind.SourceHtml end → ⊥) → ((end : ℕ) → k ≡ kind.SourceText end → ⊥) → (k ≡ kind.Empty → ⊥) → ((e : Element) → k ≡ kind.Begin e → ⊥) → (k ≡ kind.End → ⊥) → (k ≡ kind.Nothing → ⊥)
-      → (rows : List row.Slot) (ends : List Ranged) → slot_events (source_of leaf) (slot_as leaf texts links slot k ∷ rows) ends ≡ over (source_of leaf) (first_of leaf slot) (slot_end leaf slot) (event_in leaf texts slot k) ∷ slot_events (source_of leaf) rows ends
-  single-kind kind.Text html text empty begin end nothing rows ends = refl
-  single-kind (kind.OwnedText index) html text empty begin end nothing rows ends = refl
-  single-kind (kind.Character character) html text empty begin end nothing rows ends = refl
-  single-kind (kind.Whole last) html text empty begin end nothing rows ends = refl
-  single-kind kind.SoftBreak html text empty begin end nothing rows ends = refl
-  single-kind kind.HardBreak html text empty begin end nothing rows ends = refl
-  single-kind (kind.Code from to) html text empty begin end nothing rows ends = refl
-  single-kind (kind.InlineMath from to) html text empty begin end nothing rows ends = refl
-  single-kind (kind.DisplayMath from to) html text empty begin end nothing rows ends = refl
-  single-kind kind.InlineHtml html text empty begin end nothing rows ends = refl
-  single-kind (kind.SourceHtml place) html text empty begin end nothing rows ends = absurd (html place refl)
-  single-kind (kind.CutHtml from) html text empty begin end nothing rows ends = refl
-  single-kind (kind.SourceText place) html text empty begin end nothing rows ends = absurd (text place refl)
-  single-kind kind.Empty html text empty begin end nothing rows ends = absurd (empty refl)
-  single-kind (kind.FootnoteReference index) html text empty begin end nothing rows ends = refl
-  single-kind (kind.Begin e) html text empty begin end nothing rows ends = absurd (begin e refl)
-  single-kind kind.End html text empty begin end nothing rows ends = absurd (end refl)
-  single-kind kind.Nothing html text empty begin end nothing rows ends = absurd (nothing refl)
+  -- a slot with a text, whose range is the range of its bytes
+  single-kind : (k : SlotKind) → is_long k ≡ true → ((end : ℕ) → k ≡ kind.SourceHtml end → ⊥) → ((end : ℕ) → k ≡ kind.SourceText end → ⊥) → (k ≡ kind.Empty → ⊥) → ((e : Element) → k ≡ kind.Begin e → ⊥)
+      → (rows : List row.Slot) (ends : List Ranged) → slot_events (source_of leaf) (slot_as leaf texts links slot k ∷ rows) ends ≡ over (source_of leaf) (first_of leaf slot) (slot_end leaf slot) (event_as k (held_in leaf texts slot k)) ∷ slot_events (source_of leaf) rows ends
+  single-kind kind.Text long html text empty begin rows ends = refl
+  single-kind (kind.OwnedText index) long html text empty begin rows ends = refl
+  single-kind (kind.Character character) long html text empty begin rows ends = refl
+  single-kind (kind.Whole last) long html text empty begin rows ends = cc
+  single-kind kind.SoftBreak long html text empty begin rows ends = cc
+  single-kind kind.HardBreak long html text empty begin rows ends = cc
+  single-kind (kind.Code from to) long html text empty begin rows ends = refl
+  single-kind (kind.InlineMath from to) long html text empty begin rows ends = refl
+  single-kind (kind.DisplayMath from to) long html text empty begin rows ends = refl
+  single-kind kind.InlineHtml long html text empty begin rows ends = refl
+  single-kind (kind.SourceHtml place) long html text empty begin rows ends = absurd (html place refl)
+  single-kind (kind.CutHtml from) long html text empty begin rows ends = refl
+  single-kind (kind.SourceText place) long html text empty begin rows ends = absurd (text place refl)
+  single-kind kind.Empty long html text empty begin rows ends = absurd (empty refl)
+  single-kind (kind.FootnoteReference index) long html text empty begin rows ends = refl
+  single-kind (kind.Begin e) long html text empty begin rows ends = absurd (begin e refl)
+  single-kind kind.End long html text empty begin rows ends = cc
+  single-kind kind.Nothing long html text empty begin rows ends = cc
 
-  single-first : (texts1 : List CowStr) (links1 : List Link) (opened1 : List Opened) (given : Given) → ((end : ℕ) → slot.kind ≡ kind.SourceHtml end → ⊥) → ((end : ℕ) → slot.kind ≡ kind.SourceText end → ⊥) → (slot.kind ≡ kind.Empty → ⊥)
-      → ((e : Element) → slot.kind ≡ kind.Begin e → ⊥) → (slot.kind ≡ kind.End → ⊥) → (slot.kind ≡ kind.Nothing → ⊥) → CanBeGiven leaf texts links (slot ∷ slots) → KeepsOthers (text_named slot.kind) texts texts1 → links1 ≡ links → opened1 ≡ opened
-      → shown_ranged given ≡ over (source_of leaf) (first_of leaf slot) (slot_end leaf slot) (event_in leaf texts slot slot.kind)
+  single-first : (texts1 : List CowStr) (links1 : List Link) (opened1 : List Opened) (given : Given) → is_long slot.kind ≡ true → ((end : ℕ) → slot.kind ≡ kind.SourceHtml end → ⊥) → ((end : ℕ) → slot.kind ≡ kind.SourceText end → ⊥) → (slot.kind ≡ kind.Empty → ⊥)
+      → ((e : Element) → slot.kind ≡ kind.Begin e → ⊥) → CanBeGiven leaf texts links (slot ∷ slots) → KeepsOthers (text_named slot.kind) texts texts1 → links1 ≡ links → opened1 ≡ opened
+      → shown_ranged given ≡ over (source_of leaf) (first_of leaf slot) (slot_end leaf slot) (event_as slot.kind (held_in leaf texts slot slot.kind))
       → events_of leaf texts links (slot ∷ slots) opened ≡ shown_ranged given ∷ events_of leaf texts1 links1 slots opened1
-  single-first texts1 links1 opened1 given html text empty begin end nothing h ts ls o is =
+  single-first texts1 links1 opened1 given long html text empty begin h ts ls o is =
       let seen = seen-following leaf texts texts1 links links1 slot slots h ts (keeps-same (link_named slot.kind) links links1 ls) in
-      single-kind slot.kind html text empty begin end nothing (shown_slots leaf texts links slots) (shown_opened opened)
+      single-kind slot.kind long html text empty begin (shown_slots leaf texts links slots) (shown_opened opened)
       ∙ ap (λ x. x ∷ events_of leaf texts links slots opened) (sym is)
       ∙ ap (λ l. shown_ranged given ∷ slot_events (source_of leaf) l (shown_opened opened)) (sym seen)
       ∙ ap (λ (l : List Opened). shown_ranged given ∷ slot_events (source_of leaf) (shown_slots leaf texts1 links1 slots) (shown_opened l)) (sym o)
 
   -- the event of the first slot, if memory is not refused
-  abbrev Gives-first : {E : Type 0} → Result (Option Given) E → (texts1 : List CowStr) (links1 : List Link) (opened1 : List Opened) → Type 0
-  Gives-first result texts1 links1 opened1 = IfOk result (λ given. events_of leaf texts links (slot ∷ slots) opened ≡ with_given given (events_of leaf texts1 links1 slots opened1))
+  abbrev Gives-first : {E : Type 0} → Result Given E → (texts1 : List CowStr) (links1 : List Link) (opened1 : List Opened) → Type 0
+  Gives-first result texts1 links1 opened1 = IfOk result (λ given. events_of leaf texts links (slot ∷ slots) opened ≡ shown_ranged given ∷ events_of leaf texts1 links1 slots opened1)
 
-  pub begin-given : {E : Type 0} (result : Result (Option Given) E) (texts1 : List CowStr) (links1 : List Link) (opened1 : List Opened) (e : Element) → slot.kind ≡ kind.Begin e → CanBeGiven leaf texts links (slot ∷ slots)
-      → texts1 ≡ texts → KeepsOthers (link_of e) links links1 → IfOk result (λ given. IsSomeAnd given (λ start. shown_ranged start ≡ begins e)) → OnOk result (shown_opened opened1 ≡ closes e ∷ shown_opened opened)
+  pub begin-given : {E : Type 0} (result : Result Given E) (texts1 : List CowStr) (links1 : List Link) (opened1 : List Opened) (e : Element) → slot.kind ≡ kind.Begin e → CanBeGiven leaf texts links (slot ∷ slots)
+      → texts1 ≡ texts → KeepsOthers (link_of e) links links1 → IfOk result (λ start. shown_ranged start ≡ begins e) → OnOk result (shown_opened opened1 ≡ closes e ∷ shown_opened opened)
       → Gives-first result texts1 links1 opened1
-  begin-given (Ok None) texts1 links1 opened1 e is h ts ls g o = absurd g
-  begin-given (Ok (Some start)) texts1 links1 opened1 e is h ts ls g o = begin-first texts1 links1 opened1 start e is h ts ls g o
+  begin-given (Ok start) texts1 links1 opened1 e is h ts ls g o = begin-first texts1 links1 opened1 start e is h ts ls g o
   begin-given (Err error) texts1 links1 opened1 e is h ts ls g o = tt
 
-  pub single-given : {E : Type 0} (result : Result (Option Given) E) (texts1 : List CowStr) (links1 : List Link) (opened1 : List Opened) → ((end : ℕ) → slot.kind ≡ kind.SourceHtml end → ⊥) → ((end : ℕ) → slot.kind ≡ kind.SourceText end → ⊥) → (slot.kind ≡ kind.Empty → ⊥)
-      → ((e : Element) → slot.kind ≡ kind.Begin e → ⊥) → (slot.kind ≡ kind.End → ⊥) → (slot.kind ≡ kind.Nothing → ⊥) → CanBeGiven leaf texts links (slot ∷ slots) → KeepsOthers (text_named slot.kind) texts texts1 → links1 ≡ links → opened1 ≡ opened
-      → IfOk result (λ given. IsSomeAnd given (λ single. shown_ranged single ≡ over (source_of leaf) (first_of leaf slot) (slot_end leaf slot) (event_in leaf texts slot slot.kind)))
+  pub single-given : {E : Type 0} (result : Result Given E) (texts1 : List CowStr) (links1 : List Link) (opened1 : List Opened) → is_long slot.kind ≡ true → ((end : ℕ) → slot.kind ≡ kind.SourceHtml end → ⊥) → ((end : ℕ) → slot.kind ≡ kind.SourceText end → ⊥) → (slot.kind ≡ kind.Empty → ⊥)
+      → ((e : Element) → slot.kind ≡ kind.Begin e → ⊥) → CanBeGiven leaf texts links (slot ∷ slots) → KeepsOthers (text_named slot.kind) texts texts1 → links1 ≡ links → opened1 ≡ opened
+      → IfOk result (λ single. shown_ranged single ≡ over (source_of leaf) (first_of leaf slot) (slot_end leaf slot) (event_as slot.kind (held_in leaf texts slot slot.kind)))
       → Gives-first result texts1 links1 opened1
-  single-given (Ok None) texts1 links1 opened1 html text empty begin end nothing h ts ls o g = absurd g
-  single-given (Ok (Some single)) texts1 links1 opened1 html text empty begin end nothing h ts ls o g = single-first texts1 links1 opened1 single html text empty begin end nothing h ts ls o g
-  single-given (Err error) texts1 links1 opened1 html text empty begin end nothing h ts ls o g = tt
+  single-given (Ok single) texts1 links1 opened1 long html text empty begin h ts ls o g = single-first texts1 links1 opened1 single long html text empty begin h ts ls o g
+  single-given (Err error) texts1 links1 opened1 long html text empty begin h ts ls o g = tt
 
 -- a fact that holds in any case holds if memory is not refused
 pub on-ok : {A E : Type 0} (r : Result A E) (P : Type 0) → P → OnOk r P
 on-ok (Ok a) P p = p
 on-ok (Err e) P p = tt
-
--- the end of an element leaves the open elements that no event leaves, if none is open
-pub passes-ended : (source : List ℕ) (old new : List Opened) (given : Option Given) → Gives source old given new → Passes source old given new
-passes-ended source old new None h = h.1 ∙ sym h.0
-passes-ended source old new (Some given) h = h
 
 -- ## The next event
 
@@ -206,9 +199,9 @@ module _ (leaf : LeafText) (texts texts1 : List CowStr) (links links1 : List Lin
       ∙ ap (λ n. slot ∷ drop n slots1) (let q : suc next ≡ next1 + 1 = omega (arith, place) in q)
 
   -- after a slot
-  pub events-following : (slot : Slot) (given : Option Given) → next < length slots → slot ≡ get_or slots next slot → CanBeGiven leaf texts links (drop next slots)
-      → ((following : List Slot) → CanBeGiven leaf texts links (slot ∷ following) → events_of leaf texts links (slot ∷ following) opened ≡ with_given given (events_of leaf texts1 links1 following opened1))
-      → events_of leaf texts links (drop next slots) opened ≡ with_given given (events_of leaf texts1 links1 (drop (next1 + 1) slots1) opened1)
+  pub events-following : (slot : Slot) (given : Given) → next < length slots → slot ≡ get_or slots next slot → CanBeGiven leaf texts links (drop next slots)
+      → ((following : List Slot) → CanBeGiven leaf texts links (slot ∷ following) → events_of leaf texts links (slot ∷ following) opened ≡ shown_ranged given ∷ events_of leaf texts1 links1 following opened1)
+      → events_of leaf texts links (drop next slots) opened ≡ shown_ranged given ∷ events_of leaf texts1 links1 (drop (next1 + 1) slots1) opened1
   events-following slot given lt is h gives =
       let s = split slot lt is in
       ap (λ (l : List Slot). events_of leaf texts links l opened) s ∙ gives (drop (next1 + 1) slots1) (subst (CanBeGiven leaf texts links) s h)
@@ -216,21 +209,3 @@ module _ (leaf : LeafText) (texts texts1 : List CowStr) (links links1 : List Lin
   pub left-next : (slot : Slot) → next < length slots → slot ≡ get_or slots next slot → CanBeGiven leaf texts links (drop next slots) → ((following : List Slot) → CanBeGiven leaf texts links (slot ∷ following) → CanBeGiven leaf texts1 links1 following)
       → CanBeGiven leaf texts1 links1 (drop (next1 + 1) slots1)
   left-next slot lt is h keeps = keeps (drop (next1 + 1) slots1) (subst (CanBeGiven leaf texts links) (split slot lt is) h)
-
-  -- after the last slot
-  pub events-last : (given : Option Given) → length slots ≤ next → IsFirst given (shown_opened opened) (shown_opened opened1)
-      → IsFirst given (events_of leaf texts links (drop next slots) opened) (events_of leaf texts1 links1 (drop next1 slots1) opened1)
-  events-last given le h =
-      let none = drop_all next slots le in
-      let none1 : drop next1 slots1 ≡ [] = ap (λ n. drop n slots1) place ∙ ap (drop next) same ∙ none in
-      subst (λ (l : List Slot). IsFirst given (events_of leaf texts links l opened) (events_of leaf texts1 links1 (drop next1 slots1) opened1)) (sym none)
-      (subst (λ (l : List Slot). IsFirst given (shown_opened opened) (events_of leaf texts1 links1 l opened1)) (sym none1) h)
-
-  pub left-last : texts1 ≡ texts → links1 ≡ links → CanBeGiven leaf texts links (drop next slots) → CanBeGiven leaf texts1 links1 (drop next1 slots1)
-  left-last ts ls h =
-      subst (λ (t : List CowStr). CanBeGiven leaf t links1 (drop next1 slots1)) (sym ts)
-      (subst (λ (k : List Link). CanBeGiven leaf texts k (drop next1 slots1)) (sym ls) (subst (λ (l : List Slot). CanBeGiven leaf texts links l) (sym (ap (λ n. drop n slots1) place ∙ ap (drop next) same)) h))
-
--- the first of the events before some are those before others
-pub first-before : (given : Option Given) (before here following : List Ranged) → before ≡ here → IsFirst given here following → IsFirst given before following
-first-before given before here following e h = subst (λ l. IsFirst given l following) (sym e) h

@@ -1,5 +1,6 @@
 pub mod EventSteps
 pub mod LinkStartSteps
+pub mod LongSteps
 pub mod NoEnds
 pub mod ShortFirst
 pub mod ShortSteps

@@ -36,16 +36,6 @@ events_of leaf texts links slots opened = slot_events (source_of leaf) (shown_sl
 abbrev pub events_to_come : LeafText → LeafEvents → List Ranged
 events_to_come leaf events = events_of leaf events.texts.items events.links.items (drop events.walk.next events.slots.items) events.walk.opened.items
 
--- the given event is the first of the list, and `following` are the others; or nothing was given, and the list is empty
-abbrev pub IsFirst : Option Given → (events following : List Ranged) → Type 0
-IsFirst None events following = (events ≡ []) × (following ≡ [])
-IsFirst (Some given) events following = events ≡ shown_ranged given ∷ following
-
--- the given event, if there is one, before others
-abbrev pub with_given : Option Given → List Ranged → List Ranged
-with_given None following = following
-with_given (Some given) following = shown_ranged given ∷ following
-
 -- the texts and links of the slots that were not given yet can be given
 abbrev pub AreLeft : LeafText → LeafEvents → Type 0
 AreLeft leaf events = CanBeGiven leaf events.texts.items events.links.items (drop events.walk.next events.slots.items)
@@ -55,13 +45,12 @@ pub record KeepsOthers {X : Type 0} (taken : Option ℕ) (old new : List X) : Ty
   pub size : length new ≡ length old
   pub others : (i : ℕ) → taken ≢ Some i → slice_get new i ≡ slice_get old i
 
--- ## The event of a slot whose range is the range of its bytes
+-- ## The event of a slot with a text, whose range is the range of its bytes
 
 -- the bytes of the event's text
 abbrev pub held_in : LeafText → List CowStr → Slot → SlotKind → List ℕ
 held_in leaf texts slot (kind.OwnedText index) = text_at texts index
 held_in leaf texts slot (kind.Character character) = encode_utf8 character
-held_in leaf texts slot (kind.Whole last) = slice (source_of leaf) (first_of leaf slot) (slot_end leaf slot)
 held_in leaf texts slot (kind.FootnoteReference index) = text_at texts index
 held_in leaf texts slot (kind.Code from to) = code_text (as_in (is_cell_of leaf) (written leaf from to))
 held_in leaf texts slot (kind.InlineMath from to) = as_in (is_cell_of leaf) (written leaf from to)
@@ -79,11 +68,6 @@ event_as kind.InlineHtml text = event.InlineHtml text
 event_as (kind.CutHtml from) text = event.InlineHtml text
 event_as (kind.SourceHtml end) text = event.InlineHtml text
 event_as _ text = event.Text text
-
-abbrev pub event_in : LeafText → List CowStr → Slot → SlotKind → event.Event
-event_in leaf texts slot kind.SoftBreak = event.SoftBreak
-event_in leaf texts slot kind.HardBreak = event.HardBreak
-event_in leaf texts slot k = event_as k (held_in leaf texts slot k)
 
 -- the event's text is borrowed as the zero-copy law says
 abbrev pub IsHeldAs : SlotKind → (source : List ℕ) → (start end : ℕ) → CowStr → Type 0

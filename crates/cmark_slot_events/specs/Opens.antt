@@ -43,16 +43,6 @@ pub record Follows (source : List ℕ) (old : List Opened) (r : Ranged) (new : L
   pub range : IsRange source r.start r.end
   pub opens : Opens old r.event r.start r.end new
 
--- an event; or nothing, if no element is open
-abbrev pub Gives : (source : List ℕ) → (old : List Opened) → Option Given → (new : List Opened) → Type 0
-Gives source old None new = (old ≡ []) × (new ≡ [])
-Gives source old (Some given) new = Follows source old (shown_ranged given) new
-
--- an event, or nothing
-abbrev pub Passes : (source : List ℕ) → (old : List Opened) → Option Given → (new : List Opened) → Type 0
-Passes source old None new = new ≡ old
-Passes source old (Some given) new = Follows source old (shown_ranged given) new
-
 -- an upper bound of the events left: two for each slot that was not given, and an end for each open element
 abbrev pub events_left : LeafEvents → ℕ
 events_left events = 2 * (length events.slots.items - events.walk.next) + length events.walk.opened.items

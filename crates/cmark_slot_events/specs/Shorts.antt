@@ -49,6 +49,11 @@ IfShort (next.Short short start end) P = P short
 IfShort next.Long P = Unit {0}
 IfShort next.Over P = Unit {0}
 
+abbrev pub IfLong : Next → Type 0 → Type 0
+IfLong (next.Short short start end) P = Unit {0}
+IfLong next.Long P = P
+IfLong next.Over P = Unit {0}
+
 -- this short event, with this range, is given
 pub record GivesShort (source : List ℕ) (old : List Opened) (short : Short) (start end : ℕ) (new : List Opened) : Type 0 where
   pub given : Ranged

@@ -1,6 +1,6 @@
-//! The events of a leaf's slots, one after the other.
+//! The events of a leaf's slots that are not short.
 
-ghost use Rattle.std.specs.Prelude.{◌≡◌, ◌<◌, ◌≤◌, ◌+◌, ◌-◌, ◌∷◌, ℕ, List, [], Some, IfOk, IfSome, IsSomeAnd, OnErr, OnOk, OnSome, length};
+ghost use Rattle.std.specs.Prelude.{◌≡◌, ◌<◌, ◌+◌, ◌-◌, ◌∷◌, ℕ, List, [], Some, IfOk, OnErr, OnOk, length, true};
 ghost use Rattle.std.specs.Str.{IsCharBoundary};
 ghost use Rattle.cmark_grammar.specs.Event.{Start, End, Text};
 ghost use Rattle.cmark_grammar.specs.InlineReading.{over};
@@ -16,9 +16,10 @@ ghost use Rattle.cmark_text.specs.Shown.{shown, shown_end, shown_tag};
 ghost use Rattle.cmark_values.specs.Shown.{text_bytes};
 ghost use Rattle.cmark_text.specs.ZeroCopy.{IsZeroCopy};
 ghost use Rattle.cmark_values.specs.Lending.{IsLentBy};
-ghost use Rattle.cmark_slot_events.specs.Opens.{element_end, Gives, Passes, events_left, AreOpened};
+ghost use Rattle.cmark_slot_events.specs.Opens.{element_end, events_left, AreOpened, Follows};
+ghost use Rattle.cmark_slot_events.specs.Longs.{IsLong, is_linked, is_long};
 ghost use Rattle.cmark_references.specs.Links.{shown_link};
-ghost use Rattle.cmark_slot_events.specs.Events.{AreLeft, IsFirst, IsHeldAs, KeepsOthers, event_as, event_in, held_in, events_of, events_to_come, shown_opened, with_given};
+ghost use Rattle.cmark_slot_events.specs.Events.{AreLeft, IsHeldAs, KeepsOthers, event_as, held_in, events_of, events_to_come, shown_opened};
 ghost use Rattle.cmark_slots.specs.SlotViews.{CanBeGiven, IsThere, link_named, link_of, linked_at, shown_element, text_at, text_named};
 ghost use Rattle.cmark_slots.specs.Slots.{AreSlots, IsSlot};
 ghost use Rattle.cmark_slots.specs.declared.slot.Slot.{Slot as Slots};
@@ -34,113 +35,103 @@ use std::alloc::{AllocError, Global};
 use std::ops::Range;
 
 impl<'a> LeafEvents<'a> {
-    /// The next event of the resolved leaf, with its range in the source; `None` after the last. An end of an element takes no memory.
-    #[inline(always)]
-    pub fn next(&mut self, leaf: &LeafText<'a>) -> Result<Option<Ranged<'a>>, AllocError>
+    /// The next event of the resolved leaf, with its range in the source, after [`next_short`](LeafEvents::next_short) reported it as long.
+    /// Fails if memory is refused.
+    #[inline(never)]
+    pub fn take_long(&mut self, leaf: &LeafText<'a>) -> Result<Ranged<'a>, AllocError>
         requires read { IsRead leaf.now }
         requires slots { AreSlots (text_of leaf.now) (length (text_of leaf.now))
             self.old.slots.items }
         requires opened { AreOpened (source_of leaf.now) self.old.walk.opened.items }
         requires left { AreLeft leaf.now self.old }
+        requires long { IsLong self.old }
         ensures slots { self.new.slots ≡ self.old.slots }
         ensures opened { AreOpened (source_of leaf.now) self.new.walk.opened.items }
-        ensures gives { IfOk result
-            (λ given. Gives (source_of leaf.now) self.old.walk.opened.items given
+        ensures follows { IfOk result
+            (λ given. Follows (source_of leaf.now) self.old.walk.opened.items (shown_ranged given)
             self.new.walk.opened.items) }
-        ensures lent { IfOk result (λ given. IfSome given (IsRangedZeroCopy (source_of leaf.now))) }
-        ensures fewer { IfOk result
-            (λ given. OnSome given (events_left self.new < events_left self.old)) }
-        ensures most { OnOk result (events_left self.new ≤ events_left self.old) }
-        ensures few { OnOk result (length self.new.slots.items < 18446744073709551616) }
+        ensures lent { IfOk result (IsRangedZeroCopy (source_of leaf.now)) }
+        ensures fewer { OnOk result (events_left self.new < events_left self.old) }
         ensures events { IfOk result
-            (λ given. IsFirst given (events_to_come leaf.now self.old)
-            (events_to_come leaf.now self.new)) }
+            (λ given. events_to_come leaf.now self.old
+            ≡ shown_ranged given ∷ events_to_come leaf.now self.new) }
         ensures left { OnOk result (AreLeft leaf.now self.new) }
         ensures ends { OnErr result (BeginWithoutEnd (events_to_come leaf.now self.old)) }
     {
-        while self.walk.next < self.slots.len() {
-            let slot = self.slots[self.walk.next];
-            let Ok(given) = self.give(leaf, slot) else {
-                return Err(AllocError);
-            };
-            self.walk.next += 1;
-            if let Some(given) = given {
-                return Ok(Some(given));
-            }
-        }
-        Ok(self.end_last())
+        // The index after the slot fits in a `usize`.
+        prove!(self.walk.next < self.slots.len());
+        let slot = self.slots[self.walk.next];
+        let Ok(given) = self.give(leaf, slot) else {
+            return Err(AllocError);
+        };
+        self.walk.next += 1;
+        Ok(given)
     }
 
-    // The event of a slot, if it has one.
+    // The event of a slot that is not a short one.
     #[inline(always)]
-    fn give(&mut self, leaf: &LeafText<'a>, slot: Slot) -> Result<Option<Ranged<'a>>, AllocError>
+    fn give(&mut self, leaf: &LeafText<'a>, slot: Slot) -> Result<Ranged<'a>, AllocError>
         requires read { IsRead leaf.now }
         requires slot { IsSlot (text_of leaf.now) (length (text_of leaf.now)) slot }
         requires opened { AreOpened (source_of leaf.now) self.old.walk.opened.items }
         requires text { IsThere (length self.old.texts.items) (text_named slot.kind) }
         requires link { IsThere (length self.old.links.items) (link_named slot.kind) }
+        requires long { is_long slot.kind ≡ true }
         ensures slots { self.new.slots ≡ self.old.slots }
         ensures place { self.new.walk.next ≡ self.old.walk.next }
         ensures opened { AreOpened (source_of leaf.now) self.new.walk.opened.items }
-        ensures gives { IfOk result
-            (λ given. Passes (source_of leaf.now) self.old.walk.opened.items given
+        ensures follows { IfOk result
+            (λ given. Follows (source_of leaf.now) self.old.walk.opened.items (shown_ranged given)
             self.new.walk.opened.items) }
-        ensures lent { IfOk result (λ given. IfSome given (IsRangedZeroCopy (source_of leaf.now))) }
+        ensures lent { IfOk result (IsRangedZeroCopy (source_of leaf.now)) }
         ensures events { (following : List Slots)
             → CanBeGiven leaf.now self.old.texts.items self.old.links.items (slot ∷ following)
             → IfOk result
             (λ given. events_of leaf.now self.old.texts.items self.old.links.items
             (slot ∷ following) self.old.walk.opened.items
-            ≡ with_given given
-            (events_of leaf.now self.new.texts.items self.new.links.items following
-            self.new.walk.opened.items)) }
+            ≡ shown_ranged given
+            ∷ events_of leaf.now self.new.texts.items self.new.links.items following
+            self.new.walk.opened.items) }
         ensures left { (following : List Slots)
             → CanBeGiven leaf.now self.old.texts.items self.old.links.items (slot ∷ following)
             → OnOk result
             (CanBeGiven leaf.now self.new.texts.items self.new.links.items following) }
-        ensures ends { OnErr result
-            ((following : List Slots)
-            → BeginWithoutEnd
-            (events_of leaf.now self.old.texts.items self.old.links.items (slot ∷ following)
-            self.old.walk.opened.items)) }
     {
         match slot.kind {
             SlotKind::Begin(element) => self.begin(leaf, slot, element),
-            SlotKind::End => Ok(self.end_last()),
-            SlotKind::Nothing => Ok(None),
             SlotKind::SourceHtml(end) | SlotKind::SourceText(end) => {
-                Ok(Some(source_part(leaf, slot, end)))
+                Ok(source_part(leaf, slot, end))
             }
-            SlotKind::Empty => Ok(Some(empty_text(leaf, slot))),
+            SlotKind::Empty => Ok(empty_text(leaf, slot)),
             _ => self.over_slot(leaf, slot),
         }
     }
 
-    // The start of an element, in the form that `give` returns.
+    // The start of a link or an image.
     #[inline(always)]
     fn begin(
         &mut self,
         leaf: &LeafText<'a>,
         slot: Slot,
         element: Element,
-    ) -> Result<Option<Ranged<'a>>, AllocError>
+    ) -> Result<Ranged<'a>, AllocError>
         requires read { IsRead leaf.now }
         requires slot { IsSlot (text_of leaf.now) (length (text_of leaf.now)) slot }
         requires opened { AreOpened (source_of leaf.now) self.old.walk.opened.items }
         requires link { IsThere (length self.old.links.items) (link_of element) }
+        requires linked { is_linked element ≡ true }
         ensures slots { self.new.slots ≡ self.old.slots }
         ensures place { self.new.walk.next ≡ self.old.walk.next }
         ensures opened { AreOpened (source_of leaf.now) self.new.walk.opened.items }
-        ensures gives { IfOk result
-            (λ given. Passes (source_of leaf.now) self.old.walk.opened.items given
+        ensures follows { IfOk result
+            (λ given. Follows (source_of leaf.now) self.old.walk.opened.items (shown_ranged given)
             self.new.walk.opened.items) }
-        ensures lent { IfOk result (λ given. IfSome given (IsRangedZeroCopy (source_of leaf.now))) }
+        ensures lent { IfOk result (IsRangedZeroCopy (source_of leaf.now)) }
         ensures event { IfOk result
-            (λ given. IsSomeAnd given
-            (λ start. shown_ranged start
+            (λ given. shown_ranged given
             ≡ over (source_of leaf.now) (place_of leaf.now slot.start)
             (place_of leaf.now (slot.end - 1) + 1)
-            (Start (shown_element self.old.links.items element)))) }
+            (Start (shown_element self.old.links.items element))) }
         ensures opens { OnOk result
             (shown_opened self.new.walk.opened.items
             ≡ over (source_of leaf.now) (place_of leaf.now slot.start)
@@ -157,82 +148,45 @@ impl<'a> LeafEvents<'a> {
             start: range.start,
             end: range.end,
         })?;
-        Ok(Some(Ranged {
+        Ok(Ranged {
             event: Event::Start(self.tag(element)),
             range,
-        }))
+        })
     }
 
-    // The event of a slot whose range is the range of its bytes, in the form that `give` returns.
+    // The event of a slot with a text, whose range is the range of its bytes.
     #[inline(always)]
-    fn over_slot(
-        &mut self,
-        leaf: &LeafText<'a>,
-        slot: Slot,
-    ) -> Result<Option<Ranged<'a>>, AllocError>
+    fn over_slot(&mut self, leaf: &LeafText<'a>, slot: Slot) -> Result<Ranged<'a>, AllocError>
         requires read { IsRead leaf.now }
         requires slot { IsSlot (text_of leaf.now) (length (text_of leaf.now)) slot }
         requires text { IsThere (length self.old.texts.items) (text_named slot.kind) }
+        requires long { is_long slot.kind ≡ true }
         ensures slots { self.new.slots ≡ self.old.slots }
         ensures walk { self.new.walk ≡ self.old.walk }
-        ensures gives { IfOk result
-            (λ given. Passes (source_of leaf.now) self.old.walk.opened.items given
+        ensures follows { IfOk result
+            (λ given. Follows (source_of leaf.now) self.old.walk.opened.items (shown_ranged given)
             self.new.walk.opened.items) }
-        ensures lent { IfOk result (λ given. IfSome given (IsRangedZeroCopy (source_of leaf.now))) }
+        ensures lent { IfOk result (IsRangedZeroCopy (source_of leaf.now)) }
         ensures event { IfOk result
-            (λ given. IsSomeAnd given
-            (λ single. shown_ranged single
+            (λ given. shown_ranged given
             ≡ over (source_of leaf.now) (place_of leaf.now slot.start)
             (place_of leaf.now (slot.end - 1) + 1)
-            (event_in leaf.now self.old.texts.items slot slot.kind))) }
+            (event_as slot.kind (held_in leaf.now self.old.texts.items slot slot.kind))) }
         ensures texts { KeepsOthers (text_named slot.kind) self.old.texts.items
             self.new.texts.items }
         ensures links { self.new.links ≡ self.old.links }
     {
         let range = leaf.range(slot.start, slot.end);
-        let event = match slot.kind {
-            SlotKind::SoftBreak => Event::SoftBreak,
-            SlotKind::HardBreak => Event::HardBreak,
-            SlotKind::Text => match text_between(self.alloc, leaf, slot.start, slot.end) {
-                Ok(text) => Event::Text(text),
-                Err(error) => return Err(error),
-            },
-            _ => match self.held(leaf, slot) {
-                Ok(text) => event_of(slot.kind, text),
-                Err(error) => return Err(error),
-            },
-        };
-        Ok(Some(Ranged { event, range }))
-    }
-
-    #[inline(always)]
-    fn end_last(&mut self) -> Option<Ranged<'a>>
-        ensures slots { self.new.slots ≡ self.old.slots }
-        ensures place { self.new.walk.next ≡ self.old.walk.next }
-        ensures opened { (source : List ℕ) → AreOpened source self.old.walk.opened.items
-            → AreOpened source self.new.walk.opened.items }
-        ensures gives { (source : List ℕ) → AreOpened source self.old.walk.opened.items
-            → Gives source self.old.walk.opened.items result self.new.walk.opened.items }
-        ensures lent { (source : List ℕ) → IfSome result (IsRangedZeroCopy source) }
-        ensures fewer { OnSome result
-            (length self.new.walk.opened.items < length self.old.walk.opened.items) }
-        ensures most { length self.new.walk.opened.items ≤ length self.old.walk.opened.items }
-        ensures first { IsFirst result (shown_opened self.old.walk.opened.items)
-            (shown_opened self.new.walk.opened.items) }
-        ensures links { self.new.links ≡ self.old.links }
-        ensures texts { self.new.texts ≡ self.old.texts }
-    {
-        let Some(opened) = self.walk.opened.pop() else {
-            return None;
-        };
-        Some(Ranged {
-            event: Event::End(opened.tag),
-            range: opened.start..opened.end,
+        let text = self.held(leaf, slot)?;
+        Ok(Ranged {
+            event: event_of(slot.kind, text),
+            range,
         })
     }
 
     fn tag(&mut self, element: Element) -> Tag<'a>
-        requires { IsThere (length self.old.links.items) (link_of element) }
+        requires link { IsThere (length self.old.links.items) (link_of element) }
+        requires linked { is_linked element ≡ true }
         ensures span { IsSpan (shown_tag result) }
         ensures end { end_of (shown_tag result) ≡ element_end element }
         ensures slots { self.new.slots ≡ self.old.slots }
@@ -242,14 +196,10 @@ impl<'a> LeafEvents<'a> {
         ensures texts { self.new.texts ≡ self.old.texts }
     {
         match element {
-            Element::Emphasis => Tag::Emphasis,
-            Element::Strong => Tag::Strong,
-            Element::Strikethrough => Tag::Strikethrough,
-            Element::Superscript => Tag::Superscript,
-            Element::Subscript => Tag::Subscript,
-            Element::Highlight => Tag::Highlight,
             Element::Link(index) | Element::Autolink(index) => link_tag(self.take_link(index)),
             Element::Image(index) => image_tag(self.take_link(index)),
+            // The starts of other elements are short events.
+            _ => unreachable!(),
         }
     }
 
@@ -275,12 +225,13 @@ impl<'a> LeafEvents<'a> {
         std::mem::replace(&mut self.texts[index], CowStr::Borrowed(""))
     }
 
-    // The text of a slot's event, which is not a line break.
+    // The text of a slot's event, which is not a short one.
     #[inline(always)]
     fn held(&mut self, leaf: &LeafText<'a>, slot: Slot) -> Result<CowStr<'a>, AllocError>
         requires read { IsRead leaf.now }
         requires slot { IsSlot (text_of leaf.now) (length (text_of leaf.now)) slot }
         requires text { IsThere (length self.old.texts.items) (text_named slot.kind) }
+        requires long { is_long slot.kind ≡ true }
         ensures slots { self.new.slots ≡ self.old.slots }
         ensures walk { self.new.walk ≡ self.old.walk }
         ensures lent { IfOk result
@@ -300,7 +251,6 @@ impl<'a> LeafEvents<'a> {
             SlotKind::Character(character) => {
                 written(self.alloc, leaf, slot, CowStr::from(character))
             }
-            SlotKind::Whole(_) => Ok(CowStr::Borrowed(leaf.source_between(slot.start, slot.end))),
             SlotKind::FootnoteReference(index) => Ok(self.take_text(index)),
             SlotKind::Code(from, to) => Content { leaf, from, to }.code(self.alloc),
             SlotKind::InlineMath(from, to) | SlotKind::DisplayMath(from, to) => {
@@ -331,19 +281,15 @@ fn event_of<'a>(kind: SlotKind, text: CowStr<'a>) -> Event<'a>
     }
 }
 
-// The end of an element.
+// The end of a link or an image.
 fn element_end(element: Element) -> TagEnd
+    requires { is_linked element ≡ true }
     ensures { shown_end result ≡ element_end element }
 {
     match element {
-        Element::Emphasis => TagEnd::Emphasis,
-        Element::Strong => TagEnd::Strong,
-        Element::Strikethrough => TagEnd::Strikethrough,
-        Element::Superscript => TagEnd::Superscript,
-        Element::Subscript => TagEnd::Subscript,
-        Element::Highlight => TagEnd::Highlight,
         Element::Link(_) | Element::Autolink(_) => TagEnd::Link,
         Element::Image(_) => TagEnd::Image,
+        _ => unreachable!(),
     }
 }
 

@@ -34,7 +34,7 @@ impl<'a> LeafEvents<'a> {
         }
     }
 
-    /// Moves past the start of the link at the next slot, as `next` does, but builds no event. The link's end is still to come, and the
+    /// Moves past the start of the link at the next slot, as `take_long` does, but builds no event. The link's end is still to come, and the
     /// link stays in the table. Fails if memory is refused.
     #[inline(always)]
     pub fn pass_link(&mut self, leaf: &LeafText<'a>) -> Result<(), AllocError>

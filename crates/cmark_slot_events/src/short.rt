@@ -1,6 +1,6 @@
 //! The events of a leaf's slots that own nothing, without an `Event`.
 
-ghost use Rattle.std.specs.Prelude.{◌≡◌, ◌<◌, ◌≤◌, ◌+◌, ◌-◌, ◌∷◌, ℕ, List, IfOk, IfSome, OnErr, OnOk, get_or, length, option_map};
+ghost use Rattle.std.specs.Prelude.{◌≡◌, ◌<◌, ◌≤◌, ◌+◌, ◌-◌, ◌∷◌, ℕ, List, IfOk, IfSome, OnErr, OnOk, false, get_or, is_some, length, option_map, true};
 ghost use Rattle.std.specs.Str.{IsCharBoundary};
 ghost use Rattle.cmark_grammar.specs.CodeSpans.{code_text};
 ghost use Rattle.cmark_grammar.specs.InlineTokens.{as_in};
@@ -13,8 +13,9 @@ ghost use Rattle.cmark_text.specs.Short.{IsShortZeroCopy, shown_plain, shown_sho
 ghost use Rattle.cmark_text.specs.Shown.{shown_end};
 ghost use Rattle.cmark_values.specs.Lending.{IsPartOf};
 ghost use Rattle.cmark_slots.specs.Elements.{emphasis_tag};
+ghost use Rattle.cmark_slot_events.specs.Longs.{IsLong, is_linked, is_long};
 ghost use Rattle.cmark_slot_events.specs.Opens.{events_left, AreOpened};
-ghost use Rattle.cmark_slot_events.specs.Shorts.{GivesNext, IfShort, IsAlone, IsNextFirst, LeavesFewer, PassesFirst, PassesShort, StandsFor};
+ghost use Rattle.cmark_slot_events.specs.Shorts.{GivesNext, IfLong, IfShort, IsAlone, IsNextFirst, LeavesFewer, PassesFirst, PassesShort, StandsFor};
 ghost use Rattle.cmark_slot_events.specs.Events.{AreLeft, events_of, events_to_come, shown_opened};
 ghost use Rattle.cmark_slots.specs.Slots.{AreSlots, IsSlot};
 ghost use Rattle.cmark_slot_events.specs.declared.leaf_events.Opened.{Opened as OpenedOnes};
@@ -33,8 +34,9 @@ use cmark_text::{Excerpt, Next, PlainTag, Short, TagEnd};
 use std::alloc::AllocError;
 
 impl<'a> LeafEvents<'a> {
-    /// Like `next`, but builds no event: an event that owns nothing is given, and an event of another kind is reported and not given. An
-    /// end of an element takes no memory.
+    /// The next event of the resolved leaf, with its range in the source, if it owns nothing. An event of another kind is reported as
+    /// `Next::Long` and is still the next one: [`take_long`](LeafEvents::take_long) returns it. The result is `Over` after the last event.
+    /// An end of an element takes no memory.
     #[inline(always)]
     pub fn next_short(&mut self, leaf: &LeafText<'a>) -> Result<Next<'a>, AllocError>
         requires read { IsRead leaf.now }
@@ -51,6 +53,7 @@ impl<'a> LeafEvents<'a> {
         ensures gives { IfOk result
             (λ next. GivesNext (source_of leaf.now) self.old.walk.opened.items next
             self.new.walk.opened.items) }
+        ensures long { IfOk result (λ next. IfLong next (IsLong self.new)) }
         ensures fewer { IfOk result (λ next. LeavesFewer self.old next self.new) }
         ensures most { OnOk result (events_left self.new ≤ events_left self.old) }
         ensures few { OnOk result (length self.new.slots.items < 18446744073709551616) }
@@ -89,6 +92,7 @@ impl<'a> LeafEvents<'a> {
         ensures place { self.new.walk.next ≡ self.old.walk.next }
         ensures opened { AreOpened (source_of leaf.now) self.new.walk.opened.items }
         ensures stands { IfOk result (λ next. IfShort next (StandsFor leaf.now slot)) }
+        ensures long { IfOk result (λ next. IfLong next (is_long slot.kind ≡ true)) }
         ensures gives { IfOk result
             (λ next. PassesShort (source_of leaf.now) self.old.walk.opened.items next
             self.new.walk.opened.items) }
@@ -135,6 +139,7 @@ impl<'a> LeafEvents<'a> {
         ensures gives { (source : List ℕ) → AreOpened source self.old.walk.opened.items
             → GivesNext source self.old.walk.opened.items result self.new.walk.opened.items }
         ensures stands { (text : LeafTexts) (slot : Slots) → IfShort result (StandsFor text slot) }
+        ensures long { IfLong result ⊥ }
         ensures fewer { IfShort result
             (λ short. length self.new.walk.opened.items < length self.old.walk.opened.items) }
         ensures most { length self.new.walk.opened.items ≤ length self.old.walk.opened.items }
@@ -156,6 +161,7 @@ fn plain_element(element: Element) -> Option<(PlainTag, TagEnd)>
         ≡ emphasis_tag element }
     ensures span { IfSome result (λ pair. IsSpan (shown_plain pair.0)) }
     ensures end { IfSome result (λ pair. end_of (shown_plain pair.0) ≡ shown_end pair.1) }
+    ensures linked { is_some result ≡ false → is_linked element ≡ true }
 {
     match element {
         Element::Emphasis => Some((PlainTag::Emphasis, TagEnd::Emphasis)),
@@ -173,11 +179,13 @@ fn plain_element(element: Element) -> Option<(PlainTag, TagEnd)>
 fn single_short<'a>(leaf: &LeafText<'a>, slot: Slot) -> Next<'a>
     requires read { IsRead leaf.now }
     requires slot { IsSlot (text_of leaf.now) (length (text_of leaf.now)) slot }
+    requires alone { IsAlone slot.kind }
     ensures stands { IfShort result (StandsFor leaf.now slot) }
+    ensures long { IfLong result (is_long slot.kind ≡ true) }
     ensures gives { (opened : List OpenedOnes)
         → PassesShort (source_of leaf.now) opened result opened }
     ensures first { (texts : List Texts) (links : List Links) (opened : List OpenedOnes)
-        (following : List Slots) → IsAlone slot.kind
+        (following : List Slots)
         → PassesFirst (source_of leaf.now) opened result opened
         (events_of leaf.now texts links (slot ∷ following) opened)
         (events_of leaf.now texts links following opened) }
@@ -196,7 +204,9 @@ fn single_short<'a>(leaf: &LeafText<'a>, slot: Slot) -> Next<'a>
 fn part_of<'a>(leaf: &LeafText<'a>, slot: Slot) -> Option<Short<'a>>
     requires read { IsRead leaf.now }
     requires slot { IsSlot (text_of leaf.now) (length (text_of leaf.now)) slot }
+    requires alone { IsAlone slot.kind }
     ensures stands { IfSome result (StandsFor leaf.now slot) }
+    ensures long { is_some result ≡ false → is_long slot.kind ≡ true }
     ensures inline { IfSome result (λ short. IsInline (shown_short short)) }
     ensures lent { IfSome result
         (λ short. IsShortZeroCopy (source_of leaf.now) short (place_of leaf.now slot.start)

@@ -98,10 +98,7 @@ fn flat_of_rest<'a, E: EntityLookup>(
             Next::Short(short, start, end) => append_short(&mut output, short, start, end)?,
             Next::Over => return Ok(output),
             Next::Long => {
-                let Some(item) = iter.next_ranged() else {
-                    return Ok(output);
-                };
-                let given = item?;
+                let given = iter.take_long()?;
                 append_given(&mut output, given.event, given.range)?;
             }
         }

@@ -2,9 +2,9 @@
 
 use cmark_items::{Allocations, Item, ItemBody, ListFlags};
 use cmark_leaf_text::LeafLine;
-use cmark_text::{Event, Tag, TagEnd};
+use cmark_text::{PlainTag, Short, TagEnd};
 use cmark_tree::Tree;
-use cmark_block_walk::{Met, Walk};
+use cmark_block_walk::{Brief, Walk};
 use std::alloc::{AllocError, Global};
 use std::test::Fail;
 
@@ -39,17 +39,14 @@ fn list(alloc: Global) -> Result<Walk<'static>, AllocError> {
     Ok(Walk::new(alloc, "a", tree, Allocations::new(alloc)))
 }
 
-// Whether the next event of the walk is this one, over the whole text.
-fn gives(
+// The next event of the walk, if it owns nothing and is over the whole text.
+fn next_over_all(
     walk: &mut Walk<'static>,
     lines: &mut Vec<LeafLine>,
-    event: Event<'static>,
-) -> Result<bool, AllocError> {
-    match walk.next(lines)? {
-        Met::Event(given) => {
-            Ok(given.event == event && given.range.start == 0 && given.range.end == 1)
-        }
-        _ => Ok(false),
+) -> Result<Option<Short<'static>>, AllocError> {
+    match walk.next_short(lines)? {
+        Brief::Short(short, 0, 1) => Ok(Some(short)),
+        _ => Ok(None),
     }
 }
 
@@ -57,15 +54,19 @@ fn gives(
 fn a_tight_paragraph_is_met_as_its_lines(rt: HostRuntime) -> Result<(), Fail> {
     let mut walk = list(rt.alloc())?;
     let mut lines = Vec::new(rt.alloc());
-    assert!(rt; gives(&mut walk, &mut lines, Event::Start(Tag::List(None)))?);
-    assert!(rt; gives(&mut walk, &mut lines, Event::Start(Tag::Item))?);
-    assert!(rt; matches!(walk.next(&mut lines)?, Met::Leaf { is_cell: false }));
+    let list = next_over_all(&mut walk, &mut lines)?;
+    assert!(rt; matches!(list, Some(Short::Start(PlainTag::List(None)))));
+    let item = next_over_all(&mut walk, &mut lines)?;
+    assert!(rt; matches!(item, Some(Short::Start(PlainTag::Item))));
+    assert!(rt; matches!(walk.next_short(&mut lines)?, Brief::Leaf { is_cell: false }));
     assert_eq!(rt; lines.len(), 1);
     let line = lines[0];
     assert_eq!(rt; (line.start, line.content_end, line.line_end), (0, 1, 1));
-    assert!(rt; gives(&mut walk, &mut lines, Event::End(TagEnd::Item))?);
-    assert!(rt; gives(&mut walk, &mut lines, Event::End(TagEnd::List(false)))?);
-    assert!(rt; matches!(walk.next(&mut lines)?, Met::Over));
+    let item = next_over_all(&mut walk, &mut lines)?;
+    assert!(rt; matches!(item, Some(Short::End(TagEnd::Item))));
+    let list = next_over_all(&mut walk, &mut lines)?;
+    assert!(rt; matches!(list, Some(Short::End(TagEnd::List(false)))));
+    assert!(rt; matches!(walk.next_short(&mut lines)?, Brief::Over));
     assert!(rt; walk.definitions().get("a")?.is_none());
     Ok(())
 }

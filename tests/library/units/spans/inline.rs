@@ -8,7 +8,7 @@ use cmark_inline::{
 use cmark_items::{FootnoteDefs, LinkDef, RefDefs};
 use cmark_slot_events::LeafEvents;
 use cmark_leaf_text::{LeafLine, LeafText};
-use cmark_text::{BasicEntities, CowStr, Event, LinkLabel, LinkType, Options, Tag, TagEnd};
+use cmark_text::{BasicEntities, CowStr, Event, LinkLabel, LinkType, Next, Options, Tag, TagEnd};
 use std::alloc::{AllocError, Global};
 use std::fmt::Write;
 use std::test::Fail;
@@ -101,14 +101,20 @@ pub fn events_with<'a, F: BrokenLinkCallback<'a>>(
     let mut events: LeafEvents<'a> = LeafEvents::new(alloc);
     events.begin_leaf(&mut state.slots, &mut state.texts, &mut state.links);
     for _ in 0..500 {
-        let Some(given) = events.next(&leaf)? else {
-            break;
-        };
-        write!(
-            out,
-            "{}..{} {:?}\n",
-            given.range.start, given.range.end, given.event
-        )?;
+        match events.next_short(&leaf)? {
+            Next::Short(short, start, end) => {
+                write!(out, "{}..{} {:?}\n", start, end, short.event(alloc))?;
+            }
+            Next::Long => {
+                let given = events.take_long(&leaf)?;
+                write!(
+                    out,
+                    "{}..{} {:?}\n",
+                    given.range.start, given.range.end, given.event
+                )?;
+            }
+            Next::Over => break,
+        }
     }
     Ok(out)
 }

@@ -7,7 +7,7 @@ use Rattle.cmark_event_walk.specs.declared.coming.Coming.{Coming}
 use Rattle.cmark_event_walk.specs.declared.coming.Coming.TheVariants as lines
 use Rattle.cmark_event_walk.specs.Walking.{are_lines}
 use Rattle.cmark_parser.specs.Parsing.{GivesComing}
-use Rattle.cmark_parser.specs.Rendering.{WritesLong, WritesSome, written}
+use Rattle.cmark_parser.specs.Rendering.{WritesLong, written}
 use Rattle.cmark_parser.proofs.LineSteps.{text-written}
 use Rattle.cmark_parser.proofs.RenderSteps.{all-written, joined, long-kept, none-open, none-written, short-written}
 use Rattle.cmark_parser.proofs.html.write_all.Goals as goal

@@ -1,4 +1,4 @@
-use Rattle.std.proofs.Common.{List, ℕ, ◌++◌, take, false, refl, sym, ap, subst, ◌∙◌}
+use Rattle.std.proofs.Common.{List, ℕ, take, false, refl, sym, ap, subst, ◌∙◌}
 use Rattle.cmark_values.specs.Shown.{shown_options}
 use Rattle.cmark_block_model.specs.Tails.{document_after, pass_after}
 use Rattle.cmark_block_model.proofs.Drawings.{derived, drawing-edges, drawing-order}

@@ -12,29 +12,17 @@ returns-in-Over g c =
     let h = subst (λ n. GivesAs says-nothing replacement iter.parser n new.parser) c.in-Over.is c.in_ok-short.ensures.gives in
     all_given replacement c.args.iter.now iter new h.answers.taken c.loop-output.output.items c.loop-output.invariant.0 h.answers.asks h.answers.none
 
-pub returns-in_default : goal.returns-in_default
-returns-in_default g c =
-    let replacement = g.E.EntityLookup.replacement in
-    let first = c.args.iter.now in
-    let iter = c.loop-output.iter in
-    let mid = c.next_short.new.self in
-    let new = c.next_ranged.new.self in
-    let h = subst (λ n. GivesAs says-nothing replacement iter.parser n mid.parser) c.in-Long.is c.in_ok-short.ensures.gives in
-    let kept = long_kept says-nothing replacement first.parser iter.parser mid.parser c.loop-output.output.items c.loop-output.invariant.0 h in
-    let over = c.in_default.ensures.gives.next in
-    all_given replacement first mid new over.taken c.loop-output.output.items kept over.first.0 over.first.1
-
 pub loop-output-preserved : goal.loop-output-preserved
 loop-output-preserved g c =
     let replacement = g.E.EntityLookup.replacement in
     let first = c.args.iter.now in
     let iter = c.loop-output.iter in
     let mid = c.next_short.new.self in
-    let new = c.next_ranged.new.self in
+    let new = c.take_long.new.self in
     let h = subst (λ n. GivesAs says-nothing replacement iter.parser n mid.parser) c.in-Long.is c.in_ok-short.ensures.gives in
     let kept = long_kept says-nothing replacement first.parser iter.parser mid.parser c.loop-output.output.items c.loop-output.invariant.0 h in
-    let gives = subst (λ o. GivesStep says-nothing replacement mid.parser (Some o) new.parser) c.in_ok-given-in-Long.was c.in-Some.ensures.gives in
-    (event_more says-nothing replacement first.parser mid.parser new.parser c.in_ok-given-in-Long.given c.loop-output.output.items c.append_given.new.out.items kept gives c.in_ok-append_given-in-Long.ensures, c.in-Some.ensures.ready)
+    let gives = subst (λ o. GivesStep says-nothing replacement mid.parser (Some o) new.parser) c.in_ok-given-in-Long.was c.in_ok-given-in-Long.ensures.gives in
+    (event_more says-nothing replacement first.parser mid.parser new.parser c.in_ok-given-in-Long.given c.loop-output.output.items c.append_given.new.out.items kept gives c.in_ok-append_given-in-Long.ensures, c.in_ok-given-in-Long.ensures.ready)
 
 pub loop-output-preserved-in-Continue-branch-3 : goal.loop-output-preserved-in-Continue-branch-3
 loop-output-preserved-in-Continue-branch-3 g c =

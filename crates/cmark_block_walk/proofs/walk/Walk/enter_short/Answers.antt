@@ -81,8 +81,11 @@ returns-in_err-push-in-Around-clause-refused c = on-err c.from_residual.result _
 pub returns-in-Long-clause-given : goal.returns-in-Long-clause-given
 returns-in-Long-clause-given c = λ lines. (
   λ left r. r,
-  record {
-    at = c.requires.at;
-    long = subst (λ s. IsLongFrom s c.args.self.now c.args.ix) (sym c.requires.before) (λ e has. ap (λ i. is_long i.body) (sym (c.item-item.ensures e has)) ∙ c.in-Long.ensures.long);
-  },
+  (
+    c.args.ix,
+    record {
+      at = c.requires.at;
+      long = subst (λ s. IsLongFrom s c.args.self.now c.args.ix) (sym c.requires.before) (λ e has. ap (λ i. is_long i.body) (sym (c.item-item.ensures e has)) ∙ c.in-Long.ensures.long);
+    },
+  ),
 )

@@ -1,15 +1,15 @@
 use Rattle.std.proofs.Common.{refl, inl}
 use Rattle.cmark_block_walk.specs.Walking.{tight_below}
 use Rattle.cmark_block_walk.proofs.EndSteps.{before-otherwise, owns-otherwise}
-use Rattle.cmark_block_walk.proofs.WalkSteps.{gives-met, goes-after, is-drawn, passes-alone-as}
+use Rattle.cmark_block_walk.proofs.WalkSteps.{gives-ranged, goes-after, is-drawn, passes-alone-as}
 use Rattle.cmark_block_walk.proofs.walk.Walk.pass_text.Goals as goal
 
 pub synthesized-requires-clause-drawn : goal.synthesized-requires-clause-drawn
 synthesized-requires-clause-drawn c = is-drawn c.args.self.now c.args.item c.args.ix c.requires.at.1 c.requires.item c.requires.at.0
 
 pub returns-clause-given : goal.returns-clause-given
-returns-clause-given c left lines r =
-    gives-met c.in-Ok.event c.args.item.start c.args.item.end c.given.result lines left _ c.given.ensures.value
+returns-clause-given c left r =
+    gives-ranged c.in-Ok.event c.args.item.start c.args.item.end c.given.result left _ c.given.ensures.value
     (passes-alone-as c.args.self.now c.args.item c.args.ix c.next_sibling.new.self c.requires.at.1 c.requires.item c.requires.before _
     (λ z above node b d. c.in-Ok.ensures.value (tight_below above) node d) c.next_sibling.ensures.past left r)
 

@@ -1,8 +1,11 @@
 use Rattle.std.proofs.Common.{[], ◌∷◌, arith, refl, subst, sym}
+use Rattle.cmark_inline_model.specs.FirstEvents.{BeginWithoutEnd}
+use Rattle.cmark_slot_events.proofs.NoEnds.{long-begins}
 use Rattle.cmark_slot_events.specs.Events.{events_to_come}
-use Rattle.cmark_slot_events.specs.Shorts.{IsNextFirst, LeavesFewer as LeavesFewerSpans}
+use Rattle.cmark_slot_events.specs.Longs.{IsLong as IsLongSlot}
+use Rattle.cmark_slot_events.specs.Shorts.{IfLong as IfNextLong, IsNextFirst, LeavesFewer as LeavesFewerSpans}
 use Rattle.cmark_text.specs.declared.short.Next.{Next}
-use Rattle.cmark_event_walk.specs.Walking.{GivesInLeaf, KeepsAfterLeaf, LeavesFewer, LeavesLeaf, opened_of, source_of}
+use Rattle.cmark_event_walk.specs.Walking.{ComesLong, GivesInLeaf, IsLongIn, KeepsAfterLeaf, LeavesFewer, LeavesLeaf, opened_of, source_of}
 use Rattle.cmark_event_walk.proofs.EndSteps.{closed-keeps, spans-begin}
 use Rattle.cmark_event_walk.proofs.Readings.{closed-passes, passes-none, spanned}
 use Rattle.cmark_event_walk.proofs.Walks.{before-over, closed-at, given-left, spanned-at}
@@ -47,6 +50,23 @@ returns-clause-stands g c =
 
 pub returns-clause-outside : goal.returns-clause-outside
 returns-clause-outside g c = before-over (λ n. LeavesLeaf n (record c.args.self.now { events = c.next_short.new.self })) c.in-Ok.next c.in_default-next.not-Over (λ short start end is. tt) (λ is. tt)
+
+pub returns-clause-long : goal.returns-clause-long
+returns-clause-long g c =
+    let replacement = g.E.EntityLookup.replacement in
+    let walk = c.args.self.now in
+    let events = c.next_short.new.self in
+    let new = record walk { events = events } in
+    let inside = c.if-not-self.false in
+    let e = c.in-Ok.ensures in
+    before-over (λ n. IfNextLong n (ComesLong replacement walk new)) c.in-Ok.next c.in_default-next.not-Over (λ short start end is. tt)
+    (λ is.
+    let long = subst (λ (n : Next). IfNextLong n (IsLongSlot events)) is e.long in
+    let h = subst (λ (n : Next). IsNextFirst (source_of walk) (opened_of walk) n events.walk.opened.items (events_to_come walk.leaf walk.events) (events_to_come walk.leaf events)) is e.events in
+    record {
+      long = subst (λ b. IsLongIn b new) (sym inside) long;
+      no_end = λ reader. spans-begin replacement reader walk inside (subst BeginWithoutEnd h.1 (long-begins walk.leaf events long));
+    })
 
 pub returns-clause-given : goal.returns-clause-given
 returns-clause-given g c = λ reader r.

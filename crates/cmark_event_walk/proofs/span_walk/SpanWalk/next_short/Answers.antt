@@ -1,6 +1,6 @@
 use Rattle.std.specs.Prelude.{is_some}
 use Rattle.std.proofs.Common.{◌≡◌, Bool, true, false, true≢false, [], ◌∷◌, refl, sym, ap, ◌∙◌, subst}
-use Rattle.cmark_grammar.specs.Event.{Ranged, Text}
+use Rattle.cmark_grammar.specs.Event.{Ranged}
 use Rattle.cmark_grammar.specs.SpanDocuments.{Content, Given as GivenOf}
 use Rattle.cmark_inline_model.specs.SpecialBytes.{is_special}
 use Rattle.cmark_references.specs.Footnotes.{footnote}
@@ -9,13 +9,15 @@ use Rattle.cmark_text.specs.Excerpt.{excerpt_bytes}
 use Rattle.cmark_text.specs.Short.{IsShortZeroCopy, ranged_short}
 use Rattle.cmark_text.specs.declared.short.Short.TheVariants as short
 use Rattle.cmark_block_walk.specs.declared.reading.Brief.{Brief}
+use Rattle.cmark_slot_events.specs.Shorts.{IfLong as IfNextLong}
 use Rattle.cmark_block_walk.specs.Walking as walking
 use Rattle.cmark_block_walk.specs.Walking.{lines_of}
+use Rattle.cmark_block_walk.proofs.LongItems.{long-no-end}
 use Rattle.cmark_block_walk.proofs.WalkSteps.{on-err}
 use Rattle.cmark_event_walk.specs.Plain.{ArePlain}
 use Rattle.cmark_event_walk.specs.declared.plain.Lines.{Lines}
 use Rattle.cmark_event_walk.specs.declared.plain.Lines.TheVariants as count
-use Rattle.cmark_event_walk.specs.Walking.{ArePlaced, GivesInLeaf, HasRange, KeepsAfterLeaf, LeavesFewer, LeavesLeaf}
+use Rattle.cmark_event_walk.specs.Walking.{ArePlaced, ComesLong, GivesInLeaf, HasRange, IsLongIn, KeepsAfterLeaf, LeavesFewer, LeavesLeaf}
 use Rattle.cmark_event_walk.proofs.EndSteps.{blocks-begin, leaf-keeps, text-begins}
 use Rattle.cmark_event_walk.proofs.Readings.{asked-on, asked-same, ends-on, event-passes, leaf-passes, lines-given, long-passes, met-same, over-ends, passes-none, passes-on, plain-passes, plain-range}
 use Rattle.cmark_event_walk.proofs.StopSteps.{stops-here, stops-leaf}
@@ -342,7 +344,7 @@ returns-in-Long-met-clause-stands g c =
     let out = subst (λ (n : Next). LeavesLeaf n mid) c.in-Over.is e.outside in
     let s = e.stands in
     let given = subst (λ (b : Brief). walking.GivesBrief mid.walk b lines.items walk) c.in-Long-met.is m.given in
-    (s.0, same-at mid walk lines out m.text s.0 s.1 (given s.0 s.1.blocks.remains))
+    (s.0, same-at mid walk lines out m.text s.0 s.1 (given.0 s.0 s.1.blocks.remains))
 
 pub returns-in-Long-met-clause-given : goal.returns-in-Long-met-clause-given
 returns-in-Long-met-clause-given g c = λ reader r.
@@ -359,7 +361,7 @@ returns-in-Long-met-clause-given g c = λ reader r.
     let none = subst (λ (n : Next). GivesInLeaf g.F.BrokenLinkCallback.answers g.E.EntityLookup.replacement reader head n mid) c.in-Over.is (e.given reader p.read_by) in
     let q = passes-on g.F.BrokenLinkCallback.answers g.E.EntityLookup.replacement reader old head mid [] p none in
     let by = q.read_by in
-    passes-on g.F.BrokenLinkCallback.answers g.E.EntityLookup.replacement reader old mid _ [] q (long-passes g.F.BrokenLinkCallback.answers g.E.EntityLookup.replacement reader mid walk lines out m.text m.definitions by (given by.left by.stands.blocks.remains))
+    passes-on g.F.BrokenLinkCallback.answers g.E.EntityLookup.replacement reader old mid _ [] q (long-passes g.F.BrokenLinkCallback.answers g.E.EntityLookup.replacement reader mid walk lines out m.text m.definitions by (given.0 by.left by.stands.blocks.remains))
 
 pub returns-in-Over-met-clause-stands : goal.returns-in-Over-met-clause-stands
 returns-in-Over-met-clause-stands g c =
@@ -459,3 +461,29 @@ returns-in_err-enter_leaf-in-Leaf-clause-stops g c = λ reader r. on-err c.from_
     let placed : ArePlaced reader (Content met.0 ∷ met.1) = subst (ArePlaced reader) met.2 by.placed in
     stops-leaf g.F.BrokenLinkCallback.answers g.E.EntityLookup.replacement reader c.args.self.now mid c.enter_leaf.new.self met.0 met.1 out q met.2
     (c.in_err-enter_leaf-in-Leaf.ensures.stops reader met.0 met.1 here placed.0 (met-same g.F.BrokenLinkCallback.answers g.E.EntityLookup.replacement reader mid walk lines out m.text m.definitions _ by.same)))
+
+pub returns-in-Long-clause-long : goal.returns-in-Long-clause-long
+returns-in-Long-clause-long g c =
+    let replacement = g.E.EntityLookup.replacement in
+    let comes = subst (λ (n : Next). IfNextLong n (ComesLong replacement c.loop-span.self c.next_in_leaf.new.self)) c.in-Long.is c.in-Ok.ensures.long in
+    record {
+      long = comes.long;
+      no_end = λ reader exchanges events m b. comes.no_end reader exchanges events (c.loop-span.invariant.ends reader exchanges events m b) b;
+    }
+
+pub returns-in-Long-met-clause-long : goal.returns-in-Long-met-clause-long
+returns-in-Long-met-clause-long g c =
+    let replacement = g.E.EntityLookup.replacement in
+    let head = c.loop-span.self in
+    let mid = c.next_in_leaf.new.self in
+    let walk = c.next_short.new.self in
+    let lines = c.next_short.new.lines in
+    let e = c.in-Ok.ensures in
+    let out = subst (λ (n : Next). LeavesLeaf n mid) c.in-Over.is e.outside in
+    let given = subst (λ (b : Brief). walking.GivesBrief mid.walk b lines.items walk) c.in-Long-met.is c.in-Ok-next_short.ensures.given in
+    record {
+      long = subst (λ b. IsLongIn b (record mid { walk = walk; lines = lines })) (sym out) given.1;
+      no_end = λ reader exchanges events m b.
+          let keeps = subst (λ (x : Next). KeepsAfterLeaf replacement reader head x mid) c.in-Over.is (e.kept reader) in
+          blocks-begin replacement reader mid out (λ left r. long-no-end walk given.1 left (given.0 left r)) exchanges events (keeps exchanges events (c.loop-span.invariant.ends reader exchanges events m b)) b;
+    }

@@ -1,5 +1,6 @@
 use Rattle.std.proofs.Common.{subst}
-use Rattle.cmark_parser.specs.Parsing.{GivesComing}
+use Rattle.cmark_event_walk.specs.Walking.{IfLong}
+use Rattle.cmark_parser.specs.Parsing.{ComesLong, GivesComing}
 use Rattle.cmark_parser.proofs.parse.OffsetIter.next_short.Goals as goal
 
 pub returns-in-Span-clause-gives : goal.returns-in-Span-clause-gives
@@ -17,3 +18,8 @@ returns-in-Long-clause-gives g c =
 pub returns-in-Over-clause-gives : goal.returns-in-Over-clause-gives
 returns-in-Over-clause-gives g c =
     subst (λ n. GivesComing g.F.BrokenLinkCallback.answers g.E.EntityLookup.replacement c.args.self.now.parser n c.next_short.new.self) c.in-Over.is c.in_ok-short.ensures.gives
+
+pub returns-in-Long-clause-long : goal.returns-in-Long-clause-long
+returns-in-Long-clause-long g c =
+    let replacement = g.E.EntityLookup.replacement in
+    let comes = subst (λ n. IfLong n (ComesLong replacement c.args.self.now.parser c.next_short.new.self)) c.in-Long.is c.in_ok-short.ensures.long in comes.long

@@ -1,42 +1,51 @@
-use Rattle.std.proofs.Common.{◌<◌, OnSome, refl, subst}
-use Rattle.std.specs.Prelude.{IfSome}
-use Rattle.cmark_event_walk.specs.Walking.{Gives, events_left, source_of}
-use Rattle.cmark_text.specs.Ranged.{IsRangedZeroCopy}
-use Rattle.cmark_parser.specs.Parsing.{reader_for}
-use Rattle.cmark_parser.proofs.ParseSteps.{SaysIfAny, gives-error, gives-none, gives-nothing, gives-some, going, read-by}
+use Rattle.std.proofs.Common.{refl, subst}
+use Rattle.cmark_event_walk.specs.Walking.{IfLong}
+use Rattle.cmark_event_walk.specs.declared.coming.Coming.{Coming}
+use Rattle.cmark_parser.specs.Parsing.{ComesLong, GivesComing}
+use Rattle.cmark_parser.proofs.ItemSteps.{step-long, step-over, step-short}
 use Rattle.cmark_parser.proofs.parse.Parser.advance.Goals as goal
 
-pub next-requires : goal.next-requires
-next-requires g c κs = ((refl, tt), (going g.E.EntityLookup.replacement c.args.self.now c.if-self.false c.requires.goes, c.requires.ready))
-
-pub returns-then-self-clause-gives : goal.returns-then-self-clause-gives
-returns-then-self-clause-gives g c = gives-nothing g.F.BrokenLinkCallback.answers g.E.EntityLookup.replacement c.args.self.now c.if-self.true c.requires.goes.counted
-
-pub returns-in-Ok-Some-clause-gives : goal.returns-in-Ok-Some-clause-gives
-returns-in-Ok-Some-clause-gives g c =
+pub returns-in-Ok-Span-clause-gives : goal.returns-in-Ok-Span-clause-gives
+returns-in-Ok-Span-clause-gives g c =
     let Says = g.F.BrokenLinkCallback.answers in
     let replacement = g.E.EntityLookup.replacement in
     let old = c.args.self.now in
-    let reader = reader_for replacement old in
-    let e = c.in-Ok-Some.ensures in
-    gives-some Says replacement old _ c.in-Ok-Some.given c.if-self.false c.if-self.false
-    (subst (λ o. Gives (SaysIfAny Says) replacement reader old.spans o c.next.new.self) c.in-Ok-Some.field-0-is (e.given reader (read-by replacement old c.if-self.false c.requires.goes)))
-    (subst (λ o. IfSome o (IsRangedZeroCopy (source_of old.spans))) c.in-Ok-Some.field-0-is e.lent)
-    (subst (λ o. OnSome o (events_left c.next.new.self < events_left old.spans)) c.in-Ok-Some.field-0-is e.fewer) e.source e.definitions e.footnotes e.counted
+    let new = c.next_short.new.self in
+    let h = subst (λ (n : Coming). GivesComing Says replacement old n new) c.in-Ok-Span.field-0-is c.in-Ok-Span.ensures.gives in
+    step-short Says replacement old new c.in-Ok-Span.short c.in-Ok-Span.start c.in-Ok-Span.end c.ranged_event.result h c.ranged_event.ensures.value (λ text. c.ranged_event.ensures.lent text)
 
-pub returns-in-Ok-None-clause-gives : goal.returns-in-Ok-None-clause-gives
-returns-in-Ok-None-clause-gives g c =
+pub returns-in-Ok-Block-clause-gives : goal.returns-in-Ok-Block-clause-gives
+returns-in-Ok-Block-clause-gives g c =
     let Says = g.F.BrokenLinkCallback.answers in
     let replacement = g.E.EntityLookup.replacement in
     let old = c.args.self.now in
-    let reader = reader_for replacement old in
-    let e = c.in-Ok-None.ensures in
-    gives-none Says replacement old _ c.if-self.false refl (subst (λ o. Gives (SaysIfAny Says) replacement reader old.spans o c.next.new.self) c.in-Ok-None.field-0-is (e.given reader (read-by replacement old c.if-self.false c.requires.goes))) e.source e.definitions
-    e.footnotes e.counted
+    let new = c.next_short.new.self in
+    let h = subst (λ (n : Coming). GivesComing Says replacement old n new) c.in-Ok-Block.field-0-is c.in-Ok-Block.ensures.gives in
+    step-short Says replacement old new c.in-Ok-Block.short c.in-Ok-Block.start c.in-Ok-Block.end c.ranged_event-in-Ok-Block.result h c.ranged_event-in-Ok-Block.ensures.value (λ text. c.ranged_event-in-Ok-Block.ensures.lent text)
 
-pub returns-in-Err-clause-gives : goal.returns-in-Err-clause-gives
-returns-in-Err-clause-gives g c =
+pub take_long-requires : goal.take_long-requires
+take_long-requires g c κs =
     let replacement = g.E.EntityLookup.replacement in
     let old = c.args.self.now in
-    let e = c.in-Err.ensures in
-    gives-error g.F.BrokenLinkCallback.answers replacement old _ c.in-Err.error c.if-self.false refl e.ends (e.stops (reader_for replacement old) (read-by replacement old c.if-self.false c.requires.goes)) e.source e.definitions e.footnotes e.counted
+    let mid = c.next_short.new.self in
+    let h = subst (λ (n : Coming). GivesComing g.F.BrokenLinkCallback.answers replacement old n mid) c.in-Ok-Long.field-0-is c.in-Ok-Long.ensures.gives in
+    let comes = subst (λ (n : Coming). IfLong n (ComesLong replacement old mid)) c.in-Ok-Long.field-0-is c.in-Ok-Long.ensures.long in
+    ((refl, tt), (h.can, comes.long))
+
+pub returns-in-Ok-Long-clause-gives : goal.returns-in-Ok-Long-clause-gives
+returns-in-Ok-Long-clause-gives g c =
+    let Says = g.F.BrokenLinkCallback.answers in
+    let replacement = g.E.EntityLookup.replacement in
+    let old = c.args.self.now in
+    let mid = c.next_short.new.self in
+    let h = subst (λ (n : Coming). GivesComing Says replacement old n mid) c.in-Ok-Long.field-0-is c.in-Ok-Long.ensures.gives in
+    let comes = subst (λ (n : Coming). IfLong n (ComesLong replacement old mid)) c.in-Ok-Long.field-0-is c.in-Ok-Long.ensures.long in
+    step-long Says replacement old mid c.take_long.new.self c.take_long.result h comes c.take_long.ensures.gives
+
+pub returns-in-Ok-Over-clause-gives : goal.returns-in-Ok-Over-clause-gives
+returns-in-Ok-Over-clause-gives g c =
+    let Says = g.F.BrokenLinkCallback.answers in
+    let replacement = g.E.EntityLookup.replacement in
+    let old = c.args.self.now in
+    let new = c.next_short.new.self in
+    step-over Says replacement old new (subst (λ (n : Coming). GivesComing Says replacement old n new) c.in-Ok-Over.field-0-is c.in-Ok-Over.ensures.gives)

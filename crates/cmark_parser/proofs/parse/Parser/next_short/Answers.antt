@@ -1,5 +1,6 @@
 use Rattle.std.proofs.Common.{refl, sym, ◌∙◌}
 use Rattle.cmark_parser.specs.Parsing.{reader_for}
+use Rattle.cmark_parser.proofs.ItemSteps.{comes-long}
 use Rattle.cmark_parser.proofs.ParseSteps.{gives-or-err, gives-over, going, read-by}
 use Rattle.cmark_parser.proofs.parse.Parser.next_short.Goals as goal
 
@@ -24,3 +25,9 @@ returns-else-is_last-clause-gives g c =
 
 pub returns-clause-gives : goal.returns-clause-gives
 returns-clause-gives g c = gives-over g.F.BrokenLinkCallback.answers g.E.EntityLookup.replacement c.args.self.now c.if-not-self.false c.requires.goes.counted
+
+pub returns-then-is_last-clause-long : goal.returns-then-is_last-clause-long
+returns-then-is_last-clause-long g c = comes-long g.E.EntityLookup.replacement c.args.self.now _ c.if-not-self.true c.next_short-given.result (sym c.if-is_last.true ∙ c.is_last.ensures) c.next_short-given.ensures.long
+
+pub returns-else-is_last-clause-long : goal.returns-else-is_last-clause-long
+returns-else-is_last-clause-long g c = comes-long g.E.EntityLookup.replacement c.args.self.now _ c.if-not-self.true c.next_short-given.result (c.if-not-self.true ∙ sym c.if-is_last.false ∙ c.is_last.ensures) c.next_short-given.ensures.long

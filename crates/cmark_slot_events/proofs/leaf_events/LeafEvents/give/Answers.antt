@@ -1,11 +1,10 @@
-use Rattle.std.proofs.Common.{length, sym, ap, subst}
+use Rattle.std.proofs.Common.{◌≡◌, length, true, sym, ap, subst}
 use Rattle.cmark_leaf_text.specs.Reads.{source_of}
 use Rattle.cmark_slots.specs.SlotViews.{IsThere, link_named, text_named}
 use Rattle.cmark_slot_events.specs.Events.{KeepsOthers}
+use Rattle.cmark_slot_events.specs.Longs.{is_long}
 use Rattle.cmark_slots.specs.declared.slot.SlotKind.{SlotKind}
-use Rattle.cmark_slot_events.proofs.EventSteps.{begin-given, keeps-all, keeps-same, left-following, on-ok, passes-ended, single-given}
-use Rattle.cmark_slot_events.proofs.NoEnds.{begin-no-end, on-err, single-no-end}
-use Rattle.cmark_slot_events.proofs.ShortFirst.{alone}
+use Rattle.cmark_slot_events.proofs.EventSteps.{begin-given, keeps-all, keeps-same, left-following, on-ok, single-given}
 use Rattle.cmark_slot_events.proofs.leaf_events.LeafEvents.give.Goals as goal
 
 pub returns-in-Begin-clause-events : goal.returns-in-Begin-clause-events
@@ -23,30 +22,6 @@ returns-in-Begin-clause-left c = λ following h.
     (left-following c.args.leaf.now s.texts.items n.texts.items s.links.items n.links.items c.args.slot following h (keeps-same (text_named c.args.slot.kind) s.texts.items n.texts.items (ap (λ v. v.items) c.begin.ensures.texts))
     (subst (λ (k : SlotKind). KeepsOthers (link_named k) s.links.items n.links.items) (sym c.in-Begin.is) c.begin.ensures.links))
 
-pub returns-in-Begin-clause-ends : goal.returns-in-Begin-clause-ends
-returns-in-Begin-clause-ends c =
-    let s = c.args.self.now in
-    on-err c.begin.result _ (λ following. begin-no-end c.args.leaf.now s.texts.items s.links.items c.args.slot following s.walk.opened.items c.in-Begin.element c.in-Begin.is)
-
-pub returns-in-End-clause-opened : goal.returns-in-End-clause-opened
-returns-in-End-clause-opened c = c.end_last.ensures.opened (source_of c.args.leaf.now) c.requires.opened
-
-pub returns-in-End-clause-gives : goal.returns-in-End-clause-gives
-returns-in-End-clause-gives c =
-    passes-ended (source_of c.args.leaf.now) c.args.self.now.walk.opened.items c.end_last.new.self.walk.opened.items c.end_last.result (c.end_last.ensures.gives (source_of c.args.leaf.now) c.requires.opened)
-
-pub returns-in-End-clause-left : goal.returns-in-End-clause-left
-returns-in-End-clause-left c = λ following h.
-    let s = c.args.self.now in
-    let n = c.end_last.new.self in
-    left-following c.args.leaf.now s.texts.items n.texts.items s.links.items n.links.items c.args.slot following h (keeps-same (text_named c.args.slot.kind) s.texts.items n.texts.items (ap (λ v. v.items) c.end_last.ensures.texts))
-    (keeps-same (link_named c.args.slot.kind) s.links.items n.links.items (ap (λ v. v.items) c.end_last.ensures.links))
-
-pub returns-in-Nothing-clause-left : goal.returns-in-Nothing-clause-left
-returns-in-Nothing-clause-left c = λ following h.
-    let s = c.args.self.now in
-    left-following c.args.leaf.now s.texts.items s.texts.items s.links.items s.links.items c.args.slot following h (keeps-all (text_named c.args.slot.kind) s.texts.items) (keeps-all (link_named c.args.slot.kind) s.links.items)
-
 pub returns-in-SourceHtml-clause-left : goal.returns-in-SourceHtml-clause-left
 returns-in-SourceHtml-clause-left c = λ following h.
     let s = c.args.self.now in
@@ -62,7 +37,7 @@ returns-in_default-clause-events c = λ following h.
     let s = c.args.self.now in
     let n = c.over_slot.new.self in
     single-given c.args.leaf.now s.texts.items s.links.items c.args.slot following s.walk.opened.items c.over_slot.result n.texts.items n.links.items n.walk.opened.items
-    c.in_default.not-SourceHtml c.in_default.not-SourceText c.in_default.not-Empty c.in_default.not-Begin c.in_default.not-End c.in_default.not-Nothing h c.over_slot.ensures.texts (ap (λ v. v.items) c.over_slot.ensures.links)
+    c.requires.long c.in_default.not-SourceHtml c.in_default.not-SourceText c.in_default.not-Empty c.in_default.not-Begin h c.over_slot.ensures.texts (ap (λ v. v.items) c.over_slot.ensures.links)
     (ap (λ w. w.opened.items) c.over_slot.ensures.walk) c.over_slot.ensures.event
 
 pub returns-in_default-clause-left : goal.returns-in_default-clause-left
@@ -73,11 +48,8 @@ returns-in_default-clause-left c = λ following h.
     (left-following c.args.leaf.now s.texts.items n.texts.items s.links.items n.links.items c.args.slot following h c.over_slot.ensures.texts
     (keeps-same (link_named c.args.slot.kind) s.links.items n.links.items (ap (λ v. v.items) c.over_slot.ensures.links)))
 
-pub returns-in_default-clause-ends : goal.returns-in_default-clause-ends
-returns-in_default-clause-ends c =
-    let s = c.args.self.now in
-    on-err c.over_slot.result _
-    (λ following. single-no-end c.args.leaf.now s.texts.items s.links.items c.args.slot following s.walk.opened.items (alone c.args.slot.kind c.in_default.not-Begin c.in_default.not-End c.in_default.not-Nothing))
-
 pub begin-requires-clause-link : goal.begin-requires-clause-link
 begin-requires-clause-link c = subst (λ (k : SlotKind). IsThere (length c.args.self.now.links.items) (link_named k)) c.in-Begin.is c.requires.link
+
+pub begin-requires-clause-linked : goal.begin-requires-clause-linked
+begin-requires-clause-linked c = subst (λ (k : SlotKind). is_long k ≡ true) c.in-Begin.is c.requires.long

@@ -28,7 +28,10 @@ returns-in-Nothing-clause-first c = λ texts links following. nothing-first c.ar
 
 pub returns-in_default-clause-first : goal.returns-in_default-clause-first
 returns-in_default-clause-first c = λ texts links following.
-    c.single_short.ensures.first texts links c.args.self.now.walk.opened.items following (alone c.args.slot.kind c.in_default.not-Begin c.in_default.not-End c.in_default.not-Nothing)
+    c.single_short.ensures.first texts links c.args.self.now.walk.opened.items following
+
+pub single_short-requires-clause-alone : goal.single_short-requires-clause-alone
+single_short-requires-clause-alone c = alone c.args.slot.kind c.in_default.not-Begin c.in_default.not-End c.in_default.not-Nothing
 
 pub returns-in_default-plain_element-clause-first : goal.returns-in_default-plain_element-clause-first
 returns-in_default-plain_element-clause-first c = λ texts links following. begin-some c.args.leaf.now texts links c.args.slot following c.args.self.now.walk.opened.items c.in-Begin.element c.in-Begin.is

@@ -1,10 +1,12 @@
-use Rattle.std.proofs.Common.{◌≤◌, ◌+◌, sym, subst, ◌∙◌, ◌-◌, ◌<◌, length, ap, arith}
+use Rattle.std.proofs.Common.{◌≡◌, true, ◌≤◌, ◌+◌, sym, subst, ◌∙◌, ◌-◌, ◌<◌, length, ap, arith}
 use Rattle.std.proofs.lemmas.Grind.{common_steps}
 use Rattle.cmark_slot_events.specs.declared.leaf_events.LeafEvents.{LeafEvents}
 use Rattle.cmark_slot_events.proofs.StillToCome.{left-later}
 use Rattle.cmark_leaf_text.specs.Reads.{source_of}
 use Rattle.cmark_slot_events.specs.Opens.{AreOpened}
-use Rattle.cmark_slot_events.specs.Shorts.{IfShort, StandsFor}
+use Rattle.cmark_slot_events.specs.Longs.{is_long}
+use Rattle.cmark_slot_events.specs.Shorts.{IfLong, IfShort, StandsFor}
+use Rattle.cmark_slot_events.proofs.LongSteps.{long-here, not-long}
 use Rattle.cmark_slot_events.proofs.ShortFirst.{stands-at}
 use Rattle.cmark_slot_events.proofs.ShortSteps.{any-slot}
 use Rattle.cmark_inline_model.specs.FirstEvents.{BeginWithoutEnd}
@@ -27,6 +29,20 @@ returns-in-Short-clause-stands c =
     let lt : old.walk.next < length old.slots.items = omega (arith, t, n) in
     stands-at c.args.leaf.now old.slots.items c.args.self.now.slots.items old.walk.next c.give_short.new.self.walk.next c.index-slot.result.now c.in-Short.short (ap (λ v. v.items) i.0) lt c.index-slot.ensures e.place
     (subst (λ n. IfShort n (StandsFor c.args.leaf.now c.index-slot.result.now)) c.in-Short.is e.stands)
+
+pub returns-in-Long-clause-long : goal.returns-in-Long-clause-long
+returns-in-Long-clause-long c =
+    let e = c.in-Ok.ensures in
+    let old = c.loop-self.self in
+    let new = c.give_short.new.self in
+    let t = c.loop-self-test.true in
+    let n = c.len.ensures in
+    let lt : old.walk.next < length old.slots.items = omega (arith, t, n) in
+    let long = subst (λ n. IfLong n (is_long c.index-slot.result.now.kind ≡ true)) c.in-Long.is e.long in
+    long-here old new c.index-slot.result.now lt c.index-slot.ensures e.slots e.place long
+
+pub returns-clause-long : goal.returns-clause-long
+returns-clause-long c = not-long c.end_short.result _ c.end_short.ensures.long
 
 pub returns-in-Short-clause-left : goal.returns-in-Short-clause-left
 returns-in-Short-clause-left c = λ left.
