@@ -70,6 +70,9 @@ enum pcm_options {
     PCM_ALL_ENTITIES = 1073741824 /* all names of the HTML Standard's list, in place of eleven */
 };
 
+/* The rules that GitHub reads, as the flag --github of the programs. */
+#define PCM_GITHUB (PCM_TABLES | PCM_FOOTNOTES | PCM_STRIKETHROUGH | PCM_TASKLISTS | PCM_GFM | PCM_EMAIL_AUTOLINKS)
+
 /* Writes the HTML of the text into room, and returns a status. *size is always written: the length of the HTML in bytes, or 0 if there
    is none. No NUL is added. The HTML is that of the program mdhtml. It is not safe to show for a text of a stranger: raw
    HTML passes through, links may lead to javascript:, and headings may have attributes such as onclick. Use pcm_safe_html for it. */

@@ -3,9 +3,6 @@
 #include <stdio.h>
 #include <stdlib.h>
 
-/* The options of `mdhtml --github`. */
-enum { GITHUB = PCM_TABLES | PCM_FOOTNOTES | PCM_STRIKETHROUGH | PCM_TASKLISTS | PCM_GFM | PCM_EMAIL_AUTOLINKS };
-
 typedef uint32_t call(const uint8_t *, size_t, uint32_t, uint8_t *, size_t, size_t *);
 
 /* Calls with a buffer that is large enough for the result of each file. Returns the length of the result. */
@@ -24,7 +21,7 @@ int main(int count, char **files) {
         uint8_t *text = malloc(length + 1), *room = malloc(room_length), *html = malloc(room_length);
         if (!text || !room || !html || fread(text, 1, length, file) != length) return 1;
         fclose(file);
-        const uint32_t options[] = {0, GITHUB};
+        const uint32_t options[] = {0, PCM_GITHUB};
         for (int which = 0; which < 2; which++) {
             called(pcm_html, text, length, options[which], room, room_length);
             called(pcm_safe_html, text, length, options[which], room, room_length);

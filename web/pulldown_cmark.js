@@ -20,6 +20,9 @@ var pulldownCmark = ((records) => {
     DEFINITION_LIST: 4096, SUPERSCRIPT: 8192, SUBSCRIPT: 16384, WIKILINKS: 32768, HIGHLIGHT: 65536, EMAIL_AUTOLINKS: 131072,
     ALL_ENTITIES: 1073741824,
   };
+  /** The rules that GitHub reads. */
+  const { TABLES, FOOTNOTES, STRIKETHROUGH, TASKLISTS, GFM, EMAIL_AUTOLINKS } = OPTIONS;
+  const GITHUB = TABLES | FOOTNOTES | STRIKETHROUGH | TASKLISTS | GFM | EMAIL_AUTOLINKS;
   const ALL = Object.values(OPTIONS).reduce((set, bits) => set | bits);
 
   /** The error for bytes that are not UTF-8, and for a string with half of a pair of surrogates. */
@@ -574,6 +577,6 @@ var pulldownCmark = ((records) => {
   };
 
   const errors = { NotUtf8Error, OutOfMemoryError, MalformedError: records.MalformedError };
-  return { load, callsOf, hasVectors, OPTIONS, ...errors };
+  return { load, callsOf, hasVectors, OPTIONS, GITHUB, ...errors };
 })(typeof pulldownCmarkRecords === "undefined" ? require("./records.js") : pulldownCmarkRecords);
 if (typeof module !== "undefined") module.exports = pulldownCmark;

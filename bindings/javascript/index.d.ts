@@ -158,11 +158,11 @@ export declare class Stream {
   refresh(): Change;
 }
 
-/** The rules beyond CommonMark; join them by `|`. With `ALL_ENTITIES` all 2,125 entity names of the HTML standard are known, and else eleven. */
+/** The rules beyond CommonMark; join them by `|`. `GITHUB` has those that GitHub reads. With `ALL_ENTITIES` all 2,125 entity names of the HTML standard are known, and else eleven. */
 export declare const Options: Readonly<Record<
   | "TABLES" | "FOOTNOTES" | "STRIKETHROUGH" | "TASKLISTS" | "SMART_PUNCTUATION" | "HEADING_ATTRIBUTES" | "YAML_STYLE_METADATA_BLOCKS"
   | "PLUSES_DELIMITED_METADATA_BLOCKS" | "OLD_FOOTNOTES" | "MATH" | "GFM" | "DEFINITION_LIST" | "SUPERSCRIPT" | "SUBSCRIPT" | "WIKILINKS"
-  | "HIGHLIGHT" | "EMAIL_AUTOLINKS" | "ALL_ENTITIES", number>>;
+  | "HIGHLIGHT" | "EMAIL_AUTOLINKS" | "ALL_ENTITIES" | "GITHUB", number>>;
 
 /** Bytes that are not UTF-8, or a string with half of a pair of surrogates. */
 export declare class NotUtf8Error extends TypeError {}

@@ -7,4 +7,4 @@ const bytes = place.protocol === "file:" ? (await import("node:fs")).readFileSyn
 const { instance } = await WebAssembly.instantiate(bytes, {});
 
 export const { html, events, references, merged, render, Stream, Change, version, NotUtf8Error, OutOfMemoryError, MalformedError } = core.callsOf(instance);
-export const Options = core.OPTIONS;
+export const Options = { ...core.OPTIONS, GITHUB: core.GITHUB };

@@ -175,6 +175,7 @@ TYPED = """
 import { html, events, references, merged, render, Stream, Change, version, Options, MalformedError, NotUtf8Error, OutOfMemoryError } from "pulldown-cmark-proved";
 import type { BrokenLink, Event, Events, LinkDef, Tag, TagEnd } from "pulldown-cmark-proved";
 const safe: string = html("a", Options.TABLES | Options.MATH, { safe: true, schemes: ["tel"] as const });
+const github: string = html("~a~", Options.GITHUB);
 const answered: string = html(new Uint8Array(), 0, { brokenLink: (link: BrokenLink) => ({ destUrl: link.reference }) });
 const found: Events = events("a", 0, { brokenLink: () => null });
 const last: Event | undefined = found.at(-1);

@@ -4,7 +4,7 @@ import json
 import os
 
 import pulldown_cmark
-from programs import ALL_ENTITIES, BITS, NONE, ROOT
+from programs import ALL_ENTITIES, BITS, FLAGS, GITHUB, NONE, ROOT
 from pulldown_cmark import Event, Fenced, Indented, Options, Paragraph, Start, Tag, TagEnd, WikiLink, events, html, references, render
 
 
@@ -135,7 +135,7 @@ def faults(texts, wanted):
             judge(f"{call.__name__} with the bits {bits}", raised(call, "a", options=bits), ValueError)
         judge(f"{call.__name__} with options by place", raised(call, "a", 2), TypeError)
         judge(f"{call.__name__} with a text for options", raised(call, "a", options="2"), TypeError)
-    judge("the bits of the options", [int(it) for it in Options.__members__.values()], [NONE, *BITS, ALL_ENTITIES])
+    judge("the bits of the options", [int(it) for it in Options.__members__.values()], [NONE, *BITS, ALL_ENTITIES, sum(bits for flag, bits in zip(FLAGS, BITS) if flag in GITHUB)])
     found += faults_of_names()
     for text in texts:
         string = text.decode()

@@ -105,7 +105,11 @@ def in_sources(bits, github, _flags):
         if [name for name in found if name in names] != [name for name in names if name in found]:
             yield path, "its options are in another order than those of the code"
     typed = part("bindings/javascript/index.d.ts", "export declare const Options", ";")
-    yield from differences("bindings/javascript/index.d.ts", re.findall(r'"([A-Z_]+)"', typed), names)
+    yield from differences("bindings/javascript/index.d.ts", re.findall(r'"([A-Z_]+)"', typed), [*names, "GITHUB"])
+    of_github = [name for name, it in bits.items() if it & github == it]
+    for path, begin in (("include/pulldown_cmark.h", "#define PCM_GITHUB ("), ("bindings/python/pulldown_cmark/_library.py", "\n    GITHUB = "), ("web/pulldown_cmark.js", "const GITHUB = ")):
+        joined = part(path, begin, "\n").rstrip(");").replace("PCM_", "").split(" | ")
+        yield from differences(f"{path}, GITHUB", joined, of_github)
     known = sum(map(int, re.findall(r"\d+", part("crates/pulldown_cmark_c/specs/Calls.antt", "\nknown_bits = ", "\n"))))
     if known != functools.reduce(operator.or_, names.values()):
         yield "crates/pulldown_cmark_c/specs/Calls.antt", f"the bits with a meaning are {known}"
@@ -195,8 +199,6 @@ def in_tests(bits, github, flags):
     of_reader = re.findall(r"^    (\w+): bool", part("tests/grammar/inlines/tokens.py", "class Options(NamedTuple):\n", "\n\n\n"), re.M)
     if of_reader != [it.replace("-", "_") for it in inline]:
         yield "tests/grammar/inlines/tokens.py", "the fields of Options are not the flags of tests/grammar/check_inlines, in their order"
-    of_github = re.findall(r"PCM_(\w+)", part("tools/profiled.c", "enum { GITHUB = ", "}"))
-    yield from differences("tools/profiled.c, GITHUB", of_github, [name for name, it in bits.items() if it & github == it])
     fuzzed = int(part("tests/bindings/fuzz.cc", "constexpr uint32_t ALL_OPTIONS = ", ";"), 16)
     if fuzzed != functools.reduce(operator.or_, bits.values()):
         yield "tests/bindings/fuzz.cc", f"its options have the bits {fuzzed}"

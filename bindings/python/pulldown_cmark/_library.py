@@ -16,6 +16,7 @@ _DONE, _TOO_LONG, _NOT_UTF8, _NO_MEMORY, _MALFORMED, _UNKNOWN_OPTIONS, _BAD_CUT 
 class Options(enum.IntFlag):
     """The rules beyond CommonMark. Join them by ``|``.
 
+    ``GITHUB`` has the rules that GitHub reads.
     With ``ALL_ENTITIES`` all 2,125 entity names of the HTML standard are known, and otherwise eleven: ``amp``, ``lt``, ``gt``, ``quot``,
     ``apos``, ``nbsp``, ``copy``, ``reg``, ``hellip``, ``mdash`` and ``ndash``.
     """
@@ -39,6 +40,7 @@ class Options(enum.IntFlag):
     HIGHLIGHT = 65536
     EMAIL_AUTOLINKS = 131072
     ALL_ENTITIES = 1073741824
+    GITHUB = TABLES | FOOTNOTES | STRIKETHROUGH | TASKLISTS | GFM | EMAIL_AUTOLINKS
 
 
 # The bits of all options.
