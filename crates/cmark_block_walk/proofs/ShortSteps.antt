@@ -1,5 +1,5 @@
 -- Steps of a walk of which no event is made.
-use Rattle.std.proofs.Common.{◌≡◌, ℕ, List, true, false, refl, sym, ◌∙◌, subst}
+use Rattle.std.proofs.Common.{◌≡◌, ℕ, List, true, false, ◌∙◌, subst}
 use Rattle.cmark_tree.specs.declared.tree.Tree.{Tree}
 use Rattle.cmark_tree.specs.declared.tree_index.TreeIndex.{TreeIndex}
 use Rattle.cmark_tree.specs.Zip.{Zip, pushed, past, Sibling, HasFocus}

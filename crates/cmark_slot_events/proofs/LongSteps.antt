@@ -1,16 +1,9 @@
 -- Slots whose event is not a short one.
-use Rattle.std.specs.Prelude.{Some}
-use Rattle.std.proofs.Common.{◌≡◌, ℕ, ◌<◌, List, get_or, length, true, refl, sym, ap, subst, ◌∙◌, arith}
-use Rattle.cmark_grammar.specs.Tag.{Tag}
-use Rattle.cmark_slots.specs.Elements.{emphasis_tag}
-use Rattle.cmark_slots.specs.declared.slot.Element.{Element}
-use Rattle.cmark_slots.specs.declared.slot.Element.TheVariants as element
+use Rattle.std.proofs.Common.{◌≡◌, ◌<◌, List, get_or, length, true, sym, ap, subst, ◌∙◌, arith}
 use Rattle.cmark_slots.specs.declared.slot.Slot.{Slot}
-use Rattle.cmark_slots.specs.declared.slot.SlotKind.{SlotKind}
-use Rattle.cmark_slots.specs.declared.slot.SlotKind.TheVariants as kind
 use Rattle.cmark_slot_events.specs.declared.leaf_events.LeafEvents.{LeafEvents}
-use Rattle.cmark_slot_events.specs.Longs.{IsLong, is_linked, is_long}
-use Rattle.cmark_slot_events.specs.Shorts.{IfLong, IsAlone}
+use Rattle.cmark_slot_events.specs.Longs.{IsLong, is_long}
+use Rattle.cmark_slot_events.specs.Shorts.{IfLong}
 use Rattle.cmark_text.specs.declared.short.Next.{Next}
 use Rattle.cmark_text.specs.declared.short.Next.TheVariants as next
 use Rattle.cmark_slot_events.proofs.ShortSteps.{get_or-any}

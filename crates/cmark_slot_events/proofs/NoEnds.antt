@@ -15,7 +15,6 @@ use Rattle.cmark_slot_events.specs.Events.{shown_opened, events_of, events_to_co
 use Rattle.cmark_slot_events.specs.declared.leaf_events.LeafEvents.{LeafEvents}
 use Rattle.cmark_slot_events.specs.declared.leaf_events.Opened.{Opened}
 use Rattle.cmark_references.specs.declared.link.Link.{Link}
-use Rattle.cmark_slots.specs.declared.slot.Element.{Element}
 use Rattle.cmark_slots.specs.declared.slot.Slot.{Slot}
 use Rattle.cmark_slots.specs.declared.slot.SlotKind.{SlotKind}
 use Rattle.cmark_slots.specs.declared.slot.SlotKind.TheVariants as kind

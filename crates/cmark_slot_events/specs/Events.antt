@@ -1,5 +1,5 @@
 -- The events that are read from the slots of a leaf.
-use Rattle.std.specs.Prelude.{◌≡◌, ◌≢◌, ℕ, List, [], ◌∷◌, length, map, reverse, drop, slice_get, encode_utf8, Option, None, Some}
+use Rattle.std.specs.Prelude.{◌≡◌, ◌≢◌, ℕ, List, length, map, reverse, drop, slice_get, encode_utf8, Option, Some}
 use Rattle.cmark_grammar.specs.CodeSpans.{code_text}
 use Rattle.cmark_grammar.specs.Event as event
 use Rattle.cmark_grammar.specs.Event.{Ranged}
@@ -8,9 +8,7 @@ use Rattle.cmark_grammar.specs.Tokens.{slice}
 use Rattle.cmark_inline_model.specs.SlotRows.{slot_events}
 use Rattle.cmark_leaf_text.specs.Reads.{is_cell_of, source_of}
 use Rattle.cmark_leaf_text.specs.declared.leaf_text.LeafText.{LeafText}
-use Rattle.cmark_text.specs.Ranged.{shown_ranged}
 use Rattle.cmark_text.specs.Shown.{shown_end}
-use Rattle.cmark_text.specs.declared.ranged.Ranged.{Ranged as Given}
 use Rattle.cmark_values.specs.Lending.{IsLentBy, IsPartIfBorrowed}
 use Rattle.cmark_values.specs.declared.text.CowStr.{CowStr}
 use Rattle.cmark_slot_events.specs.declared.leaf_events.Opened.{Opened}
@@ -19,7 +17,7 @@ use Rattle.cmark_slots.specs.declared.slot.Slot.{Slot}
 use Rattle.cmark_slots.specs.declared.slot.SlotKind.{SlotKind}
 use Rattle.cmark_slots.specs.declared.slot.SlotKind.TheVariants as kind
 use Rattle.cmark_slot_events.specs.declared.leaf_events.LeafEvents.{LeafEvents}
-use Rattle.cmark_slots.specs.SlotViews.{CanBeGiven, first_of, shown_slots, slot_end, text_at, written}
+use Rattle.cmark_slots.specs.SlotViews.{CanBeGiven, shown_slots, text_at, written}
 
 -- the ends of the elements that are open, the last first
 abbrev pub shown_open : Opened → Ranged

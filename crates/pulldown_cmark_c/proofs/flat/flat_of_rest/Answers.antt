@@ -1,5 +1,5 @@
-use Rattle.std.proofs.Common.{Some, subst}
-use Rattle.cmark_parser.specs.Parsing.{GivesAs, GivesStep}
+use Rattle.std.proofs.Common.{subst}
+use Rattle.cmark_parser.specs.Parsing.{GivesAs}
 use Rattle.pulldown_cmark_c.specs.Flat.{says-nothing}
 use Rattle.pulldown_cmark_c.proofs.FlatSteps.{all_given, event_more, long_kept, short_more}
 use Rattle.pulldown_cmark_c.proofs.flat.flat_of_rest.Goals as goal
@@ -21,8 +21,7 @@ loop-output-preserved g c =
     let new = c.take_long.new.self in
     let h = subst (λ n. GivesAs says-nothing replacement iter.parser n mid.parser) c.in-Long.is c.in_ok-short.ensures.gives in
     let kept = long_kept says-nothing replacement first.parser iter.parser mid.parser c.loop-output.output.items c.loop-output.invariant.0 h in
-    let gives = subst (λ o. GivesStep says-nothing replacement mid.parser (Some o) new.parser) c.in_ok-given-in-Long.was c.in_ok-given-in-Long.ensures.gives in
-    (event_more says-nothing replacement first.parser mid.parser new.parser c.in_ok-given-in-Long.given c.loop-output.output.items c.append_given.new.out.items kept gives c.in_ok-append_given-in-Long.ensures, c.in_ok-given-in-Long.ensures.ready)
+    (event_more says-nothing replacement first.parser mid.parser new.parser c.in_ok-given-in-Long.given c.loop-output.output.items c.append_given.new.out.items kept c.in_ok-given-in-Long.ensures.gives c.in_ok-append_given-in-Long.ensures, c.in_ok-given-in-Long.ensures.ready)
 
 pub loop-output-preserved-in-Continue-branch-3 : goal.loop-output-preserved-in-Continue-branch-3
 loop-output-preserved-in-Continue-branch-3 g c =

@@ -1,5 +1,4 @@
 use Rattle.std.proofs.Common.{◌≡◌, length, true, sym, ap, subst}
-use Rattle.cmark_leaf_text.specs.Reads.{source_of}
 use Rattle.cmark_slots.specs.SlotViews.{IsThere, link_named, text_named}
 use Rattle.cmark_slot_events.specs.Events.{KeepsOthers}
 use Rattle.cmark_slot_events.specs.Longs.{is_long}
