@@ -19,3 +19,12 @@ pub enum Coming<'a> {
     /// No event is left.
     Over,
 }
+
+/// The loop that writes HTML, as a caller of [`next_short`](crate::SpanWalk::next_short).
+pub struct ForHtml;
+
+/// An iterator of events, as a caller of [`next_short`](crate::SpanWalk::next_short).
+pub struct ForItems;
+
+/// A caller that takes short events without an `Event`, as a caller of [`next_short`](crate::SpanWalk::next_short).
+pub struct ForShorts;

@@ -7,5 +7,5 @@ mod plain;
 mod span_walk;
 
 pub use callback::OptionalCallback;
-pub use coming::Coming;
+pub use coming::{Coming, ForHtml, ForItems, ForShorts};
 pub use span_walk::SpanWalk;

@@ -135,8 +135,11 @@ impl<'input, 'e, E: EntityLookup, F: BrokenLinkCallback<'input> + Drop> SpanWalk
     /// Returns the next event with its range, without an `Event`. An event that owns nothing is consumed. Any other is reported as
     /// `Coming::Long` and left for [`take_long`](SpanWalk::take_long). `joins` says whether the events of several plain lines may be
     /// returned at once, as `Coming::Lines`. After an error (out of memory) the walk cannot be continued.
+    ///
+    /// `C` names the caller and has no effect. The step is one large function, which the compiler inlines only if it is called at one place.
+    /// With a type for each place, each place has a copy of its own.
     #[inline(always)]
-    pub fn next_short(&mut self, joins: bool) -> Result<Coming<'input>, AllocError>
+    pub fn next_short<C>(&mut self, joins: bool) -> Result<Coming<'input>, AllocError>
         requires stands { Stands self.old }
         requires ready { F.ready (callback_of self.old) }
         ensures ready { F.ready (callback_of self.new) }

@@ -14,7 +14,7 @@ ghost use Rattle.cmark_safe.specs.SafeHtml.{IsSafe};
 
 use crate::filter::{Filter, Filtering};
 use crate::parse::Parser;
-use cmark_event_walk::Coming;
+use cmark_event_walk::{Coming, ForHtml};
 use cmark_html::{Writer, finish, write_event, write_link, write_short};
 use cmark_inline::{BrokenLinkCallback, DefaultBrokenLinkCallback};
 use cmark_text::{EntityLookup, Options, Short};
@@ -194,7 +194,7 @@ fn write_all<'a, E: EntityLookup, F: BrokenLinkCallback<'a> + Drop, T: Filter>(
 {
     loop {
         // The text of a metadata block is not written, but a soft break is. So the lines of a text are one text only outside of such a block.
-        match parser.next_short(!writer.in_metadata)? {
+        match parser.next_short::<ForHtml>(!writer.in_metadata)? {
             // Each of the two calls is inlined for its own events: other events follow a span than follow a block.
             Coming::Span(short, _, _) => write_short(out, writer, filter.short_of(short))?,
             Coming::Block(short, _, _) => write_short(out, writer, filter.short_of(short))?,

@@ -13,7 +13,7 @@ use crate::event::ranged_event;
 use bitflags::Flags;
 use cmark_block_walk::Walk;
 use cmark_blocks::{FirstPass, run_first_pass};
-use cmark_event_walk::{Coming, OptionalCallback, SpanWalk};
+use cmark_event_walk::{Coming, ForItems, ForShorts, OptionalCallback, SpanWalk};
 use cmark_inline::{
     BrokenLinkCallback, DefaultBrokenLinkCallback, LEAST_REFERENCE_EXPANSION_LIMIT, Steps,
 };
@@ -187,9 +187,9 @@ impl<'input, E: EntityLookup, F: BrokenLinkCallback<'input> + Drop> Parser<'inpu
 
     // Returns the next event with its range, without an `Event`. An event that owns nothing is consumed. Any other is reported as
     // `Coming::Long` and left for `take_long`. `joins` says whether the events of several plain lines may be returned at once, as
-    // `Coming::Lines`. After an error (out of memory) the walk is over.
+    // `Coming::Lines`. `C` names the caller. After an error (out of memory) the walk is over.
     #[inline(always)]
-    pub(crate) fn next_short(&mut self, joins: bool) -> Result<Coming<'input>, AllocError>
+    pub(crate) fn next_short<C>(&mut self, joins: bool) -> Result<Coming<'input>, AllocError>
         requires goes { CanGo E.replacement self.old }
         requires ready { IsReady F.ready self.old }
         ensures gives { GivesOrErr F.answers E.replacement self.old result self.new }
@@ -199,7 +199,7 @@ impl<'input, E: EntityLookup, F: BrokenLinkCallback<'input> + Drop> Parser<'inpu
         ensures ready { IsReady F.ready self.new }
     {
         if !self.is_over {
-            let given = self.spans.next_short(joins);
+            let given = self.spans.next_short::<C>(joins);
             if is_last(&given) {
                 self.is_over = true;
             }
@@ -257,7 +257,7 @@ impl<'input, E: EntityLookup, F: BrokenLinkCallback<'input> + Drop> Parser<'inpu
         ensures gives { GivesStep F.answers E.replacement self.old result self.new }
         ensures ready { IsReady F.ready self.new }
     {
-        match self.next_short(false) {
+        match self.next_short::<ForItems>(false) {
             Ok(Coming::Span(short, start, end)) => {
                 Some(Ok(ranged_event(self.spans.allocator(), short, start, end)))
             }
@@ -346,7 +346,7 @@ impl<'input, E: EntityLookup, F: BrokenLinkCallback<'input> + Drop> OffsetIter<'
         ensures long { IfOk result (λ next. IfNextLong next (IsRangedLong self.new)) }
         ensures ready { IsRangedReady F.ready self.new }
     {
-        match self.parser.next_short(false)? {
+        match self.parser.next_short::<ForShorts>(false)? {
             Coming::Span(short, start, end) => Ok(Next::Short(short, start, end)),
             Coming::Block(short, start, end) => Ok(Next::Short(short, start, end)),
             Coming::Lines(_, _, _) => unreachable!(),
