@@ -101,6 +101,7 @@ test: edits gate programs beside
 edits:
 	tests/edits/syntax
 	tests/documents/check
+	tests/documents/clauses
 
 # The tests that need no proof run beside the gate, on the processors that it leaves idle.
 gate:

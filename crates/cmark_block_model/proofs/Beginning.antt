@@ -21,6 +21,7 @@ use Rattle.cmark_block_model.proofs.Mirror.{whole, whole-same, pass_with, bare_a
 use Rattle.cmark_grammar.specs.Lists.{definition_delimiter}
 use Rattle.cmark_block_model.proofs.ListDelimiters.{Unmarked}
 use Rattle.cmark_block_model.proofs.Places.{IsTidy, place-replay}
+use Rattle.cmark_block_model.proofs.TableCounts.{table-lines}
 
 module _ (text : List ℕ) (options : Options) (lookup : Lookup) where
   -- the lines ahead inside another container
@@ -254,37 +255,37 @@ module _ (text : List ℕ) (options : Options) (lookup : Lookup) where
 
   -- the open blocks after the opening of a line fit
   pub begins-fit : (m : ℕ) (place : Place) (closed : Blocks) (r : Row) (ahead : List Row) (b : Bool) (n : ℕ) → r.lazy ≡ false → length r.columns < m → (b ≡ true → is_blank_line r ≡ true) → r.line_end ≡ n
-      → Fits b (lines_begin_in options m place closed r ahead) ahead n
+      → Fits options b (lines_begin_in options m place closed r ahead) ahead n
   begins-fit zero place closed r ahead b n e f h q = absurd (omega (arith, f))
   begins-fit (suc m) place closed r ahead b n e f h q =
       go (opens_at options place r ahead) refl (tells-at options place r ahead)
       (λ k o. let le : length (enter k r).columns < length r.columns = at-enter options place k r ahead o in
       begins-fit m (place_in k) NoBlocks (enter k r) (within k (is_bare_start k r) ahead) (is_bare_start k r) n (enter-lazy options k r ∙ e) (omega (arith, f, le)) (bare-start k r) (enter-line_end k r ∙ q))
     where
-      html : (z : Bool) (kind : ℕ) → b ≡ false → Fits b (html_lines_begun z closed kind r) ahead n
-      html true kind nb = (nb, omega arith, λ never. refl)
+      html : (z : Bool) (kind : ℕ) → b ≡ false → Fits options b (html_lines_begun z closed kind r) ahead n
+      html true kind nb = (nb, omega arith, λ never. refl, tt)
       html false kind nb = (nb, (refl, q))
 
-      leaf-fits : (leaf : Leaf) (more : ℕ) → b ≡ false → more ≤ length ahead → Tells r (Takes leaf more) → Fits b (leaf_lines_begun leaf more closed r) ahead n
-      leaf-fits ThematicBreak more nb le t = (nb, le, λ never. t)
-      leaf-fits (AtxHeading level) more nb le t = (nb, le, λ never. t)
-      leaf-fits IndentedCode more nb le t = (nb, tt)
-      leaf-fits (FencedCode fence) more nb le t = (nb, (refl, q, tt))
-      leaf-fits (HtmlBlock kind) more nb le t = html (nat_le kind 5 && holds_end kind (words_of r)) kind nb
-      leaf-fits (LinkDefinition definition) more nb le t = (nb, le, λ never. absurd (true≢false never))
-      leaf-fits (MetadataBlock kind) more nb le t = (nb, (refl, q, tt))
-      leaf-fits (Table alignments) more nb le t = (nb, le, λ never. absurd (true≢false never))
+      leaf-fits : (leaf : Leaf) (more : ℕ) → b ≡ false → more ≤ length ahead → Tells r (Takes leaf more) → opens_at options place r ahead ≡ Takes leaf more → Fits options b (leaf_lines_begun leaf more closed r) ahead n
+      leaf-fits ThematicBreak more nb le t o = (nb, le, λ never. t, tt)
+      leaf-fits (AtxHeading level) more nb le t o = (nb, le, λ never. t, tt)
+      leaf-fits IndentedCode more nb le t o = (nb, tt)
+      leaf-fits (FencedCode fence) more nb le t o = (nb, (refl, q, tt))
+      leaf-fits (HtmlBlock kind) more nb le t o = html (nat_le kind 5 && holds_end kind (words_of r)) kind nb
+      leaf-fits (LinkDefinition definition) more nb le t o = (nb, le, λ never. absurd (true≢false never), tt)
+      leaf-fits (MetadataBlock kind) more nb le t o = (nb, (refl, q, tt))
+      leaf-fits (Table alignments) more nb le t o = (nb, le, λ never. absurd (true≢false never), (q, table-lines options place r ahead alignments more o))
 
-      tagged : (k : Container) (is_tag : Bool) → is_alert k ≡ is_tag → Fits (is_bare_start k r) (inside_begun m k r (within k (is_bare_start k r) ahead)) (within k (is_bare_start k r) ahead) n
-          → Fits (is_bare_start k r) (lines_inside_begun is_tag (inside_begun m k r (within k (is_bare_start k r) ahead))) (within k (is_bare_start k r) ahead) n
+      tagged : (k : Container) (is_tag : Bool) → is_alert k ≡ is_tag → Fits options (is_bare_start k r) (inside_begun m k r (within k (is_bare_start k r) ahead)) (within k (is_bare_start k r) ahead) n
+          → Fits options (is_bare_start k r) (lines_inside_begun is_tag (inside_begun m k r (within k (is_bare_start k r) ahead))) (within k (is_bare_start k r) ahead) n
       tagged k true y fits = alert-whole k r y
       tagged k false y fits = fits
 
-      go : (o : Opening) → opens_at options place r ahead ≡ o → Tells r o → ((k : Container) → opens_at options place r ahead ≡ Nests k → Fits (is_bare_start k r) (inside_begun m k r (within k (is_bare_start k r) ahead)) (within k (is_bare_start k r) ahead) n)
-          → Fits b (lines_begin_as o (λ k. lines_begin_in options m (place_in k) NoBlocks (enter k r) (within k (is_bare_start k r) ahead)) closed r) ahead n
+      go : (o : Opening) → opens_at options place r ahead ≡ o → Tells r o → ((k : Container) → opens_at options place r ahead ≡ Nests k → Fits options (is_bare_start k r) (inside_begun m k r (within k (is_bare_start k r) ahead)) (within k (is_bare_start k r) ahead) n)
+          → Fits options b (lines_begin_as o (λ k. lines_begin_in options m (place_in k) NoBlocks (enter k r) (within k (is_bare_start k r) ahead)) closed r) ahead n
       go Blank o t ih = tt
       go (Nests k) o t ih = (not-bare place b r ahead e h (λ x. let y : Nests k ≡ Blank = sym o ∙ x in cc), q, tagged k (is_alert k) refl (ih k o))
-      go (Takes leaf more) o t ih = leaf-fits leaf more (not-bare place b r ahead e h (λ x. let y : Takes leaf more ≡ Blank = sym o ∙ x in cc)) (at-len options place r ahead leaf more o) t
+      go (Takes leaf more) o t ih = leaf-fits leaf more (not-bare place b r ahead e h (λ x. let y : Takes leaf more ≡ Blank = sym o ∙ x in cc)) (at-len options place r ahead leaf more o) t o
       go Plain o t ih = (not-bare place b r ahead e h (λ x. let y : Plain ≡ Blank = sym o ∙ x in cc), q)
 
   -- the place after closed blocks is not after a task marker, unless the place without blocks is
@@ -348,9 +349,9 @@ module _ (text : List ℕ) (options : Options) (lookup : Lookup) where
       → begin text options lookup r next (pass_with l outer false Closed n) ≡ pass_at text options lookup (lines_begin_at options AfterLazy NoBlocks r ahead) ahead l outer false n
   starts-following-tag r next ahead l outer n h e a = starts-at AfterLazy NoBlocks r next ahead l outer n refl (ap (λ s. is_after_title (place_of s)) h) e a
 
-  pub starts-fit-at : (place : Place) (closed : Blocks) (r : Row) (ahead : List Row) → r.lazy ≡ false → Fits false (lines_begin_at options place closed r ahead) ahead r.line_end
+  pub starts-fit-at : (place : Place) (closed : Blocks) (r : Row) (ahead : List Row) → r.lazy ≡ false → Fits options false (lines_begin_at options place closed r ahead) ahead r.line_end
   starts-fit-at place closed r ahead e = begins-fit (suc (length r.columns)) place closed r ahead false r.line_end e (omega arith) (λ never. absurd (true≢false (sym never))) refl
 
-  pub starts-fit : (closed : Blocks) (r : Row) (ahead : List Row) → r.lazy ≡ false → Fits false (lines_begin options closed r ahead) ahead r.line_end
+  pub starts-fit : (closed : Blocks) (r : Row) (ahead : List Row) → r.lazy ≡ false → Fits options false (lines_begin options closed r ahead) ahead r.line_end
   unfolding lines_begin
   starts-fit closed r ahead e = starts-fit-at (place_after Apart closed) closed r ahead e

@@ -1,7 +1,9 @@
 -- What is open closed: the leaf, and the containers.
-use Rattle.std.proofs.Common.{◌≡◌, ℕ, zero, suc, Bool, true, false, List, [], ◌∷◌, ◌++◌, take, refl, ap, ◌∙◌, sym, append_assoc, append-nil}
+use Rattle.std.proofs.Common.{◌≡◌, ℕ, zero, suc, Bool, true, false, List, [], ◌∷◌, ◌++◌, length, take, refl, ap, ◌∙◌, sym, append_assoc, append-nil}
 use Rattle.cmark_grammar.specs.Answers.{Lookup}
 use Rattle.cmark_grammar.specs.Options.{Options}
+use Rattle.cmark_grammar.specs.Alignment.{Alignment}
+use Rattle.cmark_grammar.specs.TableTokens.{table_tokens}
 use Rattle.cmark_grammar.specs.Rows.{Row, start_of, begin_of, last_line_end, first_place}
 use Rattle.cmark_grammar.specs.Leaves.{closes_fence}
 use Rattle.cmark_grammar.specs.Containers.{is_bare_start, bare_after}
@@ -16,7 +18,7 @@ use Rattle.cmark_block_model.specs.OpenBlocks.{OpenContainer, Closed}
 use Rattle.cmark_block_model.specs.BlockPass.{close_leaf, is_some, containers_closed, container_closed}
 use Rattle.cmark_block_model.proofs.CodeRuns.{run-tokens}
 use Rattle.cmark_block_model.proofs.Replay.{Level, begun, paragraph_begun, level_drawn, standing, entered, leaf_level, left_by, blank_level, replay, replay-join}
-use Rattle.cmark_block_model.proofs.Mirror.{last_of, last_begin, pass_with, leaf_left, AreBefore, FitsVerbatim, Fits, lines_drawn, drawn-tokens, verbatim_level, verbatim_leaf, inner_at, leaf_at, container_at, containers_at}
+use Rattle.cmark_block_model.proofs.Mirror.{last_of, last_begin, pass_with, table_leaf, leaf_left, AreBefore, FitsLeaf, FitsVerbatim, Fits, lines_drawn, drawn-tokens, verbatim_level, verbatim_leaf, table_open, leaf_open, inner_at, leaf_at, container_at, containers_at}
 
 pub take-none : (n : ℕ) → take {A = Row} n [] ≡ []
 take-none zero = refl
@@ -53,15 +55,31 @@ module _ (text : List ℕ) (options : Options) (lookup : Lookup) where
   abbrev pub noded : BlockKind → (start end : ℕ) → BlockDocument → Level → Level
   noded kind start end tokens l = level_drawn (Node (node kind start end) tokens Nil) l
 
-  leaf-left : (leaf : Leaf) (left : ℕ) (q : Level) (outer : List OpenContainer) (bare : Bool) (n : ℕ) → close_leaf text options lookup (leaf_left leaf left) (pass_with q outer bare (leaf_left leaf left) n) ≡ pass_with q outer bare Closed n
-  leaf-left ThematicBreak left q outer bare n = refl
-  leaf-left (AtxHeading level) left q outer bare n = refl
-  leaf-left IndentedCode left q outer bare n = refl
-  leaf-left (FencedCode fence) left q outer bare n = refl
-  leaf-left (HtmlBlock kind) left q outer bare n = refl
-  leaf-left (MetadataBlock kind) left q outer bare n = refl
-  leaf-left (Table alignments) left q outer bare n = refl
-  leaf-left (LinkDefinition definition) left q outer bare n = refl
+  -- a leaf of which no line is left
+  pub leaf-left : (leaf : Leaf) (first : Row) (had following : List Row) (left : ℕ) (ahead : List Row) (q : Level) (outer : List OpenContainer) (bare : Bool) (n : ℕ) → following ≡ [] → FitsLeaf options leaf first had left ahead n
+      → close_leaf text options lookup (leaf_left leaf had left) (pass_with (leaf_open text options lookup leaf first had following q) outer bare (leaf_left leaf had left) n) ≡ pass_with (leaf_level text options lookup leaf first had q) outer bare Closed n
+  leaf-left leaf first had following left ahead q outer bare n none f = go leaf f
+    where
+      all : (leaf : Leaf) → pass_with (leaf_level text options lookup leaf first (had ++ following) q) outer bare Closed n ≡ pass_with (leaf_level text options lookup leaf first had q) outer bare Closed n
+      all leaf = ap (λ h. pass_with (leaf_level text options lookup leaf first h q) outer bare Closed n) (ap (λ x. had ++ x) none ∙ append-nil had)
+
+      table : (alignments : List Alignment) (rs : List Row) → close_leaf text options lookup (table_leaf (length alignments) rs) (pass_with (table_open text options lookup alignments first had q) outer bare (table_leaf (length alignments) rs) n)
+          ≡ pass_with (noded (document.Table alignments) (start_of first) n (table_tokens text (length alignments) first had) (begun q)) outer bare Closed n
+      table alignments [] = refl
+      table alignments (r ∷ rs) = refl
+
+      go : (leaf : Leaf) → FitsLeaf options leaf first had left ahead n
+          → close_leaf text options lookup (leaf_left leaf had left) (pass_with (leaf_open text options lookup leaf first had following q) outer bare (leaf_left leaf had left) n) ≡ pass_with (leaf_level text options lookup leaf first had q) outer bare Closed n
+      go ThematicBreak f = all ThematicBreak
+      go (AtxHeading level) f = all (AtxHeading level)
+      go IndentedCode f = all IndentedCode
+      go (FencedCode fence) f = all (FencedCode fence)
+      go (HtmlBlock kind) f = all (HtmlBlock kind)
+      go (MetadataBlock kind) f = all (MetadataBlock kind)
+      go (LinkDefinition definition) f = all (LinkDefinition definition)
+      go (Table alignments) f =
+          table alignments had
+          ∙ ap (λ m. pass_with (noded (document.Table alignments) (start_of first) m (table_tokens text (length alignments) first had) (begun q)) outer bare Closed n) (sym f.0)
 
   replay-nil : (b : Blocks) (l : Level) → replay text options lookup (join_blocks b NoBlocks) l ≡ replay text options lookup b l
   replay-nil b l = replay-join text options lookup b NoBlocks l
@@ -96,7 +114,7 @@ module _ (text : List ℕ) (options : Options) (lookup : Lookup) where
       ∙ ap (λ m. pass_with (noded (document.MetadataBlock kind) (start_of first) m (code_tokens text 0 (lines_before (ends_metadata kind) had)) (begun c)) outer bare Closed n) (sym f.1)
       ∙ ap (λ q. pass_with q outer bare Closed n) (sym (ap (λ w. replay text options lookup (join_blocks x (blank_lines w)) l) f.0 ∙ replay-nil x l ∙ replay-join text options lookup closed (LeafBlock (MetadataBlock kind) first had NoBlocks) l))
 
-  pub leaf-closes : (o : OpenLines) (b : Bool) (n : ℕ) (l : Level) (outer : List OpenContainer) (bare : Bool) → Fits b o [] n
+  pub leaf-closes : (o : OpenLines) (b : Bool) (n : ℕ) (l : Level) (outer : List OpenContainer) (bare : Bool) → Fits options b o [] n
       → close_leaf text options lookup (leaf_at text options lookup o) (pass_with (inner_at text options lookup o [] l) outer bare (leaf_at text options lookup o) n) ≡ pass_with (inner_closed o l) outer bare Closed n
   leaf-closes (Between closed) b n l outer bare f = refl
   leaf-closes AfterTag b n l outer bare f = refl
@@ -106,15 +124,14 @@ module _ (text : List ℕ) (options : Options) (lookup : Lookup) where
       ∙ ap (λ t. pass_with (noded document.Paragraph (start_of first) (last_line_end first more) t (paragraph_begun c)) outer bare Closed n) (sym (drawn-tokens text options lookup (start_of first) first more))
       ∙ ap (λ q. pass_with q outer bare Closed n) (sym (replay-join text options lookup closed (Paragraph first more NoBlocks) l))
   leaf-closes (InLeaf closed leaf first had left) b n l outer bare f =
-      leaf-left leaf left (leaf_level text options lookup leaf first (had ++ take left []) (replay text options lookup closed l)) outer bare n
-      ∙ ap (λ h. pass_with (leaf_level text options lookup leaf first h (replay text options lookup closed l)) outer bare Closed n) (ap (λ t. had ++ t) (take-none left) ∙ append-nil had)
+      leaf-left leaf first had (take left []) left [] (replay text options lookup closed l) outer bare n (take-none left) f.3
       ∙ ap (λ q. pass_with q outer bare Closed n) (sym (replay-join text options lookup closed (LeafBlock leaf first had NoBlocks) l))
   leaf-closes (InVerbatim closed verbatim first had waiting) b n l outer bare f = verbatim-closes verbatim closed first had waiting n l outer bare f.1
   leaf-closes (InContainer closed k first more inside) b n l outer bare f =
       leaf-closes inside (bare_after (is_bare_start k first) more) n (entered k first (replay text options lookup closed l)) outer bare f.2
 
   -- all containers closed
-  pub containers-close : (o : OpenLines) (b : Bool) (n : ℕ) (l : Level) (outer : List OpenContainer) (bare : Bool) → Fits b o [] n
+  pub containers-close : (o : OpenLines) (b : Bool) (n : ℕ) (l : Level) (outer : List OpenContainer) (bare : Bool) → Fits options b o [] n
       → containers_closed text options lookup outer (containers_at text options lookup o l) (pass_with (inner_closed o l) (outer ++ containers_at text options lookup o l) bare Closed n) ≡ pass_with (replay text options lookup (close_lines o) l) outer bare Closed n
   containers-close (Between closed) b n l outer bare f = ap (λ o. pass_with (replay text options lookup closed l) o bare Closed n) (append-nil outer)
   containers-close AfterTag b n l outer bare f = ap (λ o. pass_with l o bare Closed n) (append-nil outer)

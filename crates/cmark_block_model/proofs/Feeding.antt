@@ -1,9 +1,12 @@
 -- Another line after the open block of the innermost container.
-use Rattle.std.proofs.Common.{◌≡◌, ℕ, zero, suc, Bool, true, false, ◌==◌, List, [], ◌∷◌, ◌++◌, take, refl, ap, ◌∙◌, sym, append_assoc, append-nil, Option, Some, None, arith}
+use Rattle.std.proofs.Common.{◌≡◌, ℕ, zero, suc, ◌-◌, Bool, true, false, ◌==◌, List, [], ◌∷◌, ◌++◌, length, take, refl, ap, ◌∙◌, sym, append_assoc, append-nil, Option, Some, None, arith}
 use Rattle.std.specs.Prelude.{if◌then◌else◌}
 use Rattle.cmark_grammar.specs.Answers.{Lookup}
 use Rattle.cmark_grammar.specs.SetextAttributes.{content_of, without_braces, setext_attributes}
 use Rattle.cmark_grammar.specs.Options.{Options}
+use Rattle.cmark_grammar.specs.Alignment.{Alignment}
+use Rattle.cmark_grammar.specs.TableRows.{count_missing, most_filled}
+use Rattle.cmark_grammar.specs.TableTokens.{row_cells, row_tokens}
 use Rattle.cmark_grammar.specs.Rows.{Row, begin_of, start_of}
 use Rattle.cmark_grammar.specs.Leaves.{underlines}
 use Rattle.cmark_grammar.specs.Openings.{Leaf, ThematicBreak, AtxHeading, IndentedCode, FencedCode, HtmlBlock, LinkDefinition, texts, MetadataBlock, Table}
@@ -11,12 +14,12 @@ use Rattle.cmark_grammar.specs.Blocks.{Blocks, Nil as NoBlocks, Paragraph, Setex
 use Rattle.cmark_block_model.specs.BlocksByLine.{Between, InParagraph, InLeaf, lines_underline_or, lines_go_on_or, lines_begin, lines_feed}
 use Rattle.cmark_grammar.specs.Tokens.{stretch_then, paragraph_tokens}
 use Rattle.cmark_grammar.specs.BlockDocument as document
-use Rattle.cmark_grammar.specs.BlockDocument.{BlockDocument, Nil, join}
+use Rattle.cmark_grammar.specs.BlockDocument.{BlockDocument, Nil, Node, node, join}
 use Rattle.cmark_block_model.specs.OpenBlocks.{OpenContainer, OpenLeaf, Closed, InParagraph as InParagraphLeaf, InDefinition, InTable, Pass}
-use Rattle.cmark_block_model.specs.BlockPass.{ahead_in, begin, leaf_closed, leaf_fed, underlined_or, heading_made, kept_lines, paragraph_line}
-use Rattle.cmark_block_model.proofs.Replay.{Level, paragraph_begun, untitled, level_opened, level_drawn, leaf_level, replay, replay-join}
-use Rattle.cmark_block_model.proofs.Mirror.{whole, kept_before, kept_push, attributes-kept, braces-kept, whole-same, last_of, last_push, last_begin, begin_push, pass_with, leaf_left, is_looked_up, Fits, lines_drawn, drawn-tokens, one_more, drawn-push, paragraph_open, paragraph_leaf, inner_at, leaf_at, pass_at}
-use Rattle.cmark_block_model.proofs.Closing.{noded, leaf-closes}
+use Rattle.cmark_block_model.specs.BlockPass.{ahead_in, begin, close_leaf, leaf_closed, leaf_fed, underlined_or, heading_made, kept_lines, paragraph_line, table_row}
+use Rattle.cmark_block_model.proofs.Replay.{Level, begun, paragraph_begun, untitled, level_opened, level_drawn, leaf_level, replay, replay-join}
+use Rattle.cmark_block_model.proofs.Mirror.{whole, kept_before, kept_push, attributes-kept, braces-kept, whole-same, last_of, last_push, last_begin, begin_push, pass_with, cells_left, left-push, table_leaf, leaf_left, is_looked_up, lines_left, row-taken, no-row, FitsLeaf, Fits, lines_drawn, drawn-tokens, one_more, drawn-push, paragraph_open, paragraph_leaf, rows-push, table_open, leaf_open, inner_at, leaf_at, pass_at}
+use Rattle.cmark_block_model.proofs.Closing.{noded, leaf-closes, leaf-left}
 use Rattle.cmark_block_model.proofs.Beginning.{IsFresh, starts}
 use Rattle.cmark_block_model.proofs.ListDelimiters.{Unmarked, unmarked-join}
 
@@ -53,7 +56,7 @@ module _ (text : List ℕ) (options : Options) (lookup : Lookup) where
       go false = refl
 
   pub paragraph-feeds : (closed : Blocks) (first : Row) (more : List Row) (r : Row) (next ahead : List Row) (l : Level) (outer : List OpenContainer) (b : Bool) (n : ℕ) → r.lazy ≡ false → ahead_in text options lookup outer next ≡ ahead
-      → IsFresh text options lookup l → Unmarked closed → Fits b (InParagraph closed first more) (r ∷ ahead) n
+      → IsFresh text options lookup l → Unmarked closed → Fits options b (InParagraph closed first more) (r ∷ ahead) n
       → leaf_fed text options lookup (leaf_at text options lookup (InParagraph closed first more)) r next (pass_with (inner_at text options lookup (InParagraph closed first more) (r ∷ ahead) l) outer false (leaf_at text options lookup (InParagraph closed first more)) n)
       ≡ pass_at text options lookup (lines_feed options (InParagraph closed first more) r ahead) ahead l outer false n
   paragraph-feeds closed first more r next ahead l outer b n e a h u f = go (underlines r)
@@ -93,41 +96,84 @@ module _ (text : List ℕ) (options : Options) (lookup : Lookup) where
           ap (λ x. if texts options r x then paragraph_line text options lookup (kept_before options.heading_attributes first more) from (whole (last_of first more)) r p else begin text options lookup r next (leaf_closed text options lookup p)) a
           ∙ text-goes (texts options r ahead)
 
+  -- a table continues with a row
+  table-goes : (alignments : List Alignment) (first : Row) (had : List Row) (left : ℕ) (r : Row) (next ahead : List Row) (q : Level) (outer : List OpenContainer) (n : ℕ) → suc left ≡ lines_left options (length alignments) had (r ∷ ahead)
+      → leaf_fed text options lookup (table_leaf (length alignments) had) r next (pass_with (table_open text options lookup alignments first had q) outer false (table_leaf (length alignments) had) n)
+      ≡ pass_with (table_open text options lookup alignments first (had ++ r ∷ []) q) outer false (table_leaf (length alignments) (had ++ r ∷ [])) n
+  table-goes alignments first [] left r next ahead q outer n e = refl
+  table-goes alignments first (delimiter ∷ rows) left r next ahead q outer n e =
+      ap (λ z. if z then goes (join (row_tokens text columns rows) (row_tokens text columns (r ∷ []))) (cells - count_missing columns r) else begin text options lookup r next (leaf_closed text options lookup p)) (row-taken options columns cells left r ahead e).0
+      ∙ ap (λ d. goes d (cells - count_missing columns r)) (sym (rows-push text options lookup columns rows r))
+      ∙ ap (goes (row_tokens text columns (rows ++ r ∷ []))) (sym (left-push columns most_filled rows r))
+    where
+      columns : ℕ
+      columns = length alignments
+
+      cells : ℕ
+      cells = cells_left (length alignments) most_filled rows
+
+      p : Pass
+      p = pass_with (table_open text options lookup alignments first (delimiter ∷ rows) q) outer false (InTable (length alignments) (cells_left (length alignments) most_filled rows) true) n
+
+      goes : BlockDocument → ℕ → Pass
+      goes d k =
+          pass_with (level_drawn (Node (node document.TableHead (start_of first) first.line_end) (row_cells text (length alignments) first) d) (level_opened (start_of first) (document.Table alignments) (begun q)))
+          outer false (InTable (length alignments) k true) n
+
   pub leaf-feeds : (closed : Blocks) (leaf : Leaf) (first : Row) (had : List Row) (left : ℕ) (r : Row) (next ahead : List Row) (l : Level) (outer : List OpenContainer) (b : Bool) (n : ℕ) → r.lazy ≡ false → ahead_in text options lookup outer next ≡ ahead
-      → IsFresh text options lookup l → Unmarked closed → Fits b (InLeaf closed leaf first had left) (r ∷ ahead) n
-      → leaf_fed text options lookup (leaf_left leaf left) r next (pass_with (inner_at text options lookup (InLeaf closed leaf first had left) (r ∷ ahead) l) outer false (leaf_left leaf left) n)
+      → IsFresh text options lookup l → Unmarked closed → Fits options b (InLeaf closed leaf first had left) (r ∷ ahead) n
+      → leaf_fed text options lookup (leaf_left leaf had left) r next (pass_with (inner_at text options lookup (InLeaf closed leaf first had left) (r ∷ ahead) l) outer false (leaf_left leaf had left) n)
       ≡ pass_at text options lookup (lines_feed options (InLeaf closed leaf first had left) r ahead) ahead l outer false n
   leaf-feeds closed leaf first had zero r next ahead l outer b n e a h u f =
-      done leaf (leaf_level text options lookup leaf first (had ++ []) (replay text options lookup closed l))
-      ∙ ap (λ h. begin text options lookup r next (pass_with (leaf_level text options lookup leaf first h (replay text options lookup closed l)) outer false Closed n)) (append-nil had)
+      done leaf f.3 (leaf_open text options lookup leaf first had [] (replay text options lookup closed l))
+      ∙ ap (begin text options lookup r next) (leaf-left text options lookup leaf first had [] zero (r ∷ ahead) (replay text options lookup closed l) outer false n refl f.3)
       ∙ ap (λ q. begin text options lookup r next (pass_with q outer false Closed n)) (sym (replay-join text options lookup closed (LeafBlock leaf first had NoBlocks) l))
       ∙ starts text options lookup (join_blocks closed (LeafBlock leaf first had NoBlocks)) r next ahead l outer n h (unmarked-join closed (LeafBlock leaf first had NoBlocks) u tt) e a
     where
-      done : (leaf : Leaf) (q : Level) → leaf_fed text options lookup (leaf_left leaf zero) r next (pass_with q outer false (leaf_left leaf zero) n) ≡ begin text options lookup r next (pass_with q outer false Closed n)
-      done ThematicBreak q = refl
-      done (AtxHeading level) q = refl
-      done IndentedCode q = refl
-      done (FencedCode fence) q = refl
-      done (HtmlBlock kind) q = refl
-      done (LinkDefinition definition) q = refl
-      done (MetadataBlock kind) q = refl
-      done (Table alignments) q = refl
-  leaf-feeds closed leaf first had (suc left) r next ahead l outer b n e a h u f = go leaf f.2
+      Done : Leaf → Level → Type 0
+      Done leaf q =
+          leaf_fed text options lookup (leaf_left leaf had zero) r next (pass_with q outer false (leaf_left leaf had zero) n)
+          ≡ begin text options lookup r next (close_leaf text options lookup (leaf_left leaf had zero) (pass_with q outer false (leaf_left leaf had zero) n))
+
+      table : (alignments : List Alignment) (rs : List Row) (q : Level) → 0 ≡ lines_left options (length alignments) rs (r ∷ ahead)
+          → leaf_fed text options lookup (table_leaf (length alignments) rs) r next (pass_with q outer false (table_leaf (length alignments) rs) n)
+          ≡ begin text options lookup r next (close_leaf text options lookup (table_leaf (length alignments) rs) (pass_with q outer false (table_leaf (length alignments) rs) n))
+      table alignments [] q none = absurd (omega (arith, none))
+      table alignments (delimiter ∷ rows) q none =
+          let columns = length alignments in
+          let cells = cells_left columns most_filled rows in
+          let p = pass_with q outer false (InTable columns cells true) n in
+          ap (λ z. if z then table_row text options lookup columns cells r p else begin text options lookup r next (leaf_closed text options lookup p)) (no-row options columns cells r ahead none)
+
+      done : (leaf : Leaf) → FitsLeaf options leaf first had zero (r ∷ ahead) n → (q : Level) → Done leaf q
+      done ThematicBreak f q = refl
+      done (AtxHeading level) f q = refl
+      done IndentedCode f q = refl
+      done (FencedCode fence) f q = refl
+      done (HtmlBlock kind) f q = refl
+      done (LinkDefinition definition) f q = refl
+      done (MetadataBlock kind) f q = refl
+      done (Table alignments) f q = table alignments had q f.1
+  leaf-feeds closed leaf first had (suc left) r next ahead l outer b n e a h u f = go leaf f.2 f.3
     where
       none : {A : Type 0} → suc left ≡ 0 → A
       none q = absurd (omega (arith, q))
 
-      go : (leaf : Leaf) → (is_looked_up leaf ≡ false → suc left ≡ 0) → leaf_fed text options lookup (leaf_left leaf (suc left)) r next (pass_with (leaf_level text options lookup leaf first (had ++ take (suc left) (r ∷ ahead)) (replay text options lookup closed l)) outer false (leaf_left leaf (suc left)) n)
-          ≡ pass_with (leaf_level text options lookup leaf first ((had ++ r ∷ []) ++ take left ahead) (replay text options lookup closed l)) (outer ++ []) false (leaf_left leaf left) n
-      go ThematicBreak h = none (h refl)
-      go (AtxHeading level) h = none (h refl)
-      go IndentedCode h = none (h refl)
-      go (FencedCode fence) h = none (h refl)
-      go (HtmlBlock kind) h = none (h refl)
-      go (MetadataBlock kind) h = none (h refl)
-      go (LinkDefinition definition) h =
+      end : (q : Level) (o : OpenLeaf) → pass_with q outer false o n ≡ pass_with q (outer ++ []) false o n
+      end q o = ap (λ x. pass_with q x false o n) (sym (append-nil outer))
+
+      go : (leaf : Leaf) → (is_looked_up leaf ≡ false → suc left ≡ 0) → FitsLeaf options leaf first had (suc left) (r ∷ ahead) n
+          → leaf_fed text options lookup (leaf_left leaf had (suc left)) r next (pass_with (leaf_open text options lookup leaf first had (take (suc left) (r ∷ ahead)) (replay text options lookup closed l)) outer false (leaf_left leaf had (suc left)) n)
+          ≡ pass_with (leaf_open text options lookup leaf first (had ++ r ∷ []) (take left ahead) (replay text options lookup closed l)) (outer ++ []) false (leaf_left leaf (had ++ r ∷ []) left) n
+      go ThematicBreak h f = none (h refl)
+      go (AtxHeading level) h f = none (h refl)
+      go IndentedCode h f = none (h refl)
+      go (FencedCode fence) h f = none (h refl)
+      go (HtmlBlock kind) h f = none (h refl)
+      go (MetadataBlock kind) h f = none (h refl)
+      go (LinkDefinition definition) h f =
           ap (λ x. pass_with (leaf_level text options lookup (LinkDefinition definition) first x (replay text options lookup closed l)) outer false (InDefinition left) n) (sym (append_assoc had (r ∷ []) (take left ahead)))
-          ∙ ap (λ o. pass_with (leaf_level text options lookup (LinkDefinition definition) first ((had ++ r ∷ []) ++ take left ahead) (replay text options lookup closed l)) o false (InDefinition left) n) (sym (append-nil outer))
-      go (Table alignments) h =
-          ap (λ x. pass_with (leaf_level text options lookup (Table alignments) first x (replay text options lookup closed l)) outer false (InTable left) n) (sym (append_assoc had (r ∷ []) (take left ahead)))
-          ∙ ap (λ o. pass_with (leaf_level text options lookup (Table alignments) first ((had ++ r ∷ []) ++ take left ahead) (replay text options lookup closed l)) o false (InTable left) n) (sym (append-nil outer))
+          ∙ end (leaf_level text options lookup (LinkDefinition definition) first ((had ++ r ∷ []) ++ take left ahead) (replay text options lookup closed l)) (InDefinition left)
+      go (Table alignments) h f =
+          table-goes alignments first had left r next ahead (replay text options lookup closed l) outer n f.1
+          ∙ end (table_open text options lookup alignments first (had ++ r ∷ []) (replay text options lookup closed l)) (table_leaf (length alignments) (had ++ r ∷ []))

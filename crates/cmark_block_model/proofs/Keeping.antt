@@ -8,7 +8,8 @@ use Rattle.cmark_grammar.specs.Rows.{Row, lazy_row, show_as}
 use Rattle.cmark_grammar.specs.Leaves.{Continuation, GoesOn, Closes, Waits, Stops, underlines, code_continuation, closes_fence}
 use Rattle.cmark_grammar.specs.HtmlBlocks.{html_continuation}
 use Rattle.cmark_grammar.specs.Containers.{Container, keeps, strip, is_bare_start, bare_after}
-use Rattle.cmark_grammar.specs.Openings.{texts, lazily}
+use Rattle.cmark_grammar.specs.Openings.{Leaf, ThematicBreak, AtxHeading, IndentedCode, FencedCode, HtmlBlock, LinkDefinition, MetadataBlock, Table, texts, lazily, count_rows}
+use Rattle.cmark_grammar.specs.TableRows.{most_filled}
 use Rattle.cmark_grammar.specs.Blocks.{Blocks, Nil as NoBlocks, Paragraph, SetextHeading, LeafBlock, ContainerBlock, join as join_blocks}
 use Rattle.cmark_block_model.specs.BlocksModel.{within}
 use Rattle.cmark_block_model.specs.BlocksByLine.{Verbatim, Indented, Fenced, HtmlLines, continuation_in, continuation_if, OpenLines, Between, AfterTag, InParagraph, InLeaf, InVerbatim, InContainer, close_lines, lines_take_lazy, lines_underline_or, lines_go_on_or, lines_kept_or, verbatim_line, lines_begin, lines_feed, Metadata}
@@ -16,7 +17,7 @@ use Rattle.cmark_grammar.specs.Metadata.{ends_metadata}
 use Rattle.cmark_block_model.proofs.BlockLaws.{strip_lazy, strip_whole}
 use Rattle.cmark_block_model.proofs.BlocksSound.{bare_push, is_both}
 use Rattle.cmark_block_model.proofs.RowPlaces.{strip-line_end}
-use Rattle.cmark_block_model.proofs.Mirror.{line_end_push, AreBefore, FitsVerbatim, Fits}
+use Rattle.cmark_block_model.proofs.Mirror.{line_end_push, cells_left, left-push, row-taken, AreBefore, FitsLeaf, FitsVerbatim, Fits}
 use Rattle.cmark_block_model.proofs.Beginning.{starts-fit, starts-fit-at}
 use Rattle.cmark_block_model.proofs.LazyLines.{lazy-begins-at, lazy-begins, lazy-paragraph, lazy-container}
 use Rattle.cmark_block_model.proofs.VerbatimLines.{had-more, never-waits}
@@ -33,81 +34,98 @@ pub off-ahead : (options : Options) (k : Container) (b : Bool) (r : Row) (ahead 
 off-ahead options k b r ahead q = ap (λ s. show_as s.lazy s (within k false ahead)) (strip_lazy options k b r q)
 
 module _ (text : List ℕ) (options : Options) (lookup : Lookup) where
-  container-fits : (closed : Blocks) (k : Container) (first : Row) (more : List Row) (s : Row) (i : OpenLines) (ahead : List Row) (n : ℕ) → s.line_end ≡ n → Fits false i (within k false ahead) n → Fits false (InContainer closed k first (more ++ s ∷ []) i) ahead n
+  container-fits : (closed : Blocks) (k : Container) (first : Row) (more : List Row) (s : Row) (i : OpenLines) (ahead : List Row) (n : ℕ) → s.line_end ≡ n → Fits options false i (within k false ahead) n → Fits options false (InContainer closed k first (more ++ s ∷ []) i) ahead n
   container-fits closed k first more s i ahead n e f =
-      (refl, line_end_push first more s ∙ e, subst (λ z. Fits z i (within k z ahead) n) (sym (bare_push options (is_bare_start k first) more s)) f)
+      (refl, line_end_push first more s ∙ e, subst (λ z. Fits options z i (within k z ahead) n) (sym (bare_push options (is_bare_start k first) more s)) f)
 
-  lazy-fits : (o : OpenLines) (b : Bool) (r : Row) (ahead x : List Row) (j : Container) (n : ℕ) → Fits b o [] n → lines_take_lazy o ≡ true → lazily options j r x ≡ true → Fits false (lines_feed options o (lazy_row r) ahead) ahead r.line_end
+  lazy-fits : (o : OpenLines) (b : Bool) (r : Row) (ahead x : List Row) (j : Container) (n : ℕ) → Fits options b o [] n → lines_take_lazy o ≡ true → lazily options j r x ≡ true → Fits options false (lines_feed options o (lazy_row r) ahead) ahead r.line_end
   lazy-fits (Between closed) b r ahead x j n f t z = absurd (true≢false (sym t))
-  lazy-fits AfterTag b r ahead x j n f t z = subst (λ o. Fits false o ahead r.line_end) (sym (lazy-begins-at options AfterLazy NoBlocks r ahead)) (refl, refl)
+  lazy-fits AfterTag b r ahead x j n f t z = subst (λ o. Fits options false o ahead r.line_end) (sym (lazy-begins-at options AfterLazy NoBlocks r ahead)) (refl, refl)
   lazy-fits (InParagraph closed first more) b r ahead x j n f t z =
-      subst (λ o. Fits false o ahead r.line_end) (sym (lazy-paragraph options closed first more r ahead x j z)) (refl, line_end_push first more (lazy_row r))
+      subst (λ o. Fits options false o ahead r.line_end) (sym (lazy-paragraph options closed first more r ahead x j z)) (refl, line_end_push first more (lazy_row r))
   lazy-fits (InLeaf closed leaf first had zero) b r ahead x j n f t z =
-      subst (λ o. Fits false o ahead r.line_end) (sym (lazy-begins options (join_blocks closed (LeafBlock leaf first had NoBlocks)) r ahead)) (refl, refl)
+      subst (λ o. Fits options false o ahead r.line_end) (sym (lazy-begins options (join_blocks closed (LeafBlock leaf first had NoBlocks)) r ahead)) (refl, refl)
   lazy-fits (InLeaf closed leaf first had (suc left)) b r ahead x j n f t z = absurd (let le : suc left ≤ 0 = f.1 in omega (arith, le))
   lazy-fits (InVerbatim closed verbatim first had waiting) b r ahead x j n f t z = absurd (true≢false (sym t))
   lazy-fits (InContainer closed k first more inside) b r ahead x j n f t z =
-      subst (λ o. Fits false o ahead r.line_end) (sym (lazy-container options closed k first more inside r ahead x j z t))
+      subst (λ o. Fits options false o ahead r.line_end) (sym (lazy-container options closed k first more inside r ahead x j z t))
       (container-fits closed k first more (lazy_row r) (lines_feed options inside (lazy_row r) (within k false ahead)) ahead r.line_end refl (lazy-fits inside (bare_after (is_bare_start k first) more) r (within k false ahead) x j n f.2 t z))
 
   verbatim-fits : (v : Verbatim) (closed : Blocks) (first : Row) (had waiting : List Row) (r : Row) (ahead : List Row) (b : Bool) (n : ℕ) → r.lazy ≡ false → FitsVerbatim v first had waiting n
-      → Fits false (verbatim_line (continuation_in v r) closed v first had waiting r (lines_begin options (close_lines (InVerbatim closed v first had waiting)) r ahead)) ahead r.line_end
+      → Fits options false (verbatim_line (continuation_in v r) closed v first had waiting r (lines_begin options (close_lines (InVerbatim closed v first had waiting)) r ahead)) ahead r.line_end
   verbatim-fits Indented closed first had waiting r ahead b n e f = go (code_continuation r)
     where
-      go : (z : Continuation) → Fits false (verbatim_line z closed Indented first had waiting r (lines_begin options (close_lines (InVerbatim closed Indented first had waiting)) r ahead)) ahead r.line_end
+      go : (z : Continuation) → Fits options false (verbatim_line z closed Indented first had waiting r (lines_begin options (close_lines (InVerbatim closed Indented first had waiting)) r ahead)) ahead r.line_end
       go GoesOn = (refl, tt)
-      go Closes = (refl, omega arith, λ never. refl)
+      go Closes = (refl, omega arith, λ never. refl, tt)
       go Waits = (refl, tt)
       go Stops = starts-fit text options lookup (close_lines (InVerbatim closed Indented first had waiting)) r ahead e
   verbatim-fits (Fenced fence) closed first had waiting r ahead b n e f = go (closes_fence fence r) refl
     where
-      go : (z : Bool) → closes_fence fence r ≡ z → Fits false (verbatim_line (if z then Closes else GoesOn) closed (Fenced fence) first had waiting r (lines_begin options (close_lines (InVerbatim closed (Fenced fence) first had waiting)) r ahead)) ahead r.line_end
-      go true q = (refl, omega arith, λ never. refl)
+      go : (z : Bool) → closes_fence fence r ≡ z → Fits options false (verbatim_line (if z then Closes else GoesOn) closed (Fenced fence) first had waiting r (lines_begin options (close_lines (InVerbatim closed (Fenced fence) first had waiting)) r ahead)) ahead r.line_end
+      go true q = (refl, omega arith, λ never. refl, tt)
       go false q = (refl, (refl, line_end_push first (had ++ waiting) r, subst (AreBefore (closes_fence fence)) (sym (had-more text options lookup had waiting r f.0)) (before-push (closes_fence fence) had r f.2 q)))
   verbatim-fits (HtmlLines kind) closed first had waiting r ahead b n e f = go (html_continuation kind r) refl
     where
-      go : (z : Continuation) → html_continuation kind r ≡ z → Fits false (verbatim_line z closed (HtmlLines kind) first had waiting r (lines_begin options (close_lines (InVerbatim closed (HtmlLines kind) first had waiting)) r ahead)) ahead r.line_end
+      go : (z : Continuation) → html_continuation kind r ≡ z → Fits options false (verbatim_line z closed (HtmlLines kind) first had waiting r (lines_begin options (close_lines (InVerbatim closed (HtmlLines kind) first had waiting)) r ahead)) ahead r.line_end
       go GoesOn q = (refl, (refl, line_end_push first (had ++ waiting) r))
-      go Closes q = (refl, omega arith, λ never. refl)
+      go Closes q = (refl, omega arith, λ never. refl, tt)
       go Waits q = absurd (never-waits text options lookup kind r q)
       go Stops q = starts-fit text options lookup (close_lines (InVerbatim closed (HtmlLines kind) first had waiting)) r ahead e
   verbatim-fits (Metadata kind) closed first had waiting r ahead b n e f = go (ends_metadata kind r) refl
     where
-      go : (z : Bool) → ends_metadata kind r ≡ z → Fits false (verbatim_line (if z then Closes else GoesOn) closed (Metadata kind) first had waiting r (lines_begin options (close_lines (InVerbatim closed (Metadata kind) first had waiting)) r ahead)) ahead r.line_end
-      go true q = (refl, omega arith, λ never. refl)
+      go : (z : Bool) → ends_metadata kind r ≡ z → Fits options false (verbatim_line (if z then Closes else GoesOn) closed (Metadata kind) first had waiting r (lines_begin options (close_lines (InVerbatim closed (Metadata kind) first had waiting)) r ahead)) ahead r.line_end
+      go true q = (refl, omega arith, λ never. refl, tt)
       go false q = (refl, (refl, line_end_push first (had ++ waiting) r, subst (AreBefore (ends_metadata kind)) (sym (had-more text options lookup had waiting r f.0)) (before-push (ends_metadata kind) had r f.2 q)))
 
-  pub feed-fits : (o : OpenLines) (b : Bool) (r : Row) (ahead : List Row) (n : ℕ) → r.lazy ≡ false → Fits b o (r ∷ ahead) n → Fits false (lines_feed options o r ahead) ahead r.line_end
+  -- a line of a leaf leaves one line fewer to come
+  leaf-fits : (leaf : Leaf) (first : Row) (had : List Row) (left : ℕ) (r : Row) (ahead : List Row) (n : ℕ) → FitsLeaf options leaf first had (suc left) (r ∷ ahead) n → FitsLeaf options leaf first (had ++ r ∷ []) left ahead r.line_end
+  leaf-fits ThematicBreak first had left r ahead n f = tt
+  leaf-fits (AtxHeading level) first had left r ahead n f = tt
+  leaf-fits IndentedCode first had left r ahead n f = tt
+  leaf-fits (FencedCode fence) first had left r ahead n f = tt
+  leaf-fits (HtmlBlock kind) first had left r ahead n f = tt
+  leaf-fits (MetadataBlock kind) first had left r ahead n f = tt
+  leaf-fits (LinkDefinition definition) first had left r ahead n f = tt
+  leaf-fits (Table alignments) first [] left r ahead n f = (refl, omega (arith, f.1))
+  leaf-fits (Table alignments) first (delimiter ∷ rows) left r ahead n f = (
+    line_end_push first (delimiter ∷ rows) r,
+    (row-taken options (length alignments) (cells_left (length alignments) most_filled rows) left r ahead f.1).1
+        ∙ ap (λ k. count_rows options (length alignments) k ahead) (sym (left-push (length alignments) most_filled rows r)),
+  )
+
+  pub feed-fits : (o : OpenLines) (b : Bool) (r : Row) (ahead : List Row) (n : ℕ) → r.lazy ≡ false → Fits options b o (r ∷ ahead) n → Fits options false (lines_feed options o r ahead) ahead r.line_end
   feed-fits (Between closed) b r ahead n e f = starts-fit text options lookup closed r ahead e
   feed-fits AfterTag b r ahead n e f = starts-fit-at text options lookup AfterLazy NoBlocks r ahead e
   feed-fits (InParagraph closed first more) b r ahead n e f = go (underlines r) (texts options r ahead)
     where
-      go : (u : Option ℕ) (z : Bool) → Fits false (lines_underline_or u (λ level. Between (join_blocks closed (SetextHeading level first more r NoBlocks))) (lines_go_on_or z (InParagraph closed first (more ++ r ∷ [])) (lines_begin options (join_blocks closed (Paragraph first more NoBlocks)) r ahead))) ahead r.line_end
+      go : (u : Option ℕ) (z : Bool) → Fits options false (lines_underline_or u (λ level. Between (join_blocks closed (SetextHeading level first more r NoBlocks))) (lines_go_on_or z (InParagraph closed first (more ++ r ∷ [])) (lines_begin options (join_blocks closed (Paragraph first more NoBlocks)) r ahead))) ahead r.line_end
       go (Some level) z = tt
       go None true = (refl, line_end_push first more r)
       go None false = starts-fit text options lookup (join_blocks closed (Paragraph first more NoBlocks)) r ahead e
   feed-fits (InLeaf closed leaf first had zero) b r ahead n e f = starts-fit text options lookup (join_blocks closed (LeafBlock leaf first had NoBlocks)) r ahead e
-  feed-fits (InLeaf closed leaf first had (suc left)) b r ahead n e f = let le : suc left ≤ suc (length ahead) = f.1 in (refl, omega (arith, le), λ z. let q : suc left ≡ 0 = f.2 z in absurd (omega (arith, q)))
+  feed-fits (InLeaf closed leaf first had (suc left)) b r ahead n e f =
+      let le : suc left ≤ suc (length ahead) = f.1 in (refl, omega (arith, le), λ z. let q : suc left ≡ 0 = f.2 z in absurd (omega (arith, q)), leaf-fits leaf first had left r ahead n f.3)
   feed-fits (InVerbatim closed v first had waiting) b r ahead n e f =
-      subst (λ z. Fits false (verbatim_line (continuation_if z v r) closed v first had waiting r (lines_begin options (close_lines (InVerbatim closed v first had waiting)) r ahead)) ahead r.line_end) (sym e) (verbatim-fits v closed first had waiting r ahead b n e f.1)
+      subst (λ z. Fits options false (verbatim_line (continuation_if z v r) closed v first had waiting r (lines_begin options (close_lines (InVerbatim closed v first had waiting)) r ahead)) ahead r.line_end) (sym e) (verbatim-fits v closed first had waiting r ahead b n e f.1)
   feed-fits (InContainer closed k first more inside) b r ahead n e f =
-      go (keeps k bare r) refl (lazily options k r ahead && lines_take_lazy inside) refl (λ s q. feed-fits inside bare (strip k bare r) (within k false ahead) n (strip_whole options k bare r s q) (subst (λ a. Fits bare inside a n) (kept-ahead options k bare r s ahead e q) inner))
+      go (keeps k bare r) refl (lazily options k r ahead && lines_take_lazy inside) refl (λ s q. feed-fits inside bare (strip k bare r) (within k false ahead) n (strip_whole options k bare r s q) (subst (λ a. Fits options bare inside a n) (kept-ahead options k bare r s ahead e q) inner))
     where
       bare : Bool
       bare = bare_after (is_bare_start k first) more
 
-      inner : Fits (bare_after (is_bare_start k first) more) inside (within k (bare_after (is_bare_start k first) more) (r ∷ ahead)) n
+      inner : Fits options (bare_after (is_bare_start k first) more) inside (within k (bare_after (is_bare_start k first) more) (r ∷ ahead)) n
       inner = f.2
 
-      on : Fits false (lines_feed options inside (strip k bare r) (within k false ahead)) (within k false ahead) r.line_end → Fits false (InContainer closed k first (more ++ r ∷ []) (lines_feed options inside (strip k bare r) (within k false ahead))) ahead r.line_end
+      on : Fits options false (lines_feed options inside (strip k bare r) (within k false ahead)) (within k false ahead) r.line_end → Fits options false (InContainer closed k first (more ++ r ∷ []) (lines_feed options inside (strip k bare r) (within k false ahead))) ahead r.line_end
       on i = container-fits closed k first more r (lines_feed options inside (strip k bare r) (within k false ahead)) ahead r.line_end refl i
 
       go : (o : Option Row) → keeps k bare r ≡ o → (z : Bool) → (lazily options k r ahead && lines_take_lazy inside) ≡ z
-          → ((s : Row) → keeps k bare r ≡ Some s → Fits false (lines_feed options inside (strip k bare r) (within k false ahead)) (within k false ahead) (strip k bare r).line_end)
-          → Fits false (lines_kept_or o z (InContainer closed k first (more ++ r ∷ []) (lines_feed options inside (strip k bare r) (within k false ahead))) (lines_begin options (join_blocks closed (ContainerBlock k first more (close_lines inside) NoBlocks)) r ahead)) ahead r.line_end
-      go (Some s) q z t ih = on (subst (λ m. Fits false (lines_feed options inside (strip k bare r) (within k false ahead)) (within k false ahead) m) (strip-line_end k bare r) (ih s q))
+          → ((s : Row) → keeps k bare r ≡ Some s → Fits options false (lines_feed options inside (strip k bare r) (within k false ahead)) (within k false ahead) (strip k bare r).line_end)
+          → Fits options false (lines_kept_or o z (InContainer closed k first (more ++ r ∷ []) (lines_feed options inside (strip k bare r) (within k false ahead))) (lines_begin options (join_blocks closed (ContainerBlock k first more (close_lines inside) NoBlocks)) r ahead)) ahead r.line_end
+      go (Some s) q z t ih = on (subst (λ m. Fits options false (lines_feed options inside (strip k bare r) (within k false ahead)) (within k false ahead) m) (strip-line_end k bare r) (ih s q))
       go None q true t ih =
           let p = is_both options (lazily options k r ahead) (lines_take_lazy inside) t in
-          on (subst (λ s. Fits false (lines_feed options inside s (within k false ahead)) (within k false ahead) r.line_end) (sym (strip_lazy options k bare r q))
-          (lazy-fits inside bare r (within k false ahead) ahead k n (subst (λ a. Fits bare inside a n) (off-ahead options k bare r ahead q) inner) p.1 p.0))
+          on (subst (λ s. Fits options false (lines_feed options inside s (within k false ahead)) (within k false ahead) r.line_end) (sym (strip_lazy options k bare r q))
+          (lazy-fits inside bare r (within k false ahead) ahead k n (subst (λ a. Fits options bare inside a n) (off-ahead options k bare r ahead q) inner) p.1 p.0))
       go None q false t ih = starts-fit text options lookup (join_blocks closed (ContainerBlock k first more (close_lines inside) NoBlocks)) r ahead e

@@ -59,7 +59,7 @@ module _ (text : List ℕ) (options : Options) (lookup : Lookup) where
       ap (λ o. pass_with (inner_at text options lookup i (within k false ahead) (entered k first c)) o (bare_at false i) (leaf_at text options lookup i) n) (append_assoc outer (v ∷ []) cs)
       ∙ ap (λ z. pass_with (inner_at text options lookup i (within k z ahead) (entered k first c)) (outer ++ v ∷ cs) (bare_at z i) (leaf_at text options lookup i) n) (sym (bare_push options (is_bare_start k first) more s))
 
-  pub lazy-feeds : (o : OpenLines) (b : Bool) (r : Row) (ahead x : List Row) (j : Container) (l : Level) (outer : List OpenContainer) (n : ℕ) → r.lazy ≡ false → Fits b o [] n → lines_take_lazy o ≡ true → lazily options j r x ≡ true
+  pub lazy-feeds : (o : OpenLines) (b : Bool) (r : Row) (ahead x : List Row) (j : Container) (l : Level) (outer : List OpenContainer) (n : ℕ) → r.lazy ≡ false → Fits options b o [] n → lines_take_lazy o ≡ true → lazily options j r x ≡ true
       → lazy_fed text options lookup (leaf_at text options lookup o) r (pass_with (inner_at text options lookup o [] l) (outer ++ containers_at text options lookup o l) false (leaf_at text options lookup o) n)
       ≡ pass_at text options lookup (lines_feed options o (lazy_row r) ahead) ahead l outer false n
   lazy-feeds (Between closed) b r ahead x j l outer n e f t z = absurd (true≢false (sym t))

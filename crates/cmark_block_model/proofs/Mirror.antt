@@ -1,20 +1,23 @@
 -- The pass as a function of the open blocks of the model: each field by the open lines and the lines ahead.
-use Rattle.std.proofs.Common.{◌≡◌, ℕ, ◌≤◌, Bool, true, false, ◌==◌, List, [], ◌∷◌, ◌++◌, length, take, refl, ap, ◌∙◌, sym}
+use Rattle.std.proofs.Common.{◌≡◌, ℕ, suc, ◌-◌, ◌≤◌, Bool, true, false, ◌==◌, List, [], ◌∷◌, ◌++◌, length, take, drop, refl, ap, ◌∙◌, sym, arith}
 use Rattle.std.specs.Prelude.{if◌then◌else◌}
 use Rattle.cmark_grammar.specs.Options.{Options}
 use Rattle.cmark_grammar.specs.Answers.{Lookup}
 use Rattle.cmark_grammar.specs.Rows.{Row, start_of, begin_of, last_line_end, first_place}
 use Rattle.cmark_grammar.specs.Leaves.{closes_fence}
 use Rattle.cmark_grammar.specs.Containers.{Container, is_bare_start, bare_after}
-use Rattle.cmark_grammar.specs.Openings.{Leaf, ThematicBreak, AtxHeading, IndentedCode, FencedCode, HtmlBlock, LinkDefinition, MetadataBlock, Table}
+use Rattle.cmark_grammar.specs.Openings.{Leaf, ThematicBreak, AtxHeading, IndentedCode, FencedCode, HtmlBlock, LinkDefinition, MetadataBlock, Table, count_rows}
+use Rattle.cmark_grammar.specs.Alignment.{Alignment}
+use Rattle.cmark_grammar.specs.TableRows.{count_missing, most_filled, one_more_if}
+use Rattle.cmark_grammar.specs.TableTokens.{row_cells, row_tokens, table_tokens}
 use Rattle.cmark_block_model.specs.BlocksModel.{within}
 use Rattle.cmark_block_model.specs.BlocksByLine.{Verbatim, Indented, Fenced, HtmlLines, OpenLines, Between, AfterTag, InParagraph, InLeaf, InVerbatim, InContainer, Metadata}
 use Rattle.cmark_grammar.specs.Tokens.{resolved, words_end, stretch_then, stretches, html_tokens, html_then, verbatim_line, code_columns}
 use Rattle.cmark_grammar.specs.SetextAttributes.{line_end_column, content_of, without_braces, setext_attributes}
 use Rattle.cmark_grammar.specs.BlockDocument as document
-use Rattle.cmark_grammar.specs.BlockDocument.{BlockDocument, Nil, join}
+use Rattle.cmark_grammar.specs.BlockDocument.{BlockDocument, Nil, Node, node, join}
 use Rattle.cmark_grammar.specs.Metadata.{ends_metadata}
-use Rattle.cmark_block_model.specs.BlockPass.{kept_lines}
+use Rattle.cmark_block_model.specs.BlockPass.{is_row, kept_lines}
 use Rattle.cmark_block_model.specs.CodeLines.{no_run, texts_of}
 use Rattle.cmark_block_model.specs.OpenBlocks.{OpenContainer, OpenLeaf, Closed, AfterTag as AfterTagLeaf, InParagraph as InParagraphLeaf, InDefinition, InIndented, InFenced, InHtml, Pass, InMetadata, InTable}
 use Rattle.cmark_block_model.proofs.PlainTokens.{stretch-join, html-join}
@@ -93,15 +96,29 @@ braces-kept text true first more d = ap (λ cs. without_braces text true cs d) (
 abbrev pub pass_with : Level → List OpenContainer → Bool → OpenLeaf → ℕ → Pass
 pass_with l outer bare leaf line_end = record { drawing = l.drawing; inner = l.inner; outer = outer; bare = bare; leaf = leaf; line_end = line_end; references = l.noted.references; footnotes = l.noted.footnotes }
 
-abbrev pub leaf_left : Leaf → ℕ → OpenLeaf
-leaf_left ThematicBreak left = Closed
-leaf_left (AtxHeading level) left = Closed
-leaf_left IndentedCode left = Closed
-leaf_left (FencedCode fence) left = Closed
-leaf_left (HtmlBlock kind) left = Closed
-leaf_left (MetadataBlock kind) left = Closed
-leaf_left (LinkDefinition definition) left = InDefinition left
-leaf_left (Table alignments) left = InTable left
+-- the number of cells that may still be filled in after these rows of a table with `columns` columns, if `left` may before them
+abbrev pub cells_left : (columns left : ℕ) → (rows : List Row) → ℕ
+cells_left columns left [] = left
+cells_left columns left (r ∷ rows) = cells_left columns (left - count_missing columns r) rows
+
+pub left-push : (columns left : ℕ) (rows : List Row) (r : Row) → cells_left columns left (rows ++ r ∷ []) ≡ cells_left columns left rows - count_missing columns r
+left-push columns left [] r = refl
+left-push columns left (s ∷ rows) r = left-push columns (left - count_missing columns s) rows r
+
+-- a table with `columns` columns after these lines, the first of which is the delimiter row
+abbrev pub table_leaf : (columns : ℕ) → (had : List Row) → OpenLeaf
+table_leaf columns [] = InTable columns most_filled false
+table_leaf columns (delimiter ∷ rows) = InTable columns (cells_left columns most_filled rows) true
+
+abbrev pub leaf_left : Leaf → (had : List Row) → (left : ℕ) → OpenLeaf
+leaf_left ThematicBreak had left = Closed
+leaf_left (AtxHeading level) had left = Closed
+leaf_left IndentedCode had left = Closed
+leaf_left (FencedCode fence) had left = Closed
+leaf_left (HtmlBlock kind) had left = Closed
+leaf_left (MetadataBlock kind) had left = Closed
+leaf_left (LinkDefinition definition) had left = InDefinition left
+leaf_left (Table alignments) had left = table_leaf (length alignments) had
 
 -- how many lines the leaf takes is looked up ahead
 abbrev pub is_looked_up : Leaf → Bool
@@ -135,14 +152,46 @@ FitsVerbatim (Fenced fence) first had waiting n = (waiting ≡ []) × (last_line
 FitsVerbatim (HtmlLines kind) first had waiting n = (waiting ≡ []) × (last_line_end first had ≡ n)
 FitsVerbatim (Metadata kind) first had waiting n = (waiting ≡ []) × (last_line_end first had ≡ n) × AreBefore (ends_metadata kind) had
 
-abbrev pub Fits : Bool → OpenLines → List Row → ℕ → Type 0
-Fits bare (Between closed) ahead n = Unit {0}
-Fits bare AfterTag ahead n = bare ≡ false
-Fits bare (InParagraph closed first more) ahead n = (bare ≡ false) × (last_line_end first more ≡ n)
-Fits bare (InLeaf closed leaf first had left) ahead n = (bare ≡ false) × (left ≤ length ahead) × (is_looked_up leaf ≡ false → left ≡ 0)
-Fits bare (InVerbatim closed verbatim first had waiting) ahead n = (bare ≡ false) × FitsVerbatim verbatim first had waiting n
-Fits bare (InContainer closed k first more inside) ahead n =
-    (bare ≡ false) × (last_line_end first more ≡ n) × Fits (bare_after (is_bare_start k first) more) inside (within k (bare_after (is_bare_start k first) more) ahead) n
+-- the number of a table's lines to come, after these
+abbrev pub lines_left : Options → (columns : ℕ) → (had ahead : List Row) → ℕ
+lines_left options columns [] ahead = suc (count_rows options columns most_filled (drop 1 ahead))
+lines_left options columns (delimiter ∷ rows) ahead = count_rows options columns (cells_left columns most_filled rows) ahead
+
+-- if a line is left, the next one is a row; if none is left, it is not
+pub row-taken : (options : Options) (columns cells left : ℕ) (r : Row) (ahead : List Row) → suc left ≡ count_rows options columns cells (r ∷ ahead)
+    → (is_row options columns cells r ≡ true) × (left ≡ count_rows options columns (cells - count_missing columns r) ahead)
+row-taken options columns cells left r ahead e = go (is_row options columns cells r) refl e
+  where
+    go : (z : Bool) → is_row options columns cells r ≡ z → suc left ≡ one_more_if z (count_rows options columns (cells - count_missing columns r) ahead)
+        → (is_row options columns cells r ≡ true) × (left ≡ count_rows options columns (cells - count_missing columns r) ahead)
+    go true is q = (is, omega (arith, q))
+    go false is q = absurd (omega (arith, q))
+
+pub no-row : (options : Options) (columns cells : ℕ) (r : Row) (ahead : List Row) → 0 ≡ count_rows options columns cells (r ∷ ahead) → is_row options columns cells r ≡ false
+no-row options columns cells r ahead e = go (is_row options columns cells r) refl e
+  where
+    go : (z : Bool) → is_row options columns cells r ≡ z → 0 ≡ one_more_if z (count_rows options columns (cells - count_missing columns r) ahead) → is_row options columns cells r ≡ false
+    go true is q = absurd (omega (arith, q))
+    go false is q = is
+
+abbrev pub FitsLeaf : Options → Leaf → Row → (had : List Row) → (left : ℕ) → (ahead : List Row) → ℕ → Type 0
+FitsLeaf options ThematicBreak first had left ahead n = Unit {0}
+FitsLeaf options (AtxHeading level) first had left ahead n = Unit {0}
+FitsLeaf options IndentedCode first had left ahead n = Unit {0}
+FitsLeaf options (FencedCode fence) first had left ahead n = Unit {0}
+FitsLeaf options (HtmlBlock kind) first had left ahead n = Unit {0}
+FitsLeaf options (MetadataBlock kind) first had left ahead n = Unit {0}
+FitsLeaf options (LinkDefinition definition) first had left ahead n = Unit {0}
+FitsLeaf options (Table alignments) first had left ahead n = (last_line_end first had ≡ n) × (left ≡ lines_left options (length alignments) had ahead)
+
+abbrev pub Fits : Options → Bool → OpenLines → List Row → ℕ → Type 0
+Fits options bare (Between closed) ahead n = Unit {0}
+Fits options bare AfterTag ahead n = bare ≡ false
+Fits options bare (InParagraph closed first more) ahead n = (bare ≡ false) × (last_line_end first more ≡ n)
+Fits options bare (InLeaf closed leaf first had left) ahead n = (bare ≡ false) × (left ≤ length ahead) × (is_looked_up leaf ≡ false → left ≡ 0) × FitsLeaf options leaf first had left ahead n
+Fits options bare (InVerbatim closed verbatim first had waiting) ahead n = (bare ≡ false) × FitsVerbatim verbatim first had waiting n
+Fits options bare (InContainer closed k first more inside) ahead n =
+    (bare ≡ false) × (last_line_end first more ≡ n) × Fits options (bare_after (is_bare_start k first) more) inside (within k (bare_after (is_bare_start k first) more) ahead) n
 
 module _ (text : List ℕ) (options : Options) (lookup : Lookup) where
   -- the stretches of a paragraph but the last
@@ -195,6 +244,10 @@ module _ (text : List ℕ) (options : Options) (lookup : Lookup) where
       ap (html_then (verbatim_line text s.columns s)) (html-push rs r)
       ∙ sym (html-join (verbatim_line text s.columns s) (html_tokens text rs) (html_then (verbatim_line text r.columns r) Nil))
 
+  pub rows-push : (columns : ℕ) (rows : List Row) (r : Row) → row_tokens text columns (rows ++ r ∷ []) ≡ join (row_tokens text columns rows) (row_tokens text columns (r ∷ []))
+  rows-push columns [] r = refl
+  rows-push columns (s ∷ rows) r = ap (Node (node document.TableRow (start_of s) s.line_end) (row_cells text columns s)) (rows-push columns rows r)
+
   abbrev pub paragraph_open : Row → List Row → Level → Level
   paragraph_open first more l = level_drawn (lines_drawn (start_of first) first more) (level_opened (start_of first) document.Paragraph (paragraph_begun l))
 
@@ -214,6 +267,20 @@ module _ (text : List ℕ) (options : Options) (lookup : Lookup) where
   verbatim_leaf (HtmlLines kind) first had waiting = InHtml kind
   verbatim_leaf (Metadata kind) first had waiting = InMetadata kind (code_run text 0 no_run had).waits
 
+  -- a table has only the rows that were fed
+  abbrev pub table_open : List Alignment → Row → (had : List Row) → Level → Level
+  table_open alignments first had l = level_drawn (table_tokens text (length alignments) first had) (level_opened (start_of first) (document.Table alignments) (begun l))
+
+  abbrev pub leaf_open : Leaf → Row → (had following : List Row) → Level → Level
+  leaf_open ThematicBreak first had following l = leaf_level text options lookup ThematicBreak first (had ++ following) l
+  leaf_open (AtxHeading level) first had following l = leaf_level text options lookup (AtxHeading level) first (had ++ following) l
+  leaf_open IndentedCode first had following l = leaf_level text options lookup IndentedCode first (had ++ following) l
+  leaf_open (FencedCode fence) first had following l = leaf_level text options lookup (FencedCode fence) first (had ++ following) l
+  leaf_open (HtmlBlock kind) first had following l = leaf_level text options lookup (HtmlBlock kind) first (had ++ following) l
+  leaf_open (MetadataBlock kind) first had following l = leaf_level text options lookup (MetadataBlock kind) first (had ++ following) l
+  leaf_open (LinkDefinition definition) first had following l = leaf_level text options lookup (LinkDefinition definition) first (had ++ following) l
+  leaf_open (Table alignments) first had following l = table_open alignments first had l
+
   abbrev pub paragraph_leaf : Row → List Row → OpenLeaf
   paragraph_leaf first more = InParagraphLeaf (kept_before options.heading_attributes first more) (last_begin (start_of first) first more) (whole (last_of first more))
 
@@ -222,7 +289,7 @@ module _ (text : List ℕ) (options : Options) (lookup : Lookup) where
   inner_at (Between closed) ahead l = replay text options lookup closed l
   inner_at AfterTag ahead l = l
   inner_at (InParagraph closed first more) ahead l = paragraph_open first more (replay text options lookup closed l)
-  inner_at (InLeaf closed leaf first had left) ahead l = leaf_level text options lookup leaf first (had ++ take left ahead) (replay text options lookup closed l)
+  inner_at (InLeaf closed leaf first had left) ahead l = leaf_open leaf first had (take left ahead) (replay text options lookup closed l)
   inner_at (InVerbatim closed verbatim first had waiting) ahead l = verbatim_level verbatim first had (replay text options lookup closed l)
   inner_at (InContainer closed k first more inside) ahead l =
       inner_at inside (within k (bare_after (is_bare_start k first) more) ahead) (entered k first (replay text options lookup closed l))
@@ -231,7 +298,7 @@ module _ (text : List ℕ) (options : Options) (lookup : Lookup) where
   leaf_at (Between closed) = Closed
   leaf_at AfterTag = AfterTagLeaf
   leaf_at (InParagraph closed first more) = paragraph_leaf first more
-  leaf_at (InLeaf closed leaf first had left) = leaf_left leaf left
+  leaf_at (InLeaf closed leaf first had left) = leaf_left leaf had left
   leaf_at (InVerbatim closed verbatim first had waiting) = verbatim_leaf verbatim first had waiting
   leaf_at (InContainer closed k first more inside) = leaf_at inside
 

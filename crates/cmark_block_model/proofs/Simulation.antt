@@ -1,5 +1,5 @@
 -- After another line the pass and the model are in corresponding states.
-use Rattle.std.proofs.Common.{◌≡◌, ℕ, ◌&&◌, Bool, true, false, List, [], ◌∷◌, ◌++◌, refl, ap, ◌∙◌, sym, subst, append_assoc, append-nil, Option, Some, None}
+use Rattle.std.proofs.Common.{◌≡◌, ℕ, ◌&&◌, Bool, true, false, List, [], ◌∷◌, ◌++◌, length, refl, ap, ◌∙◌, sym, subst, append_assoc, append-nil, Option, Some, None}
 use Rattle.std.specs.Prelude.{if◌then◌else◌}
 use Rattle.cmark_grammar.specs.Answers.{Lookup}
 use Rattle.cmark_grammar.specs.Options.{Options}
@@ -15,7 +15,7 @@ use Rattle.cmark_block_model.proofs.BlocksSound.{is_both}
 use Rattle.cmark_block_model.specs.OpenBlocks.{OpenContainer, Closed, takes_lazy, Pass}
 use Rattle.cmark_block_model.specs.BlockPass.{ahead_in, begin, leaf_closed, leaf_fed, lazy_fed, containers_closed, LineKeepers, is_last, kept_if, kept_by, line_with}
 use Rattle.cmark_block_model.proofs.Replay.{Level, entered, replay}
-use Rattle.cmark_block_model.proofs.Mirror.{pass_with, leaf_left, verbatim_leaf, Fits, inner_at, leaf_at, container_at, containers_at, pass_at, bare_at}
+use Rattle.cmark_block_model.proofs.Mirror.{pass_with, table_leaf, leaf_left, verbatim_leaf, Fits, inner_at, leaf_at, container_at, containers_at, pass_at, bare_at}
 use Rattle.cmark_block_model.proofs.Flags.{and-true, and-false}
 use Rattle.cmark_block_model.proofs.Closing.{leaf-closes, containers-close}
 use Rattle.cmark_block_model.proofs.Beginning.{ahead-inside, IsFresh, starts, starts-following-tag}
@@ -33,7 +33,11 @@ module _ (text : List ℕ) (options : Options) (lookup : Lookup) where
   takes-lazy (InParagraph closed first more) = refl
   takes-lazy (InLeaf closed leaf first had left) = go leaf
     where
-      go : (leaf : Leaf) → takes_lazy (leaf_left leaf left) ≡ allows_lazy (after_leaf leaf)
+      table : (columns : ℕ) (rs : List Row) → takes_lazy (table_leaf columns rs) ≡ false
+      table columns [] = refl
+      table columns (r ∷ rs) = refl
+
+      go : (leaf : Leaf) → takes_lazy (leaf_left leaf had left) ≡ allows_lazy (after_leaf leaf)
       go ThematicBreak = refl
       go (AtxHeading level) = refl
       go IndentedCode = refl
@@ -41,7 +45,7 @@ module _ (text : List ℕ) (options : Options) (lookup : Lookup) where
       go (HtmlBlock kind) = refl
       go (LinkDefinition definition) = refl
       go (MetadataBlock kind) = refl
-      go (Table alignments) = refl
+      go (Table alignments) = table (length alignments) had
   takes-lazy (InVerbatim closed verbatim first had waiting) = go verbatim
     where
       go : (v : Verbatim) → takes_lazy (verbatim_leaf text options lookup v first had waiting) ≡ false
@@ -52,7 +56,7 @@ module _ (text : List ℕ) (options : Options) (lookup : Lookup) where
   takes-lazy (InContainer closed k first more inside) = takes-lazy inside
 
   -- only the innermost container is bare
-  bare-flag : (o : OpenLines) (b : Bool) (ahead : List Row) (n : ℕ) (l : Level) → Fits b o ahead n → (bare_at b o && is_last text options lookup (containers_at text options lookup o l)) ≡ b
+  bare-flag : (o : OpenLines) (b : Bool) (ahead : List Row) (n : ℕ) (l : Level) → Fits options b o ahead n → (bare_at b o && is_last text options lookup (containers_at text options lookup o l)) ≡ b
   bare-flag (Between closed) b ahead n l f = and-true b
   bare-flag AfterTag b ahead n l f = sym f
   bare-flag (InParagraph closed first more) b ahead n l f = sym f.0
@@ -63,7 +67,7 @@ module _ (text : List ℕ) (options : Options) (lookup : Lookup) where
   abbrev pub fed : LineKeepers text options lookup → List Row → Pass → Pass
   fed w next p = line_with text options lookup w.missed w.kept w.left next p
 
-  pub simulates : (o : OpenLines) (b : Bool) (r : Row) (next ahead : List Row) (l : Level) (outer : List OpenContainer) (n : ℕ) → IsFresh text options lookup l → OpenUnmarked o → r.lazy ≡ false → ahead_in text options lookup outer next ≡ ahead → Fits b o (r ∷ ahead) n
+  pub simulates : (o : OpenLines) (b : Bool) (r : Row) (next ahead : List Row) (l : Level) (outer : List OpenContainer) (n : ℕ) → IsFresh text options lookup l → OpenUnmarked o → r.lazy ≡ false → ahead_in text options lookup outer next ≡ ahead → Fits options b o (r ∷ ahead) n
       → fed (kept_by text options lookup outer (containers_at text options lookup o l) (bare_at b o) r) next (pass_with (inner_at text options lookup o (r ∷ ahead) l) (outer ++ containers_at text options lookup o l) false (leaf_at text options lookup o) n)
       ≡ pass_at text options lookup (lines_feed options o r ahead) ahead l outer false n
   simulates (Between closed) b r next ahead l outer n h u e a f =
@@ -87,12 +91,12 @@ module _ (text : List ℕ) (options : Options) (lookup : Lookup) where
       ap (λ z. fed (kept_if text options lookup (keeps k z r) (λ s. kept_by text options lookup (outer ++ v ∷ []) cs (bare_at bare inside) s) (record { kept = outer; missed = v ∷ cs; left = r })) next p)
       (bare-flag inside bare (within k bare (r ∷ ahead)) n (entered k first c) f.2)
       ∙ go (keeps k bare r) refl (λ s q. simulates inside bare (strip k bare r) next (within k false ahead) (entered k first c) (outer ++ v ∷ []) n refl u.2 (strip_whole options k bare r s q)
-      (ahead-inside text options lookup outer v next ∙ ap (within k false) a) (subst (λ x. Fits bare inside x n) (kept-ahead options k bare r s ahead e q) inner))
+      (ahead-inside text options lookup outer v next ∙ ap (within k false) a) (subst (λ x. Fits options bare inside x n) (kept-ahead options k bare r s ahead e q) inner))
     where
       bare : Bool
       bare = bare_after (is_bare_start k first) more
 
-      inner : Fits (bare_after (is_bare_start k first) more) inside (within k (bare_after (is_bare_start k first) more) (r ∷ ahead)) n
+      inner : Fits options (bare_after (is_bare_start k first) more) inside (within k (bare_after (is_bare_start k first) more) (r ∷ ahead)) n
       inner = f.2
 
       c : Level
@@ -122,14 +126,14 @@ module _ (text : List ℕ) (options : Options) (lookup : Lookup) where
           ≡ pass_at text options lookup (lines_kept_or None z on off) ahead l outer false n
       missed q true t =
           let y = is_both options (lazily options k r ahead) (lines_take_lazy inside) t in
-          let g : Fits bare inside [] n = subst (λ x. Fits bare inside x n) (off-ahead options k bare r ahead q) inner in
+          let g : Fits options bare inside [] n = subst (λ x. Fits options bare inside x n) (off-ahead options k bare r ahead q) inner in
           ap (λ x. lazy_fed text options lookup (leaf_at text options lookup inside) r (seen x)) (off-ahead options k bare r ahead q)
           ∙ ap (λ o. lazy_fed text options lookup (leaf_at text options lookup inside) r (pass_with (inner_at text options lookup inside [] (entered k first c)) o false (leaf_at text options lookup inside) n)) (sym (append_assoc outer (v ∷ []) cs))
           ∙ lazy-feeds text options lookup inside bare r (within k false ahead) ahead k (entered k first c) (outer ++ v ∷ []) n e g y.1 y.0
           ∙ ap (λ s. pass_at text options lookup (lines_feed options inside s (within k false ahead)) (within k false ahead) (entered k first c) (outer ++ v ∷ []) false n) (sym (strip_lazy options k bare r q))
           ∙ container-goes text options lookup closed k first more r (lines_feed options inside (strip k bare r) (within k false ahead)) ahead l outer false n
       missed q false t =
-          let g : Fits bare inside [] n = subst (λ x. Fits bare inside x n) (off-ahead options k bare r ahead q) inner in
+          let g : Fits options bare inside [] n = subst (λ x. Fits options bare inside x n) (off-ahead options k bare r ahead q) inner in
           ap (λ x. begin text options lookup r next (containers_closed text options lookup outer (v ∷ cs) (leaf_closed text options lookup (seen x)))) (off-ahead options k bare r ahead q)
           ∙ ap (λ x. begin text options lookup r next (containers_closed text options lookup outer (v ∷ cs) x)) (leaf-closes text options lookup inside bare n (entered k first c) (outer ++ v ∷ cs) false g)
           ∙ ap (begin text options lookup r next) (containers-close text options lookup (InContainer closed k first more inside) b n l outer false (f.0, f.1, g))

@@ -9,12 +9,13 @@ use Rattle.cmark_grammar.specs.Leaves.{Fence, is_thematic_break, is_atx_heading,
 use Rattle.cmark_grammar.specs.LinkDefinitions.{Defined, definition_in, bytes_over}
 use Rattle.cmark_grammar.specs.Metadata.{metadata_kind, metadata_continuation, holds_metadata}
 use Rattle.cmark_grammar.specs.MetadataBlockKind.{MetadataBlockKind}
-use Rattle.cmark_grammar.specs.Openings.{Leaf, ThematicBreak, AtxHeading, IndentedCode, FencedCode, HtmlBlock, LinkDefinition, MetadataBlock, Table, Opening, Blank, Nests, Takes, Plain, or_else, nests_if, fenced_if, html_if, break_if, heading_if, defined_if, metadata_begun, text_lines, definition_of, interrupts, count_rows, table_if, text_of, begins_no_link, leaf_of, whole_opens, opens}
+use Rattle.cmark_grammar.specs.Openings.{Leaf, ThematicBreak, AtxHeading, IndentedCode, FencedCode, HtmlBlock, LinkDefinition, MetadataBlock, Table, Opening, Blank, Nests, Takes, Plain, or_else, nests_if, fenced_if, html_if, break_if, heading_if, defined_if, metadata_begun, text_lines, definition_of, interrupts, count_rows, table_if, text_of, begins_no_link, leaf_of, whole_opens, opens, opens_at}
 use Rattle.cmark_grammar.specs.Options.{Options}
 use Rattle.cmark_grammar.specs.Rows.{Row, show_as, shown, is_blank_line, indent_of, words_of}
 use Rattle.cmark_grammar.specs.TableRows.{one_more_if, count_cells, count_missing, most_filled, holds_pipe, with_columns, delimited_ahead, table_head}
 use Rattle.cmark_grammar.specs.Tables.{delimiter_row}
-use Rattle.cmark_block_model.proofs.BlockLaws.{opens-len}
+use Rattle.cmark_grammar.specs.Places.{Place}
+use Rattle.cmark_block_model.proofs.BlockLaws.{at-takes, opens-len}
 use Rattle.cmark_block_model.proofs.TableRanges.{filled}
 
 le : (a b : ℕ) → nat_le a b ≡ true → a ≤ b
@@ -51,7 +52,8 @@ module _ (options : Options) where
 
   module _ (r : Row) (ahead : List Row) where
     abbrev LeafFills : ℕ → Leaf → Type 0
-    LeafFills n (Table alignments) = (count_missing (length alignments) r ≡ 0) × (filled (length alignments) (take (n - 1) (drop 1 ahead)) ≤ most_filled)
+    LeafFills n (Table alignments) =
+        (count_missing (length alignments) r ≡ 0) × (filled (length alignments) (take (n - 1) (drop 1 ahead)) ≤ most_filled) × (n ≡ suc (count_rows options (length alignments) most_filled (drop 1 ahead)))
     LeafFills n ThematicBreak = Unit {0}
     LeafFills n (AtxHeading level) = Unit {0}
     LeafFills n IndentedCode = Unit {0}
@@ -141,6 +143,7 @@ module _ (options : Options) where
     fills_table (Some alignments) h = (
       missing (length alignments) h,
       subst (λ k. filled (length alignments) (take k (drop 1 ahead)) ≤ most_filled) (less_one (count_rows options (length alignments) most_filled (drop 1 ahead))) (rows-filled (length alignments) most_filled (drop 1 ahead)),
+      refl,
     )
       where
         less_one : (n : ℕ) → n ≡ suc n - 1
@@ -211,3 +214,7 @@ module _ (options : Options) where
   pub opened-filled : (first : Row) (rest : List Row) (leaf : Leaf) (more : List Row) → opens options first (shown (more ++ rest)) ≡ Takes leaf (length more) → LeafFilled leaf first more
   opened-filled first rest leaf more o =
       leaf-filled first rest leaf more (subst (Fills first (shown (more ++ rest))) o (fills_opens first (shown (more ++ rest)))) (opens-len options first (shown (more ++ rest)) leaf (length more) o)
+
+  -- the number of a table's lines after its head: the delimiter row, and the rows
+  pub table-lines : (place : Place) (r : Row) (ahead : List Row) (alignments : List Alignment) (n : ℕ) → opens_at options place r ahead ≡ Takes (Table alignments) n → n ≡ suc (count_rows options (length alignments) most_filled (drop 1 ahead))
+  table-lines place r ahead alignments n o = (subst (Fills r ahead) (at-takes options place r ahead (Table alignments) n o) (fills_opens r ahead)).2

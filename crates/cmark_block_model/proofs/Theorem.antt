@@ -53,29 +53,29 @@ module _ (text : List ℕ) (options : Options) (lookup : Lookup) (noted : Noted)
   shown-first : (r : Row) (rs : List Row) → r.lazy ≡ false → shown (r ∷ rs) ≡ r ∷ shown rs
   shown-first r rs e = ap (λ z. show_as z r (shown rs)) e
 
-  one-fed : (r : Row) (rs : List Row) (o : OpenLines) (n : ℕ) → AreWhole options (r ∷ rs) → OpenUnmarked o → Fits false o (shown (r ∷ rs)) n
+  one-fed : (r : Row) (rs : List Row) (o : OpenLines) (n : ℕ) → AreWhole options (r ∷ rs) → OpenUnmarked o → Fits options false o (shown (r ∷ rs)) n
       → line_fed text options lookup r rs (pass_at text options lookup o (shown (r ∷ rs)) bottom [] false n) ≡ pass_at text options lookup (lines_feed options o r (shown rs)) (shown rs) bottom [] false r.line_end
   one-fed r rs o n h u f =
       ap (λ x. line_fed text options lookup r rs (pass_at text options lookup o x bottom [] false n)) (shown-first r rs h.0)
-      ∙ ap {A = Pass} {B = Pass} (λ q. record q { line_end = r.line_end }) (simulates text options lookup o false r rs (shown rs) bottom [] n refl u h.0 (sym (shown-whole rs h.1)) (subst (λ x. Fits false o x n) (shown-first r rs h.0) f))
+      ∙ ap {A = Pass} {B = Pass} (λ q. record q { line_end = r.line_end }) (simulates text options lookup o false r rs (shown rs) bottom [] n refl u h.0 (sym (shown-whole rs h.1)) (subst (λ x. Fits options false o x n) (shown-first r rs h.0) f))
 
-  next-fits : (r : Row) (rs : List Row) (o : OpenLines) (n : ℕ) → AreWhole options (r ∷ rs) → Fits false o (shown (r ∷ rs)) n → Fits false (lines_feed options o r (shown rs)) (shown rs) r.line_end
-  next-fits r rs o n h f = feed-fits text options lookup o false r (shown rs) n h.0 (subst (λ x. Fits false o x n) (shown-first r rs h.0) f)
+  next-fits : (r : Row) (rs : List Row) (o : OpenLines) (n : ℕ) → AreWhole options (r ∷ rs) → Fits options false o (shown (r ∷ rs)) n → Fits options false (lines_feed options o r (shown rs)) (shown rs) r.line_end
+  next-fits r rs o n h f = feed-fits text options lookup o false r (shown rs) n h.0 (subst (λ x. Fits options false o x n) (shown-first r rs h.0) f)
 
-  all-fed : (rs : List Row) (o : OpenLines) (n : ℕ) → AreWhole options rs → OpenUnmarked o → Fits false o (shown rs) n
+  all-fed : (rs : List Row) (o : OpenLines) (n : ℕ) → AreWhole options rs → OpenUnmarked o → Fits options false o (shown rs) n
       → lines_fed text options lookup rs (pass_at text options lookup o (shown rs) bottom [] false n) ≡ pass_at text options lookup (lines_feed_all options o rs) [] bottom [] false (following_end n rs)
   all-fed [] o n h u f = refl
   all-fed (r ∷ rs) o n h u f =
       ap (lines_fed text options lookup rs) (one-fed r rs o n h u f) ∙ all-fed rs (lines_feed options o r (shown rs)) r.line_end h.1 (feed-unmarked options o r (shown rs) u) (next-fits r rs o n h f)
 
-  all-fit : (rs : List Row) (o : OpenLines) (n : ℕ) → AreWhole options rs → Fits false o (shown rs) n → Fits false (lines_feed_all options o rs) [] (following_end n rs)
+  all-fit : (rs : List Row) (o : OpenLines) (n : ℕ) → AreWhole options rs → Fits options false o (shown rs) n → Fits options false (lines_feed_all options o rs) [] (following_end n rs)
   all-fit [] o n h f = f
   all-fit (r ∷ rs) o n h f = all-fit rs (lines_feed options o r (shown rs)) r.line_end h.1 (next-fits r rs o n h f)
 
   abbrev pub done : Level → Bool → ℕ → Pass
   done l bare n = let q = pass_with l [] bare Closed n in record q { drawing = ended q.inner q.drawing }
 
-  all-closes : (o : OpenLines) (n : ℕ) → Fits false o [] n → all_closed text options lookup (pass_at text options lookup o [] bottom [] false n) ≡ done (replay text options lookup (close_lines o) bottom) (bare_at false o) n
+  all-closes : (o : OpenLines) (n : ℕ) → Fits options false o [] n → all_closed text options lookup (pass_at text options lookup o [] bottom [] false n) ≡ done (replay text options lookup (close_lines o) bottom) (bare_at false o) n
   all-closes o n f =
       ap (λ p. let q = containers_closed text options lookup [] (containers_at text options lookup o bottom) p in record q { drawing = ended q.inner q.drawing })
       (leaf-closes text options lookup o false n bottom (containers_at text options lookup o bottom) (bare_at false o) f)

@@ -68,7 +68,7 @@ module _ (text : List ℕ) (options : Options) (lookup : Lookup) where
       html false b true f = cc
       html false b false f = cc
 
-  stops : (v : Verbatim) (closed : Blocks) (first : Row) (had waiting : List Row) (r : Row) (next ahead : List Row) (l : Level) (outer : List OpenContainer) (b : Bool) (n : ℕ) → r.lazy ≡ false → ahead_in text options lookup outer next ≡ ahead → IsFresh text options lookup l → Unmarked closed → Fits b (InVerbatim closed v first had waiting) [] n
+  stops : (v : Verbatim) (closed : Blocks) (first : Row) (had waiting : List Row) (r : Row) (next ahead : List Row) (l : Level) (outer : List OpenContainer) (b : Bool) (n : ℕ) → r.lazy ≡ false → ahead_in text options lookup outer next ≡ ahead → IsFresh text options lookup l → Unmarked closed → Fits options b (InVerbatim closed v first had waiting) [] n
       → begin text options lookup r next (leaf_closed text options lookup (pass_with (verbatim_level text options lookup v first had (replay text options lookup closed l)) outer false (verbatim_leaf text options lookup v first had waiting) n))
       ≡ pass_at text options lookup (lines_begin options (close_lines (InVerbatim closed v first had waiting)) r ahead) ahead l outer false n
   stops v closed first had waiting r next ahead l outer b n e a h u f =
@@ -80,7 +80,7 @@ module _ (text : List ℕ) (options : Options) (lookup : Lookup) where
   alone o x leaf n = ap (λ y. pass_with x y false leaf n) (sym (append-nil o))
 
   pub verbatim-feeds : (v : Verbatim) (closed : Blocks) (first : Row) (had waiting : List Row) (r : Row) (next ahead : List Row) (l : Level) (outer : List OpenContainer) (b : Bool) (n : ℕ) → r.lazy ≡ false → ahead_in text options lookup outer next ≡ ahead
-      → IsFresh text options lookup l → Unmarked closed → Fits b (InVerbatim closed v first had waiting) [] n
+      → IsFresh text options lookup l → Unmarked closed → Fits options b (InVerbatim closed v first had waiting) [] n
       → leaf_fed text options lookup (verbatim_leaf text options lookup v first had waiting) r next (pass_with (verbatim_level text options lookup v first had (replay text options lookup closed l)) outer false (verbatim_leaf text options lookup v first had waiting) n)
       ≡ pass_at text options lookup (verbatim_line (continuation_in v r) closed v first had waiting r (lines_begin options (close_lines (InVerbatim closed v first had waiting)) r ahead)) ahead l outer false n
   verbatim-feeds Indented closed first had waiting r next ahead l outer b n e a h u f = go (code_continuation r) refl

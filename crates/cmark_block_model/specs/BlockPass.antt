@@ -1,16 +1,17 @@
 -- The next line in the block pass.
-use Rattle.std.specs.Prelude.{ℕ, zero, suc, Bool, true, false, ◌==◌, ◌&&◌, ◌||◌, not, nat_le, if◌then◌else◌, List, [], ◌∷◌, ◌++◌, length, take, Option, Some, None}
+use Rattle.std.specs.Prelude.{ℕ, zero, suc, ◌-◌, Bool, true, false, ◌==◌, ◌&&◌, ◌||◌, not, nat_le, if◌then◌else◌, List, [], ◌∷◌, ◌++◌, length, take, Option, Some, None}
 use Rattle.cmark_grammar.specs.Answers.{Lookup}
 use Rattle.cmark_grammar.specs.Columns.{Column}
 use Rattle.cmark_grammar.specs.Options.{Options}
-use Rattle.cmark_grammar.specs.Rows.{Row, rows, without, shown, first_place, begin_of, start_of, last_line_end, words_of}
+use Rattle.cmark_grammar.specs.Rows.{Row, rows, without, shown, first_place, begin_of, start_of, words_of}
 use Rattle.cmark_grammar.specs.Leaves.{Continuation, GoesOn, Closes, Waits, Stops, underlines, code_continuation, closes_fence}
 use Rattle.cmark_grammar.specs.HtmlBlocks.{holds_end, html_continuation}
 use Rattle.cmark_grammar.specs.Containers.{Container, BlockQuote, Item, Footnote, ListDefinition, is_alert, enter, keeps, strips}
-use Rattle.cmark_grammar.specs.Openings.{Leaf, ThematicBreak, AtxHeading, IndentedCode, FencedCode, HtmlBlock, LinkDefinition, Opening, Blank, Nests, Takes, Plain, opens_at, texts, lazily, MetadataBlock, Table}
+use Rattle.cmark_grammar.specs.Openings.{Leaf, ThematicBreak, AtxHeading, IndentedCode, FencedCode, HtmlBlock, LinkDefinition, Opening, Blank, Nests, Takes, Plain, opens_at, interrupts, texts, lazily, MetadataBlock, Table}
 use Rattle.cmark_grammar.specs.Tokens.{Piece, resolved, words_end, stretch_then, heading_tokens, heading_attributes, verbatim_line, html_then, code_columns}
 use Rattle.cmark_grammar.specs.SetextAttributes.{content_of, setext_attributes}
-use Rattle.cmark_grammar.specs.TableTokens.{table_tokens}
+use Rattle.cmark_grammar.specs.TableRows.{count_missing, most_filled}
+use Rattle.cmark_grammar.specs.TableTokens.{row_tokens, table_tokens}
 use Rattle.cmark_grammar.specs.Derivation.{last_content_end, reference_of, task_then, list_kind}
 use Rattle.cmark_grammar.specs.Lists.{definition_delimiter}
 use Rattle.cmark_grammar.specs.BlockDocument as document
@@ -188,6 +189,10 @@ kept_lines true before last = before ++ last ∷ []
 abbrev pub node_closed : (end : ℕ) → Pass → Pass
 node_closed end p = record p { drawing = closed_at end p.drawing; leaf = Closed }
 
+-- a line after a table is another row, if the table has `columns` columns and `left` more cells may be filled in (GFM 4.10)
+abbrev pub is_row : Options → (columns left : ℕ) → Row → Bool
+is_row options columns left r = not (interrupts options false r []) && nat_le (count_missing columns r) left
+
 module _ (text : List ℕ) (options : Options) (lookup : Lookup) where
   -- the lines ahead, seen from inside the open containers
   abbrev pub ahead_in : List OpenContainer → List Row → List Row
@@ -204,7 +209,7 @@ module _ (text : List ℕ) (options : Options) (lookup : Lookup) where
   close_leaf AfterTag p = record p { leaf = Closed }
   close_leaf (InParagraph before from last) p = node_closed p.line_end (with_drawn (last_stretch from last) p)
   close_leaf (InDefinition left) p = record p { leaf = Closed }
-  close_leaf (InTable left) p = record p { leaf = Closed }
+  close_leaf (InTable columns left has_delimiter) p = node_closed p.line_end p
   close_leaf (InIndented waits end blank) p =
       let q = node_closed end (with_drawn (texts_of (rest_of waits)) p) in record q { inner = record q.inner { blank = is_some blank } }
   close_leaf (InFenced fence waits) p = node_closed p.line_end (with_drawn (texts_of (rest_of waits)) p)
@@ -263,7 +268,7 @@ module _ (text : List ℕ) (options : Options) (lookup : Lookup) where
   html_begun true kind end p = node_closed end p
   html_begun false kind end p = record p { leaf = InHtml kind }
 
-  -- a leaf begins on a line; for a link reference definition and a table `more` of the lines ahead are read
+  -- a leaf begins on a line; for a link reference definition `more` of the lines ahead are read. Of a table the head is drawn
   abbrev pub leaf_begun : Leaf → (more : ℕ) → Row → (ahead : List Row) → Pass → Pass
   leaf_begun ThematicBreak more r ahead p = with_drawn (Node (node document.ThematicBreak (start_of r) r.line_end) Nil Nil) (block_begun p)
   leaf_begun (AtxHeading level) more r ahead p =
@@ -280,7 +285,8 @@ module _ (text : List ℕ) (options : Options) (lookup : Lookup) where
       }
   leaf_begun (MetadataBlock kind) more r ahead p = let q = node_opened (start_of r) (document.MetadataBlock kind) (block_begun p) in record q { leaf = InMetadata kind None }
   leaf_begun (Table alignments) more r ahead p =
-      let q = with_drawn (Node (node (document.Table alignments) (start_of r) (last_line_end r (take more ahead))) (table_tokens text (length alignments) r (take more ahead)) Nil) (block_begun p) in record q { leaf = InTable more }
+      let q = with_drawn (table_tokens text (length alignments) r []) (node_opened (start_of r) (document.Table alignments) (block_begun p)) in
+      record q { leaf = InTable (length alignments) most_filled false }
 
   abbrev pub begin_as : Opening → (Container → Pass) → Row → (ahead : List Row) → (bare : Bool) → Pass → Pass
   begin_as Blank inside r ahead bare p = record p { inner = record p.inner { has_line = true; blank = p.inner.has_line }; bare = bare }
@@ -314,6 +320,10 @@ module _ (text : List ℕ) (options : Options) (lookup : Lookup) where
   html_goes_on Waits r next p = html_line r p
   html_goes_on Stops r next p = begin r next (leaf_closed p)
 
+  -- another row of a table
+  abbrev pub table_row : (columns left : ℕ) → Row → Pass → Pass
+  table_row columns left r p = record (with_drawn (row_tokens text columns (r ∷ [])) p) { leaf = InTable columns (left - count_missing columns r) true }
+
   -- a line that lacks no prefix, after the open leaf
   abbrev pub leaf_fed : OpenLeaf → Row → (next : List Row) → Pass → Pass
   leaf_fed Closed r next p = begin r next p
@@ -323,8 +333,8 @@ module _ (text : List ℕ) (options : Options) (lookup : Lookup) where
       (if texts options r (ahead_in p.outer next) then paragraph_line before from last r p else begin r next (leaf_closed p))
   leaf_fed (InDefinition zero) r next p = begin r next (leaf_closed p)
   leaf_fed (InDefinition (suc left)) r next p = record p { leaf = InDefinition left }
-  leaf_fed (InTable zero) r next p = begin r next (leaf_closed p)
-  leaf_fed (InTable (suc left)) r next p = record p { leaf = InTable left }
+  leaf_fed (InTable columns left false) r next p = record p { leaf = InTable columns left true }
+  leaf_fed (InTable columns left true) r next p = if is_row options columns left r then table_row columns left r p else begin r next (leaf_closed p)
   leaf_fed (InIndented waits end blank) r next p = indented_continuation (code_continuation r) waits end blank r next p
   leaf_fed (InFenced fence waits) r next p =
       if closes_fence fence r then node_closed r.line_end (with_drawn (texts_of (rest_of waits)) p) else code_drawn fence.indented r waits (InFenced fence) p
@@ -342,7 +352,7 @@ module _ (text : List ℕ) (options : Options) (lookup : Lookup) where
   lazy_fed (InFenced fence waits) r p = p
   lazy_fed (InHtml kind) r p = p
   lazy_fed (InMetadata kind waits) r p = p
-  lazy_fed (InTable left) r p = p
+  lazy_fed (InTable columns left has_delimiter) r p = p
 
   -- the containers that keep a line, those that do not, and the rest of the line
   pub record LineKeepers : Type 0 where

@@ -48,7 +48,8 @@ pub record OpenContainer : Type 0 where
 --
 -- - A paragraph has its last line, and the place at which the stretch of that line begins. The stretch is drawn when the next line shows
 --   whether it continues. If attributes of headings are read, the paragraph has its earlier lines too, for it may become a heading.
--- - A link reference definition and a table have lines to come. The table itself is drawn when it begins.
+-- - A link reference definition has lines to come.
+-- - A table has the number of its columns, the number of cells that may still be filled in, and whether its delimiter row was fed.
 -- - Indented code, fenced code and metadata have the stretch of the text that waits. Indented code also has the end of its last line, and
 --   the blank lines after that.
 pub data OpenLeaf : Type 0 where
@@ -56,7 +57,7 @@ pub data OpenLeaf : Type 0 where
   AfterTag : OpenLeaf
   InParagraph : (before : List Row) → (from : ℕ) → (last : Row) → OpenLeaf
   InDefinition : (left : ℕ) → OpenLeaf
-  InTable : (left : ℕ) → OpenLeaf
+  InTable : (columns left : ℕ) → (has_delimiter : Bool) → OpenLeaf
   InIndented : (waits : Option Piece) → (end : ℕ) → (blank : List Row) → OpenLeaf
   InFenced : (fence : Fence) → (waits : Option Piece) → OpenLeaf
   InHtml : (kind : ℕ) → OpenLeaf
@@ -68,7 +69,7 @@ takes_lazy Closed = false
 takes_lazy AfterTag = true
 takes_lazy (InParagraph before from last) = true
 takes_lazy (InDefinition left) = true
-takes_lazy (InTable left) = false
+takes_lazy (InTable columns left has_delimiter) = false
 takes_lazy (InIndented waits end blank) = false
 takes_lazy (InFenced fence waits) = false
 takes_lazy (InHtml kind) = false

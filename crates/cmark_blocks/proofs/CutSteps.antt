@@ -1,21 +1,21 @@
 -- The search for cuts: what a line says about the open blocks, and what is known after it.
-use Rattle.std.proofs.Common.{◌≡◌, ℕ, zero, suc, ◌+◌, ◌==◌, Bool, true, false, not, ◌&&◌, ◌||◌, if◌then◌else◌, List, [], ◌∷◌, ◌++◌, Option, Some, None, refl, sym, ap, ◌∙◌, ◌<◌, length, arith, true≢false}
+use Rattle.std.proofs.Common.{◌≡◌, ℕ, zero, suc, ◌+◌, ◌-◌, ◌==◌, Bool, true, false, not, ◌&&◌, ◌||◌, if◌then◌else◌, List, [], ◌∷◌, ◌++◌, Option, Some, None, refl, sym, ap, subst, ◌∙◌, ◌<◌, length, arith, true≢false}
 use Rattle.cmark_grammar.specs.Answers.{Lookup}
 use Rattle.cmark_grammar.specs.Containers.{Container, BlockQuote, Item, Footnote, ListDefinition, keeps, strip, is_bare_start, bare_after}
 use Rattle.cmark_grammar.specs.HtmlBlocks.{html_continuation}
 use Rattle.cmark_grammar.specs.Leaves.{Continuation, GoesOn, Closes, Waits, Stops, counted, underlines, code_continuation, closes_fence}
 use Rattle.cmark_grammar.specs.Metadata.{ends_metadata, holds_metadata, metadata_continuation}
 use Rattle.cmark_grammar.specs.MetadataBlockKind.{MetadataBlockKind}
-use Rattle.cmark_grammar.specs.Openings.{Leaf, ThematicBreak, AtxHeading, IndentedCode, FencedCode, HtmlBlock, LinkDefinition, MetadataBlock, Table, Opening, Takes, Plain, metadata_begun, is_none, interrupts, texts, lazily, text_lines, defined_if, or_else, table_if}
+use Rattle.cmark_grammar.specs.Openings.{Leaf, ThematicBreak, AtxHeading, IndentedCode, FencedCode, HtmlBlock, LinkDefinition, MetadataBlock, Table, Opening, Takes, Plain, metadata_begun, is_none, interrupts, texts, lazily, text_lines, defined_if, or_else, table_if, count_rows}
 use Rattle.cmark_grammar.specs.Options.{Options}
 use Rattle.cmark_grammar.specs.Rows.{Row}
 use Rattle.cmark_grammar.specs.Blocks.{Blocks, Nil, Paragraph, SetextHeading, LeafBlock, ContainerBlock, join}
 use Rattle.cmark_block_model.specs.BlocksModel.{within}
 use Rattle.cmark_block_model.specs.BlocksByLine.{Verbatim, Indented, Fenced, HtmlLines, Metadata, leaf_in, continuation_in, continuation_if, OpenLines, Between, AfterTag, InParagraph, InLeaf, InVerbatim, InContainer, blank_lines, close_lines, lines_take_lazy, lines_underline_or, lines_go_on_or, lines_kept_or, verbatim_line, lines_begin, lines_feed}
-use Rattle.cmark_block_model.specs.BlockPass.{is_last}
+use Rattle.cmark_block_model.specs.BlockPass.{is_last, is_row}
 use Rattle.cmark_block_model.specs.OpenBlocks as model
 use Rattle.cmark_block_model.specs.OpenBlocks.{takes_lazy}
-use Rattle.cmark_block_model.proofs.Mirror.{Fits, is_looked_up, leaf_left, verbatim_leaf, leaf_at, containers_at, bare_at, pass_at}
+use Rattle.cmark_block_model.proofs.Mirror.{Fits, FitsLeaf, cells_left, is_looked_up, lines_left, no-row, table_leaf, leaf_left, verbatim_leaf, leaf_at, containers_at, bare_at, pass_at}
 use Rattle.cmark_block_model.proofs.Replay.{Level, entered, replay}
 use Rattle.cmark_blocks.proofs.LineFacts.{takes-lazy, bare-flag, only-one}
 use Rattle.cmark_stream_model.specs.Growth.{Parts, is_outside_of_lists, last_list, may_continue}
@@ -26,7 +26,7 @@ use Rattle.cmark_line_rules.proofs.LazyRows.{whole-texts}
 use Rattle.cmark_blocks.specs.TablesAhead.{block_interrupts}
 use Rattle.cmark_grammar.specs.Alignment.{Alignment}
 use Rattle.cmark_grammar.specs.LinkDefinitions.{Defined, definition_in, bytes_over}
-use Rattle.cmark_grammar.specs.TableRows.{table_head}
+use Rattle.cmark_grammar.specs.TableRows.{count_missing, most_filled, one_more_if, table_head}
 use Rattle.cmark_line_rules.specs.Opened.{opened}
 use Rattle.cmark_line_rules.specs.declared.opening.Opening.{Opening as Opened}
 use Rattle.cmark_line_rules.specs.declared.opening.Opening.TheVariants as opening
@@ -59,17 +59,6 @@ stops-is Stops e = refl
 
 zero-is : (n : ℕ) → (n == 0) ≡ true → n ≡ 0
 zero-is n e = grind (arith)
-
--- a leaf of which no line is left ends
-none-left : (leaf : Leaf) (by : Bool) (r : Row) → ends_leaf by (leaf_left leaf 0) r ≡ true
-none-left ThematicBreak by r = refl
-none-left (AtxHeading level) by r = refl
-none-left IndentedCode by r = refl
-none-left (FencedCode fence) by r = refl
-none-left (HtmlBlock kind) by r = refl
-none-left (MetadataBlock kind) by r = refl
-none-left (LinkDefinition definition) by r = refl
-none-left (Table alignments) by r = refl
 
 -- a choice between going on and closing does not stop
 chosen-stops : (z : Bool) → (if z then Closes else GoesOn) ≡ Stops → ⊥
@@ -114,34 +103,56 @@ module _ (options : Options) where
 module _ (text : List ℕ) (options : Options) (lookup : Lookup) where
   -- ## The open blocks by the state of the pass
 
+  -- a line ends a table if no line of it is left
+  table-ends : (columns : ℕ) (had : List Row) (left : ℕ) (by : Bool) (r : Row) (x : List Row) → left ≡ lines_left options columns had (r ∷ x) → ends_leaf options by (table_leaf columns had) r ≡ true → left ≡ 0
+  table-ends columns [] left by r x f e = absurd (true≢false (sym e))
+  table-ends columns (delimiter ∷ rows) left by r x f e =
+      let cells = cells_left columns most_filled rows in
+      f ∙ ap (λ z. one_more_if z (count_rows options columns (cells - count_missing columns r) x)) (not-true (is_row options columns cells r) e)
+
+  none-left_table : (columns : ℕ) (had : List Row) (by : Bool) (r : Row) (x : List Row) → 0 ≡ lines_left options columns had (r ∷ x) → ends_leaf options by (table_leaf columns had) r ≡ true
+  none-left_table columns [] by r x f = absurd (omega (arith, f))
+  none-left_table columns (delimiter ∷ rows) by r x f = ap not (no-row options columns (cells_left columns most_filled rows) r x f)
+
+  -- a leaf of which no line is left ends
+  none-left : (leaf : Leaf) (first : Row) (had : List Row) (n : ℕ) (by : Bool) (r : Row) (x : List Row) → FitsLeaf options leaf first had 0 (r ∷ x) n → ends_leaf options by (leaf_left leaf had 0) r ≡ true
+  none-left ThematicBreak first had n by r x f = refl
+  none-left (AtxHeading level) first had n by r x f = refl
+  none-left IndentedCode first had n by r x f = refl
+  none-left (FencedCode fence) first had n by r x f = refl
+  none-left (HtmlBlock kind) first had n by r x f = refl
+  none-left (MetadataBlock kind) first had n by r x f = refl
+  none-left (LinkDefinition definition) first had n by r x f = refl
+  none-left (Table alignments) first had n by r x f = none-left_table (length alignments) had by r x f.1
+
   -- a line that ends all open blocks of the pass continues none of the model
-  pub ends-parts : (o : OpenLines) (x : List Row) (l : Level) (n : ℕ) (r : Row) (ahead : List Row) → Steady Nil o → Fits false o x n → r.lazy ≡ false
-      → ends_all text options lookup (pass_at text options lookup o x l [] false n) r ahead ≡ true → Parts options o r ahead
+  pub ends-parts : (o : OpenLines) (x : List Row) (l : Level) (n : ℕ) (r : Row) (ahead : List Row) → Steady Nil o → Fits options false o (r ∷ x) n → r.lazy ≡ false
+      → ends_all text options lookup (pass_at text options lookup o (r ∷ x) l [] false n) r ahead ≡ true → Parts options o r ahead
   ends-parts (Between closed) x l n r ahead s f whole e = tt
   ends-parts AfterTag x l n r ahead s f whole e = absurd s
   ends-parts (InParagraph closed first more) x l n r ahead s f whole e =
       let h = both-true (is_none (underlines r)) (not (texts options r ahead)) e in (none-is (underlines r) h.0, not-true (texts options r ahead) h.1)
-  ends-parts (InLeaf closed leaf first had left) x l n r ahead s f whole e = go leaf f.2 e
+  ends-parts (InLeaf closed leaf first had left) x l n r ahead s f whole e = go leaf f.2 f.3 e
     where
-      go : (leaf : Leaf) → (is_looked_up leaf ≡ false → left ≡ 0) → ends_leaf (ends_paragraph text options lookup r ahead) (leaf_left leaf left) r ≡ true → left ≡ 0
-      go ThematicBreak g q = g refl
-      go (AtxHeading level) g q = g refl
-      go IndentedCode g q = g refl
-      go (FencedCode fence) g q = g refl
-      go (HtmlBlock kind) g q = g refl
-      go (MetadataBlock kind) g q = g refl
-      go (LinkDefinition definition) g q = zero-is left q
-      go (Table alignments) g q = zero-is left q
+      go : (leaf : Leaf) → (is_looked_up leaf ≡ false → left ≡ 0) → FitsLeaf options leaf first had left (r ∷ x) n → ends_leaf options (ends_paragraph text options lookup r ahead) (leaf_left leaf had left) r ≡ true → left ≡ 0
+      go ThematicBreak g h q = g refl
+      go (AtxHeading level) g h q = g refl
+      go IndentedCode g h q = g refl
+      go (FencedCode fence) g h q = g refl
+      go (HtmlBlock kind) g h q = g refl
+      go (MetadataBlock kind) g h q = g refl
+      go (LinkDefinition definition) g h q = zero-is left q
+      go (Table alignments) g h q = table-ends (length alignments) had left (ends_paragraph text options lookup r ahead) r x h.1 q
   ends-parts (InVerbatim closed v first had waiting) x l n r ahead s f whole e = ap (λ z. continuation_if z v r) whole ∙ go v e
     where
-      go : (v : Verbatim) → ends_leaf (ends_paragraph text options lookup r ahead) (verbatim_leaf text options lookup v first had waiting) r ≡ true → continuation_in v r ≡ Stops
+      go : (v : Verbatim) → ends_leaf options (ends_paragraph text options lookup r ahead) (verbatim_leaf text options lookup v first had waiting) r ≡ true → continuation_in v r ≡ Stops
       go Indented q = stops-is (code_continuation r) q
       go (Fenced fence) q = absurd (true≢false (sym q))
       go (HtmlLines kind) q = stops-is (html_continuation kind r) q
       go (Metadata kind) q = absurd (true≢false (sym q))
   ends-parts (InContainer closed k first more inside) x l n r ahead s f whole e =
       let h = both-true (is_missed (keeps k (bare_at bare inside && is_last text options lookup cs) r)) (not (lazily options k r ahead && takes_lazy (leaf_at text options lookup inside))) e in (
-        ap (λ b. keeps k b r) (sym (bare-flag text options lookup inside bare (within k bare x) n (entered k first c) f.2)) ∙ missed-is (keeps k (bare_at bare inside && is_last text options lookup cs) r) h.0,
+        ap (λ b. keeps k b r) (sym (bare-flag text options lookup inside bare (within k bare (r ∷ x)) n (entered k first c) f.2)) ∙ missed-is (keeps k (bare_at bare inside && is_last text options lookup cs) r) h.0,
         ap (λ t. lazily options k r ahead && t) (sym (takes-lazy text options lookup inside)) ∙ not-true (lazily options k r ahead && takes_lazy (leaf_at text options lookup inside)) h.1,
       )
     where
@@ -155,22 +166,24 @@ module _ (text : List ℕ) (options : Options) (lookup : Lookup) where
       cs = containers_at text options lookup inside (entered k first (replay text options lookup closed l))
 
   -- and the other way round
-  pub parts-ends : (o : OpenLines) (x : List Row) (l : Level) (n : ℕ) (r : Row) (ahead : List Row) → Fits false o x n → r.lazy ≡ false
-      → Parts options o r ahead → ends_all text options lookup (pass_at text options lookup o x l [] false n) r ahead ≡ true
+  pub parts-ends : (o : OpenLines) (x : List Row) (l : Level) (n : ℕ) (r : Row) (ahead : List Row) → Fits options false o (r ∷ x) n → r.lazy ≡ false
+      → Parts options o r ahead → ends_all text options lookup (pass_at text options lookup o (r ∷ x) l [] false n) r ahead ≡ true
   parts-ends (Between closed) x l n r ahead f whole p = refl
   parts-ends AfterTag x l n r ahead f whole p = absurd p
   parts-ends (InParagraph closed first more) x l n r ahead f whole p = ap (λ u. is_none u && not (texts options r ahead)) p.0 ∙ ap not p.1
-  parts-ends (InLeaf closed leaf first had left) x l n r ahead f whole p = ap (λ k. ends_leaf (ends_paragraph text options lookup r ahead) (leaf_left leaf k) r) p ∙ none-left leaf (ends_paragraph text options lookup r ahead) r
+  parts-ends (InLeaf closed leaf first had left) x l n r ahead f whole p =
+      ap (λ k. ends_leaf options (ends_paragraph text options lookup r ahead) (leaf_left leaf had k) r) p
+      ∙ none-left leaf first had n (ends_paragraph text options lookup r ahead) r x (subst (λ k. FitsLeaf options leaf first had k (r ∷ x) n) p f.3)
   parts-ends (InVerbatim closed v first had waiting) x l n r ahead f whole p = go v (ap (λ z. continuation_if z v r) (sym whole) ∙ p)
     where
-      go : (v : Verbatim) → continuation_in v r ≡ Stops → ends_leaf (ends_paragraph text options lookup r ahead) (verbatim_leaf text options lookup v first had waiting) r ≡ true
+      go : (v : Verbatim) → continuation_in v r ≡ Stops → ends_leaf options (ends_paragraph text options lookup r ahead) (verbatim_leaf text options lookup v first had waiting) r ≡ true
       go Indented q = ap stops q
       go (Fenced fence) q = absurd (chosen-stops (closes_fence fence r) q)
       go (HtmlLines kind) q = ap stops q
       go (Metadata kind) q = absurd (chosen-stops (ends_metadata kind r) q)
   parts-ends (InContainer closed k first more inside) x l n r ahead f whole p =
       ap (λ o. is_missed o && not (lazily options k r ahead && takes_lazy (leaf_at text options lookup inside)))
-      (ap (λ b. keeps k b r) (bare-flag text options lookup inside bare (within k bare x) n (entered k first c) f.2) ∙ p.0)
+      (ap (λ b. keeps k b r) (bare-flag text options lookup inside bare (within k bare (r ∷ x)) n (entered k first c) f.2) ∙ p.0)
       ∙ ap not (ap (λ t. lazily options k r ahead && t) (takes-lazy text options lookup inside) ∙ p.1)
     where
       bare : Bool
@@ -180,8 +193,8 @@ module _ (text : List ℕ) (options : Options) (lookup : Lookup) where
       c = replay text options lookup closed l
 
   -- any other line leaves the list that may continue after the open blocks
-  pub stays-list : (list : Option ℕ) (o : OpenLines) (x : List Row) (l : Level) (n : ℕ) (r : Row) (ahead : List Row) → Steady Nil o → Fits false o x n → r.lazy ≡ false
-      → ends_all text options lookup (pass_at text options lookup o x l [] false n) r ahead ≡ false → last_list list (close_lines (lines_feed options o r ahead)) ≡ last_list list (close_lines o)
+  pub stays-list : (list : Option ℕ) (o : OpenLines) (x : List Row) (l : Level) (n : ℕ) (r : Row) (ahead : List Row) → Steady Nil o → Fits options false o (r ∷ x) n → r.lazy ≡ false
+      → ends_all text options lookup (pass_at text options lookup o (r ∷ x) l [] false n) r ahead ≡ false → last_list list (close_lines (lines_feed options o r ahead)) ≡ last_list list (close_lines o)
   stays-list list (Between closed) x l n r ahead s f whole e = absurd (true≢false e)
   stays-list list AfterTag x l n r ahead s f whole e = absurd s
   stays-list list (InParagraph closed first more) x l n r ahead s f whole e = go (underlines r) (texts options r ahead) e
@@ -197,7 +210,7 @@ module _ (text : List ℕ) (options : Options) (lookup : Lookup) where
       go (Some level) t q = last-join options list closed (SetextHeading level first more r Nil) ∙ sym before
       go None true q = last-join options list closed (Paragraph first (more ++ r ∷ []) Nil) ∙ sym before
       go None false q = absurd (true≢false q)
-  stays-list list (InLeaf closed leaf first had zero) x l n r ahead s f whole e = absurd (true≢false (sym (none-left leaf (ends_paragraph text options lookup r ahead) r) ∙ e))
+  stays-list list (InLeaf closed leaf first had zero) x l n r ahead s f whole e = absurd (true≢false (sym (none-left leaf first had n (ends_paragraph text options lookup r ahead) r x f.3) ∙ e))
   stays-list list (InLeaf closed leaf first had (suc left)) x l n r ahead s f whole e = last-leaf options list closed leaf first (had ++ r ∷ []) ∙ sym (last-leaf options list closed leaf first had)
   stays-list list (InVerbatim closed v first had waiting) x l n r ahead s f whole e =
       last-line options list (continuation_if r.lazy v r) closed v first had waiting r off (λ q. go v e (ap (λ z. continuation_if z v r) (sym whole) ∙ q))
@@ -205,7 +218,7 @@ module _ (text : List ℕ) (options : Options) (lookup : Lookup) where
       off : OpenLines
       off = lines_begin options (join (join closed (LeafBlock (leaf_in v) first had Nil)) (blank_lines waiting)) r ahead
 
-      go : (v : Verbatim) → ends_leaf (ends_paragraph text options lookup r ahead) (verbatim_leaf text options lookup v first had waiting) r ≡ false → continuation_in v r ≡ Stops → ⊥
+      go : (v : Verbatim) → ends_leaf options (ends_paragraph text options lookup r ahead) (verbatim_leaf text options lookup v first had waiting) r ≡ false → continuation_in v r ≡ Stops → ⊥
       go Indented q t = true≢false (sym (ap stops t) ∙ q)
       go (Fenced fence) q t = chosen-stops (closes_fence fence r) t
       go (HtmlLines kind) q t = true≢false (sym (ap stops t) ∙ q)
@@ -229,7 +242,7 @@ module _ (text : List ℕ) (options : Options) (lookup : Lookup) where
 
       same : (is_missed (keeps k (bare_after (is_bare_start k first) more) r) && not (lazily options k r ahead && lines_take_lazy inside)) ≡ false
       same =
-          ap (λ b. is_missed (keeps k b r) && not (lazily options k r ahead && lines_take_lazy inside)) (sym (bare-flag text options lookup inside bare (within k bare x) n (entered k first c) f.2))
+          ap (λ b. is_missed (keeps k b r) && not (lazily options k r ahead && lines_take_lazy inside)) (sym (bare-flag text options lookup inside bare (within k bare (r ∷ x)) n (entered k first c) f.2))
           ∙ ap (λ t. is_missed (keeps k (bare_at bare inside && is_last text options lookup cs) r) && not (lazily options k r ahead && t)) (sym (takes-lazy text options lookup inside))
           ∙ e
 

@@ -15,7 +15,7 @@ use Rattle.cmark_grammar.specs.BlockDocument.{Nil}
 use Rattle.cmark_line_rules.specs.Rests.{row_of}
 use Rattle.cmark_line_rules.specs.declared.line_rest.LineRest.{LineRest}
 use Rattle.cmark_line_rules.proofs.LazyRows.{whole-texts, lazily-is}
-use Rattle.cmark_block_model.specs.BlockPass.{ahead_in, kept_by, leaf_fed, lazy_fed, begin, leaf_closed, close_leaf, heading_made, kept_lines, paragraph_line, paragraph_begun, underlined_or, line_with, line_fed, lines_fed, containers_closed, with_drawn}
+use Rattle.cmark_block_model.specs.BlockPass.{ahead_in, kept_by, leaf_fed, lazy_fed, begin, leaf_closed, close_leaf, heading_made, kept_lines, paragraph_line, paragraph_begun, underlined_or, line_with, line_fed, lines_fed, containers_closed, with_drawn, is_row, table_row}
 use Rattle.cmark_block_model.specs.OpenBlocks as model
 use Rattle.cmark_block_model.specs.OpenBlocks.{takes_lazy}
 use Rattle.cmark_blocks.specs.declared.state.OpenLeaf.TheVariants as leaf
@@ -37,8 +37,8 @@ module _ {E : Type 0} (replacement : E → Lookup) (text : List ℕ) (options : 
   pub in_definition : (left : ℕ) → pass.leaf ≡ leaf.Definition left → m.leaf ≡ model.InDefinition left
   in_definition left is = (subst (λ l. ShowsLeaf text l pass.blank_lines.items m.leaf) is runs.leaf).0
 
-  pub in_table : (left : ℕ) → pass.leaf ≡ leaf.Table left → m.leaf ≡ model.InTable left
-  in_table left is = (subst (λ l. ShowsLeaf text l pass.blank_lines.items m.leaf) is runs.leaf).0
+  pub in_table : (columns left : ℕ) (has_delimiter : Bool) → pass.leaf ≡ leaf.Table columns left has_delimiter → m.leaf ≡ model.InTable columns left has_delimiter
+  in_table columns left has_delimiter is = (subst (λ l. ShowsLeaf text l pass.blank_lines.items m.leaf) is runs.leaf).0
 
 module _ (text : List ℕ) (options : Options) (lookup : Lookup) (r : Row) (m : model.Pass) where
   -- a line that touches the last one, or not
@@ -81,11 +81,21 @@ module _ (text : List ℕ) (options : Options) (lookup : Lookup) (r : Row) (next
   feeds-left left is = ap (λ l. leaf_fed text options lookup l r next m) is
 
   -- after a table's head
-  pub feeds-last_row : m.leaf ≡ model.InTable 0 → leaf_fed text options lookup m.leaf r next m ≡ begin text options lookup r next (leaf_closed text options lookup m)
-  feeds-last_row is = ap (λ l. leaf_fed text options lookup l r next m) is
+  pub feeds-delimiter : (columns left : ℕ) → m.leaf ≡ model.InTable columns left false → leaf_fed text options lookup m.leaf r next m ≡ record m { leaf = model.InTable columns left true }
+  feeds-delimiter columns left is = ap (λ l. leaf_fed text options lookup l r next m) is
 
-  pub feeds-row : (left : ℕ) → m.leaf ≡ model.InTable (suc left) → leaf_fed text options lookup m.leaf r next m ≡ record m { leaf = model.InTable left }
-  feeds-row left is = ap (λ l. leaf_fed text options lookup l r next m) is
+  feeds-table : (columns left : ℕ) (is_another : Bool) → m.leaf ≡ model.InTable columns left true → is_row options columns left r ≡ is_another
+      → leaf_fed text options lookup m.leaf r next m ≡ (if is_another then table_row text options lookup columns left r m else begin text options lookup r next (leaf_closed text options lookup m))
+  feeds-table columns left is_another is row =
+      ap (λ l. leaf_fed text options lookup l r next m) is
+      ∙ ap (λ z. if z then table_row text options lookup columns left r m else begin text options lookup r next (leaf_closed text options lookup m)) row
+
+  pub feeds-row : (columns left : ℕ) → m.leaf ≡ model.InTable columns left true → is_row options columns left r ≡ true → leaf_fed text options lookup m.leaf r next m ≡ table_row text options lookup columns left r m
+  feeds-row columns left is row = feeds-table columns left true is row
+
+  pub feeds-following_table : (columns left : ℕ) → m.leaf ≡ model.InTable columns left true → is_row options columns left r ≡ false
+      → leaf_fed text options lookup m.leaf r next m ≡ begin text options lookup r next (leaf_closed text options lookup m)
+  feeds-following_table columns left is row = feeds-table columns left false is row
 
   -- after an alert's tag
   pub feeds-following : m.leaf ≡ model.AfterTag → leaf_fed text options lookup m.leaf r next m ≡ begin text options lookup r next (leaf_closed text options lookup m)
@@ -133,7 +143,7 @@ module _ (text : List ℕ) (options : Options) (lookup : Lookup) (m : model.Pass
   closed-outer model.AfterTag = refl
   closed-outer (model.InParagraph before from last) = refl
   closed-outer (model.InDefinition left) = refl
-  closed-outer (model.InTable left) = refl
+  closed-outer (model.InTable columns left has_delimiter) = refl
   closed-outer (model.InIndented waits end blank) = refl
   closed-outer (model.InFenced fence waits) = refl
   closed-outer (model.InHtml kind) = refl

@@ -29,7 +29,6 @@ pub mod ReferenceSteps
 pub mod RunSteps
 pub mod SearchSteps
 pub mod SetextSteps
-pub mod TableRuns
 pub mod TableSteps
 pub mod TaskSteps
 pub mod TitleSteps

@@ -16,7 +16,7 @@ use Rattle.cmark_block_model.specs.OpenBlocks.{takes_lazy}
 use Rattle.cmark_block_model.proofs.DefinitionDelimiters.{OpenUnmarked}
 use Rattle.cmark_block_model.proofs.Flags.{and-true, and-false}
 use Rattle.cmark_block_model.proofs.Keeping.{feed-fits}
-use Rattle.cmark_block_model.proofs.Mirror.{Fits, leaf_left, verbatim_leaf, leaf_at, containers_at, pass_at, bare_at}
+use Rattle.cmark_block_model.proofs.Mirror.{Fits, table_leaf, leaf_left, verbatim_leaf, leaf_at, containers_at, pass_at, bare_at}
 use Rattle.cmark_block_model.proofs.Replay.{Noted, Level}
 use Rattle.cmark_block_model.proofs.Simulation.{simulates}
 use Rattle.cmark_block_model.proofs.Theorem.{bottom_after}
@@ -30,7 +30,11 @@ module _ (text : List ℕ) (options : Options) (lookup : Lookup) where
   takes-lazy (InParagraph closed first more) = refl
   takes-lazy (InLeaf closed leaf first had left) = go leaf
     where
-      go : (leaf : Leaf) → takes_lazy (leaf_left leaf left) ≡ allows_lazy (after_leaf leaf)
+      table : (columns : ℕ) (rs : List Row) → takes_lazy (table_leaf columns rs) ≡ false
+      table columns [] = refl
+      table columns (r ∷ rs) = refl
+
+      go : (leaf : Leaf) → takes_lazy (leaf_left leaf had left) ≡ allows_lazy (after_leaf leaf)
       go ThematicBreak = refl
       go (AtxHeading level) = refl
       go IndentedCode = refl
@@ -38,7 +42,7 @@ module _ (text : List ℕ) (options : Options) (lookup : Lookup) where
       go (HtmlBlock kind) = refl
       go (LinkDefinition definition) = refl
       go (MetadataBlock kind) = refl
-      go (Table alignments) = refl
+      go (Table alignments) = table (length alignments) had
   takes-lazy (InVerbatim closed verbatim first had waiting) = go verbatim
     where
       go : (v : Verbatim) → takes_lazy (verbatim_leaf text options lookup v first had waiting) ≡ false
@@ -49,7 +53,7 @@ module _ (text : List ℕ) (options : Options) (lookup : Lookup) where
   takes-lazy (InContainer closed k first more inside) = takes-lazy inside
 
   -- only the innermost container is bare
-  pub bare-flag : (o : OpenLines) (b : Bool) (ahead : List Row) (n : ℕ) (l : Level) → Fits b o ahead n → (bare_at b o && is_last text options lookup (containers_at text options lookup o l)) ≡ b
+  pub bare-flag : (o : OpenLines) (b : Bool) (ahead : List Row) (n : ℕ) (l : Level) → Fits options b o ahead n → (bare_at b o && is_last text options lookup (containers_at text options lookup o l)) ≡ b
   bare-flag (Between closed) b ahead n l f = and-true b
   bare-flag AfterTag b ahead n l f = sym f
   bare-flag (InParagraph closed first more) b ahead n l f = sym f.0
@@ -72,15 +76,15 @@ module _ (text : List ℕ) (options : Options) (lookup : Lookup) where
   shown-first r rs e = ap (λ z. show_as z r (shown rs)) e
 
   -- the pass after another line
-  pub one-fed : (noted : Noted) (r : Row) (rs : List Row) (o : OpenLines) (n : ℕ) → AreWhole options (r ∷ rs) → OpenUnmarked o → Fits false o (shown (r ∷ rs)) n
+  pub one-fed : (noted : Noted) (r : Row) (rs : List Row) (o : OpenLines) (n : ℕ) → AreWhole options (r ∷ rs) → OpenUnmarked o → Fits options false o (shown (r ∷ rs)) n
       → line_fed text options lookup r rs (pass_at text options lookup o (shown (r ∷ rs)) (bottom_after noted) [] false n)
       ≡ pass_at text options lookup (lines_feed options o r (shown rs)) (shown rs) (bottom_after noted) [] false r.line_end
   one-fed noted r rs o n h u f =
       ap (λ x. line_fed text options lookup r rs (pass_at text options lookup o x (bottom_after noted) [] false n)) (shown-first r rs h.0)
-      ∙ ap {A = model.Pass} {B = model.Pass} (λ q. record q { line_end = r.line_end }) (simulates text options lookup o false r rs (shown rs) (bottom_after noted) [] n refl u h.0 (sym (shown-whole rs h.1)) (subst (λ x. Fits false o x n) (shown-first r rs h.0) f))
+      ∙ ap {A = model.Pass} {B = model.Pass} (λ q. record q { line_end = r.line_end }) (simulates text options lookup o false r rs (shown rs) (bottom_after noted) [] n refl u h.0 (sym (shown-whole rs h.1)) (subst (λ x. Fits options false o x n) (shown-first r rs h.0) f))
 
-  pub next-fits : (r : Row) (rs : List Row) (o : OpenLines) (n : ℕ) → AreWhole options (r ∷ rs) → Fits false o (shown (r ∷ rs)) n → Fits false (lines_feed options o r (shown rs)) (shown rs) r.line_end
-  next-fits r rs o n h f = feed-fits text options lookup o false r (shown rs) n h.0 (subst (λ x. Fits false o x n) (shown-first r rs h.0) f)
+  pub next-fits : (r : Row) (rs : List Row) (o : OpenLines) (n : ℕ) → AreWhole options (r ∷ rs) → Fits options false o (shown (r ∷ rs)) n → Fits options false (lines_feed options o r (shown rs)) (shown rs) r.line_end
+  next-fits r rs o n h f = feed-fits text options lookup o false r (shown rs) n h.0 (subst (λ x. Fits options false o x n) (shown-first r rs h.0) f)
 
 pub whole-rows : (options : Options) (at : ℕ) (ls : List (List ℕ)) → AreWhole options (rows_from at ls)
 whole-rows options at [] = tt

@@ -12,7 +12,7 @@ use Rattle.cmark_grammar.specs.Lines.{lines, content}
 use Rattle.cmark_grammar.specs.Openings.{opens_at}
 use Rattle.cmark_grammar.specs.Options.{Options}
 use Rattle.cmark_grammar.specs.Places.{Apart}
-use Rattle.cmark_grammar.specs.Rows.{Row, row_at, rows_from, shown, is_blank_line, indent_of, words_of}
+use Rattle.cmark_grammar.specs.Rows.{Row, row_at, rows_from, show_as, shown, is_blank_line, indent_of, words_of}
 use Rattle.cmark_grammar.specs.TableRows.{begins_with_pipe, table_head, is_some_head, table_interrupts}
 use Rattle.cmark_grammar.specs.Blocks.{Nil}
 use Rattle.cmark_block_model.specs.BlocksByLine.{OpenLines, Between, close_lines, lines_begin, lines_feed, lines_feed_all}
@@ -116,7 +116,7 @@ module _ (text : List ℕ) (options : Options) (lookup : Lookup) (from : ℕ) (b
     pub mirrors : m ≡ pass_at text options lookup o (shown (lines_at text n)) (bottom_after none_noted) [] false n
     pub steady : Steady Nil o
     pub unmarked : OpenUnmarked o
-    pub fits : Fits false o (shown (lines_at text n)) n
+    pub fits : Fits options false o (shown (lines_at text n)) n
     pub resolved : is_resolved ≡ true → are_resolved done ≡ true
     pub leaves : Leaves options (lines_at text n) (Between Nil) done left
     pub listed : after_item ≡ false → last_list (list_before options text from) (close_lines o) ≡ None
@@ -173,18 +173,28 @@ module _ (text : List ℕ) (options : Options) (lookup : Lookup) (from : ℕ) (b
     all-shown : shown rest ≡ rest
     all-shown = shown-whole text options lookup rest are-whole.1
 
-    fits : Fits false s.o (shown (r ∷ rest)) n
-    fits = subst (λ l. Fits false s.o (shown l) n) next s.fits
+    fits : Fits options false s.o (shown (r ∷ rest)) n
+    fits = subst (λ l. Fits options false s.o (shown l) n) next s.fits
 
     at : m ≡ pass_at text options lookup s.o (shown (r ∷ rest)) (bottom_after none_noted) [] false n
     at = s.mirrors ∙ ap (λ l. pass_at text options lookup s.o (shown l) (bottom_after none_noted) [] false n) next
+
+    -- the same, with the next line first
+    first-shown : shown (r ∷ rest) ≡ r ∷ shown rest
+    first-shown = ap (λ z. show_as z r (shown rest)) whole
+
+    fits-first : Fits options false s.o (r ∷ shown rest) n
+    fits-first = subst (λ l. Fits options false s.o l n) first-shown fits
+
+    at-first : m ≡ pass_at text options lookup s.o (r ∷ shown rest) (bottom_after none_noted) [] false n
+    at-first = at ∙ ap (λ l. pass_at text options lookup s.o l (bottom_after none_noted) [] false n) first-shown
 
     abbrev ends : Bool
     ends = ends_all text options lookup m r rest
 
     -- the line continues no open block, if the pass says so
     parted : ends ≡ true → Parts options s.o r rest
-    parted e = ends-parts text options lookup s.o (shown (r ∷ rest)) (bottom_after none_noted) n r rest s.steady fits whole (ap (λ p. ends_all text options lookup p r rest) (sym at) ∙ e)
+    parted e = ends-parts text options lookup s.o (shown rest) (bottom_after none_noted) n r rest s.steady fits-first whole (ap (λ p. ends_all text options lookup p r rest) (sym at-first) ∙ e)
 
     begins-anew : ends ≡ true → lines_feed options s.o r (shown rest) ≡ lines_begin options (close_lines s.o) r (shown rest)
     begins-anew e = parts-begin options s.o r (shown rest) (subst (Parts options s.o r) (sym all-shown) (parted e))
@@ -214,7 +224,7 @@ module _ (text : List ℕ) (options : Options) (lookup : Lookup) (from : ℕ) (b
         go false b e q true w l = absurd (true≢false (w ∙ ap (λ z. not (is_blank_line r) && z) e ∙ and-off (not (is_blank_line r))))
         go false b e q false w l =
             ap (λ a. last_list list (close_lines (lines_feed options s.o r a))) all-shown
-            ∙ stays-list text options lookup list s.o (shown (r ∷ rest)) (bottom_after none_noted) n r rest s.steady fits whole (ap (λ p. ends_all text options lookup p r rest) (sym at) ∙ e)
+            ∙ stays-list text options lookup list s.o (shown rest) (bottom_after none_noted) n r rest s.steady fits-first whole (ap (λ p. ends_all text options lookup p r rest) (sym at-first) ∙ e)
             ∙ s.listed l
 
     -- a line that continues no open block and is not blank begins a block
@@ -222,8 +232,8 @@ module _ (text : List ℕ) (options : Options) (lookup : Lookup) (from : ℕ) (b
     began parts q =
         begins_is
         ∙ ap (λ b. not b && ends) q
-        ∙ ap (λ p. ends_all text options lookup p r rest) at
-        ∙ parts-ends text options lookup s.o (shown (r ∷ rest)) (bottom_after none_noted) n r rest fits whole
+        ∙ ap (λ p. ends_all text options lookup p r rest) at-first
+        ∙ parts-ends text options lookup s.o (shown rest) (bottom_after none_noted) n r rest fits-first whole
         (subst (Parts options s.o r) all-shown (subst (λ o. Parts options o r (shown rest)) (sym (s.is ∙ ap (λ l. fed_before options l (Between Nil) s.done) next)) parts))
 
     resolved : (blind && (blank || is_resolved)) ≡ true → are_resolved (s.done ++ r ∷ []) ≡ true

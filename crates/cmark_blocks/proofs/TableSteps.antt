@@ -1,21 +1,21 @@
--- Tables in the lines ahead: their heads and their rows.
-use Rattle.std.proofs.Common.{◌≡◌, ℕ, suc, ◌-◌, ◌<◌, ◌≤◌, Bool, true, false, ◌==◌, ◌&&◌, not, nat_le, ltb, List, [], ◌∷◌, take, drop, length, Option, Some, None, refl, sym, ap, ◌∙◌, arith, true≢false}
-use Rattle.std.specs.Prelude.{if◌then◌else◌, MatchOption, is_some}
+-- The heads of tables, which the next line tells.
+use Rattle.std.proofs.Common.{◌≡◌, ℕ, suc, ◌<◌, ◌≤◌, Bool, true, false, ◌==◌, ◌&&◌, not, nat_le, List, [], ◌∷◌, drop, length, Option, Some, None, refl, sym, ap, ◌∙◌, arith, true≢false}
+use Rattle.std.specs.Prelude.{if◌then◌else◌, MatchOption, is_some, nat_lt}
 use Rattle.std.proofs.lemmas.Bool.{eqb-true, le-leb, ltb-true, ltb-false}
 use Rattle.cmark_grammar.specs.Alignment.{Alignment}
 use Rattle.cmark_grammar.specs.Answers.{Lookup}
 use Rattle.cmark_grammar.specs.Containers.{Container}
-use Rattle.cmark_grammar.specs.Openings.{Table, interrupts, count_rows, table_if}
+use Rattle.cmark_grammar.specs.Openings.{Table, count_rows, interrupts, table_if}
 use Rattle.cmark_grammar.specs.Options.{Options}
 use Rattle.cmark_grammar.specs.Rows.{Row, indent_of, words_of}
-use Rattle.cmark_grammar.specs.TableRows.{holds_pipe, count_cells, count_missing, most_filled, one_more_if, with_columns, delimited_ahead, table_head, is_some_head, begins_with_pipe, table_interrupts}
+use Rattle.cmark_grammar.specs.TableRows.{holds_pipe, count_cells, count_missing, most_filled, with_columns, delimited_ahead, table_head, is_some_head, begins_with_pipe, table_interrupts}
 use Rattle.cmark_grammar.specs.Tables.{delimiter_row}
 use Rattle.cmark_items.specs.ItemNodes.{columns_of}
 use Rattle.cmark_line_rules.specs.Rests.{row_of}
 use Rattle.cmark_line_rules.specs.declared.line_rest.LineRest.{LineRest}
-use Rattle.cmark_block_model.specs.BlockPass.{leaf_begun, begin_as, paragraph_begun}
+use Rattle.cmark_block_model.specs.BlockPass.{is_row, leaf_begun, begin_as, paragraph_begun}
 use Rattle.cmark_block_model.specs.OpenBlocks as model
-use Rattle.cmark_blocks.specs.TablesAhead.{IsHead, rows_taken}
+use Rattle.cmark_blocks.specs.TablesAhead.{IsHead}
 
 -- how many cells a line has that may be a head, if it may be one
 pub cells-some : (z : Bool) (cells columns : ℕ) → Some columns ≡ (if z then Some cells else None) → (z ≡ true) × (cells ≡ columns)
@@ -120,33 +120,32 @@ pub head-in_text : (options : Options) (r : Row) (ahead : List Row) (following :
 head-in_text options r ahead following None none = sym (ap is_some_head none)
 head-in_text options r ahead following (Some head) some = sym (ap is_some_head some.is)
 
--- the rows ahead
-module _ (options : Options) (columns left : ℕ) (r : Row) (ahead : List Row) where
-  taken-if : (z : Bool) → (not (interrupts options false r ahead) && nat_le (count_missing columns r) left) ≡ z →
-      rows_taken options columns left (r ∷ ahead) ≡ take (one_more_if z (count_rows options columns (left - count_missing columns r) ahead)) (r ∷ ahead)
-  taken-if z e = ap (λ y. take (one_more_if y (count_rows options columns (left - count_missing columns r) ahead)) (r ∷ ahead)) e
-
-  pub rows-more : interrupts options false r ahead ≡ false → count_missing columns r ≤ left → rows_taken options columns left (r ∷ ahead) ≡ r ∷ rows_taken options columns (left - count_missing columns r) ahead
-  rows-more goes_on few = taken-if true (ap (λ z. not z && nat_le (count_missing columns r) left) goes_on ∙ le-leb (count_missing columns r) left few)
-
-  pub rows-interrupted : interrupts options false r ahead ≡ true → rows_taken options columns left (r ∷ ahead) ≡ []
-  rows-interrupted ends = taken-if false (ap (λ z. not z && nat_le (count_missing columns r) left) ends)
-
-  pub rows-filled : left < count_missing columns r → rows_taken options columns left (r ∷ ahead) ≡ []
-  rows-filled many = taken-if false (ap (λ z. not (interrupts options false r ahead) && z) (more (count_missing columns r) left many) ∙ nothing (not (interrupts options false r ahead)))
+-- the rows
+module _ (options : Options) (columns left : ℕ) (r : Row) where
+  -- a line is another row if it does not interrupt, and does not miss too many cells
+  pub row-by : (ends misses : Bool) → ends ≡ interrupts options false r [] → misses ≡ nat_lt left (count_missing columns r) → (not ends && not misses) ≡ is_row options columns left r
+  row-by ends misses e f = ap (λ z. not z && not misses) e ∙ ap (λ z. not (interrupts options false r []) && z) (ap not f ∙ not-less (nat_lt left (count_missing columns r)) refl)
     where
-      more : (a b : ℕ) → b < a → nat_le a b ≡ false
-      more a b lt = grind (arith)
+      not-less : (z : Bool) → nat_lt left (count_missing columns r) ≡ z → not z ≡ nat_le (count_missing columns r) left
+      not-less true e = let lt = ltb-true left (count_missing columns r) e in more (count_missing columns r) left lt
+        where
+          more : (a b : ℕ) → b < a → false ≡ nat_le a b
+          more a b lt = grind (arith)
+      not-less false e = sym (le-leb (count_missing columns r) left (ltb-false left (count_missing columns r) e))
 
-      nothing : (z : Bool) → (z && false) ≡ false
-      nothing true = refl
-      nothing false = refl
+  pub interrupted-row : interrupts options false r [] ≡ true → is_row options columns left r ≡ false
+  interrupted-row e = ap (λ z. not z && nat_le (count_missing columns r) left) e
 
-pub less-in_text : (left missing cells : ℕ) → ltb left missing ≡ true → missing ≡ cells → left < cells
-less-in_text left missing cells e same = let lt = ltb-true left missing e in omega (arith, lt, same)
+  -- its missing cells may be filled in
+  pub row-fits : is_row options columns left r ≡ true → count_missing columns r ≤ left
+  row-fits e = go (not (interrupts options false r [])) e
+    where
+      few : (a b : ℕ) → nat_le a b ≡ true → a ≤ b
+      few a b e = grind (arith)
 
-pub fits-in_text : (left missing cells : ℕ) → ltb left missing ≡ false → missing ≡ cells → cells ≤ left
-fits-in_text left missing cells e same = let le = ltb-false left missing e in omega (arith, le, same)
+      go : (z : Bool) → (z && nat_le (count_missing columns r) left) ≡ true → count_missing columns r ≤ left
+      go true e = few (count_missing columns r) left e
+      go false e = absurd (true≢false (sym e))
 
 -- the opening of a line that begins no other leaf
 module _ (text : List ℕ) (options : Options) (lookup : Lookup) (m : model.Pass) (inside : Container → model.Pass) (r : Row) (ahead : List Row) (bare : Bool) where

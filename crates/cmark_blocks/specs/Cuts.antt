@@ -13,7 +13,7 @@ use Rattle.cmark_line_rules.specs.declared.opening.Opening.{Opening}
 use Rattle.cmark_line_rules.specs.declared.opening.Opening.TheVariants as opening
 use Rattle.cmark_line_rules.specs.declared.container.ContainerStart.TheVariants as start
 use Rattle.cmark_values.specs.Shown.{shown_options, shown_metadata_block_kind}
-use Rattle.cmark_block_model.specs.BlockPass.{is_last}
+use Rattle.cmark_block_model.specs.BlockPass.{is_last, is_row}
 use Rattle.cmark_block_model.specs.Tails.{starting_at}
 use Rattle.cmark_block_model.specs.OpenBlocks as model
 use Rattle.cmark_block_model.specs.OpenBlocks.{Closed, AfterTag, InParagraph, InDefinition, InIndented, InFenced, InHtml, InMetadata, InTable, takes_lazy}
@@ -71,16 +71,16 @@ is_missed (Some r) = false
 is_missed None = true
 
 -- whether a line that lacks no prefix ends the open leaf, or no leaf is open; an open paragraph ends `by` the line
-abbrev pub ends_leaf : (by : Bool) → model.OpenLeaf → Row → Bool
-ends_leaf by Closed r = true
-ends_leaf by AfterTag r = false
-ends_leaf by (InParagraph before from last) r = by
-ends_leaf by (InDefinition left) r = left == 0
-ends_leaf by (InTable left) r = left == 0
-ends_leaf by (InIndented waits end blank) r = stops (code_continuation r)
-ends_leaf by (InFenced fence waits) r = false
-ends_leaf by (InHtml kind) r = stops (html_continuation kind r)
-ends_leaf by (InMetadata kind waits) r = false
+abbrev pub ends_leaf : Options → (by : Bool) → model.OpenLeaf → Row → Bool
+ends_leaf options by Closed r = true
+ends_leaf options by AfterTag r = false
+ends_leaf options by (InParagraph before from last) r = by
+ends_leaf options by (InDefinition left) r = left == 0
+ends_leaf options by (InTable columns left has_delimiter) r = has_delimiter && not (is_row options columns left r)
+ends_leaf options by (InIndented waits end blank) r = stops (code_continuation r)
+ends_leaf options by (InFenced fence waits) r = false
+ends_leaf options by (InHtml kind) r = stops (html_continuation kind r)
+ends_leaf options by (InMetadata kind waits) r = false
 
 module _ (text : List ℕ) (options : Options) (lookup : Lookup) where
   -- whether a line that lacks no prefix ends an open paragraph, and is no underline of it
@@ -89,7 +89,7 @@ module _ (text : List ℕ) (options : Options) (lookup : Lookup) where
 
   -- whether a line continues no open block, with these containers around the open leaf
   abbrev pub ends_outer : (outer : List model.OpenContainer) → (bare : Bool) → model.OpenLeaf → Row → (ahead : List Row) → Bool
-  ends_outer [] bare leaf r ahead = ends_leaf (ends_paragraph r ahead) leaf r
+  ends_outer [] bare leaf r ahead = ends_leaf options (ends_paragraph r ahead) leaf r
   ends_outer (c ∷ cs) bare leaf r ahead =
       is_missed (keeps c.container (bare && is_last text options lookup cs) r) && not (lazily options c.container r ahead && takes_lazy leaf)
 
@@ -98,9 +98,9 @@ module _ (text : List ℕ) (options : Options) (lookup : Lookup) where
   ends_all m r ahead = ends_outer m.outer m.bare m.leaf r ahead
 
 -- whether a line that lacks no prefix ends the open leaf
-abbrev pub EndsLeaf : OpenLeaf → (by : Bool) → LineRest → Bool → Type 0
-EndsLeaf open_leaf by line ends =
-    (text : List ℕ) (blanks : List LineRest) (m : model.OpenLeaf) → ShowsLeaf text open_leaf blanks m → ends ≡ ends_leaf by m (row_of line)
+abbrev pub EndsLeaf : Options → OpenLeaf → (by : Bool) → LineRest → Bool → Type 0
+EndsLeaf options open_leaf by line ends =
+    (text : List ℕ) (blanks : List LineRest) (m : model.OpenLeaf) → ShowsLeaf text open_leaf blanks m → ends ≡ ends_leaf options by m (row_of line)
 
 module _ {E : Type 0} (replacement : E → Lookup) where
   -- what is true of a line and the lines ahead, for each state of the model

@@ -12,8 +12,8 @@ use Rattle.cmark_grammar.specs.DefinitionLists.{definition_at}
 use Rattle.cmark_grammar.specs.Rows.{Row}
 use Rattle.cmark_items.specs.ItemNodes.{list_number}
 use Rattle.cmark_line_rules.specs.Opened.{opened}
-use Rattle.cmark_line_rules.specs.Rests.{row_of}
-use Rattle.cmark_line_rules.specs.Starts.{shown_start}
+use Rattle.cmark_line_rules.specs.Rests.{IsIn, row_of}
+use Rattle.cmark_line_rules.specs.Starts.{Enters as EntersRow, HasMarker, inside_of, shown_start}
 use Rattle.cmark_line_rules.specs.declared.container.ContainerStart.{ContainerStart}
 use Rattle.cmark_line_rules.specs.declared.container.ContainerStart.TheVariants as begun
 use Rattle.cmark_line_rules.specs.declared.line_rest.LineRest.{LineRest}
@@ -42,6 +42,14 @@ abbrev pub HasNumber : ContainerStart → Type 0
 HasNumber (begun.BlockQuote inside) = Unit {0}
 HasNumber (begun.Item item inside) = list_number item.delimiter (unwrap_or item.number 0) ≡ item.number
 HasNumber (begun.Footnote footnote inside) = Unit {0}
+
+-- a container begins like this on a row of the text: the number of an item and the label of a footnote are as they are written, and the line
+-- after the marker is the rest of the row
+pub record IsStartOf (text : List ℕ) (row : Row) (start : ContainerStart) : Type 0 where
+  pub number : HasNumber start
+  pub marker : HasMarker row start
+  pub enters : EntersRow row start
+  pub placed : IsIn text (inside_of start)
 
 -- whether nothing of a line is left to begin after a container's marker: the rest is the tag of an alert, or the paragraph after a task
 -- marker

@@ -1,5 +1,5 @@
 -- The model's state of the block pass.
-use Rattle.std.specs.Prelude.{◌≡◌, ℕ, List, [], map, Option, None}
+use Rattle.std.specs.Prelude.{◌≡◌, ℕ, false, List, [], map, Option, None}
 use Rattle.std.specs.Str.{IsCharBoundary}
 use Rattle.cmark_tree.specs.Building.{IsPlaced}
 use Rattle.cmark_grammar.specs.Options.{Options}
@@ -33,20 +33,20 @@ ShowsLeaf text leaf.Closed blanks m = (m ≡ model.Closed) × (blanks ≡ [])
 ShowsLeaf text leaf.AfterTag blanks m = (m ≡ model.AfterTag) × (blanks ≡ [])
 ShowsLeaf text (leaf.Paragraph from last) lines m = m ≡ model.InParagraph (map row_of lines) from (row_of last)
 ShowsLeaf text (leaf.Definition left) blanks m = (m ≡ model.InDefinition left) × (blanks ≡ [])
-ShowsLeaf text (leaf.Table left) blanks m = (m ≡ model.InTable left) × (blanks ≡ [])
+ShowsLeaf text (leaf.Table columns left has_delimiter) blanks m = (m ≡ model.InTable columns left has_delimiter) × (blanks ≡ [])
 ShowsLeaf text (leaf.Indented waits end) blanks m = m ≡ model.InIndented (shown_waits text waits) end (map row_of blanks)
 ShowsLeaf text (leaf.Fenced delimiter run_length indent waits) blanks m =
     (fence : Fence) × IsFence fence delimiter run_length indent × (m ≡ model.InFenced fence (shown_waits text waits)) × (blanks ≡ [])
 ShowsLeaf text (leaf.Html kind) blanks m = (m ≡ model.InHtml (kind_number kind)) × (blanks ≡ [])
 ShowsLeaf text (leaf.Metadata kind waits) blanks m = (m ≡ model.InMetadata (shown_metadata_block_kind kind) (shown_waits text waits)) × (blanks ≡ [])
 
--- fenced code or metadata with this stretch that waits, or HTML without one
+-- fenced code or metadata with this stretch that waits, or HTML or a table without one
 abbrev pub IsVerbatim : OpenLeaf → Option Stretch → Type 0
 IsVerbatim leaf.Closed waits = ⊥
 IsVerbatim leaf.AfterTag waits = ⊥
 IsVerbatim (leaf.Paragraph from last) waits = ⊥
 IsVerbatim (leaf.Definition left) waits = ⊥
-IsVerbatim (leaf.Table left) waits = ⊥
+IsVerbatim (leaf.Table columns left has_delimiter) waits = waits ≡ None
 IsVerbatim (leaf.Indented others end) waits = ⊥
 IsVerbatim (leaf.Fenced delimiter run_length indent others) waits = waits ≡ others
 IsVerbatim (leaf.Html kind) waits = waits ≡ None
@@ -58,7 +58,7 @@ IsLastRead text leaf.Closed = Unit {0}
 IsLastRead text leaf.AfterTag = Unit {0}
 IsLastRead text (leaf.Paragraph from last) = IsRead text last
 IsLastRead text (leaf.Definition left) = Unit {0}
-IsLastRead text (leaf.Table left) = Unit {0}
+IsLastRead text (leaf.Table columns left has_delimiter) = Unit {0}
 IsLastRead text (leaf.Indented waits end) = Unit {0}
 IsLastRead text (leaf.Fenced delimiter run_length indent waits) = Unit {0}
 IsLastRead text (leaf.Html kind) = Unit {0}
@@ -72,6 +72,11 @@ module _ {E : Type 0} where
     pub begins : IsCharBoundary pass.text.now pass.line_end
     pub lines : AreRead pass.text.now pass.blank_lines.items
     pub last : IsLastRead pass.text.now pass.leaf
+
+  -- a block can begin: no leaf is open, and the line is not the rest of one after an item's marker
+  pub record CanBegin (pass : Pass E) : Type 0 where
+    pub closed : pass.leaf ≡ leaf.Closed
+    pub bare : pass.bare ≡ false
 
 module _ {E : Type 0} (replacement : E → Lookup) where
   -- the pass over this text, with these options and this meaning of entity names, is in this state

@@ -4,12 +4,12 @@ ghost use Rattle.std.specs.Prelude.{◌≡◌, Bool, List, Option, ℕ, OnOk, un
 ghost use Rattle.cmark_grammar.specs.Containers as grammar;
 ghost use Rattle.cmark_items.specs.ItemNodes.{list_number};
 ghost use Rattle.cmark_values.specs.Shown.{shown_block_quote_kind, shown_options};
-ghost use Rattle.cmark_line_rules.specs.Starts.{Shows, inside_of, Enters, HasMarker};
+ghost use Rattle.cmark_line_rules.specs.Starts.{Shows, inside_of};
 ghost use Rattle.cmark_blocks.specs.Shown.{shown_siblings, ShowsContainer};
 ghost use Rattle.cmark_block_model.specs.BlockPass.{inside_of as stepped_inside, block_quote_begun, item_begun_in, definition_begun_in, after_container};
 ghost use Rattle.cmark_block_model.specs.OpenBlocks as model;
 ghost use Rattle.cmark_line_rules.specs.Rests.{IsIn, row_of};
-ghost use Rattle.cmark_blocks.specs.Entered.{HasNumber, BeginsContainer, DefinesAs};
+ghost use Rattle.cmark_blocks.specs.Entered.{BeginsContainer, DefinesAs, IsStartOf};
 ghost use Rattle.cmark_line_rules.specs.Definitions.{EntersDefinition, width_of};
 
 use crate::siblings::Siblings;
@@ -53,10 +53,7 @@ impl<'a, E: EntityLookup> Pass<'a, E> {
         requires good { IsGood self.old }
         requires line { IsRead self.old.text.now rest }
         requires closed { self.old.leaf ≡ leaf.Closed }
-        requires number { HasNumber start }
-        requires marker { HasMarker (row_of rest) start }
-        requires enters { Enters (row_of rest) start }
-        requires placed { IsIn self.old.text.now (inside_of start) }
+        requires start { IsStartOf self.old.text.now (row_of rest) start }
         ensures good { IsGood self.new }
         ensures runs { IfOk result
             (λ entered. BeginsContainer E.replacement start.entry rest.entry entered self.old

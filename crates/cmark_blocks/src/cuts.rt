@@ -16,6 +16,7 @@ ghost use Rattle.cmark_blocks.specs.Cuts.{stops, is_missed, shown_undecided, End
 
 use crate::list_facts::{ListFacts, list_facts};
 use crate::state::{OpenLeaf, Pass};
+use crate::table::is_row;
 use crate::undecided::Undecided;
 use cmark_line_rules::{
     CodeOrHtml, Container, Continuation, LineRest, begins_with_pipe, interrupts, underlines,
@@ -52,14 +53,18 @@ fn is_stop(continuation: Continuation) -> bool
 }
 
 /// Whether the line, which lacks no prefix, ends the open leaf, or no leaf is open. `by`: it ends an open paragraph.
-fn ends_leaf(leaf: OpenLeaf<'_>, by: bool, line: LineRest<'_>) -> bool
-    ensures { EndsLeaf leaf.entry by line.entry result }
+fn ends_leaf(leaf: OpenLeaf<'_>, by: bool, line: LineRest<'_>, options: Options) -> bool
+    ensures { EndsLeaf (shown_options options) leaf.entry by line.entry result }
 {
     match leaf {
         OpenLeaf::Closed => true,
         OpenLeaf::Paragraph(_, _) => by,
         OpenLeaf::Definition(left) => left == 0,
-        OpenLeaf::Table(left) => left == 0,
+        OpenLeaf::Table {
+            columns,
+            left,
+            has_delimiter,
+        } => has_delimiter && !is_row(line, columns, left, options),
         OpenLeaf::Indented(_, _) => is_stop(CodeOrHtml::Indented.continuation(line)),
         OpenLeaf::Html(kind) => is_stop(CodeOrHtml::Html(kind).continuation(line)),
         OpenLeaf::AfterTag => false,
@@ -239,7 +244,7 @@ impl<'a, E: EntityLookup> Pass<'a, E> {
     {
         if self.outer.is_empty() {
             let by = self.ends_paragraph(line);
-            return ends_leaf(self.leaf, by, line);
+            return ends_leaf(self.leaf, by, line, self.options);
         }
         self.ends_containers(line)
     }

@@ -20,7 +20,7 @@ fn takes_lazy(leaf: OpenLeaf<'_>) -> bool
     match leaf {
         OpenLeaf::Paragraph(_, _) | OpenLeaf::Definition(_) | OpenLeaf::AfterTag => true,
         OpenLeaf::Closed
-        | OpenLeaf::Table(_)
+        | OpenLeaf::Table { .. }
         | OpenLeaf::Indented(_, _)
         | OpenLeaf::Fenced(_, _, _, _)
         | OpenLeaf::Html(_)
@@ -88,7 +88,11 @@ impl<'a, E: EntityLookup> Pass<'a, E> {
             OpenLeaf::AfterTag => self.begin_anew(rest),
             OpenLeaf::Paragraph(from, last) => self.feed_paragraph(from, last, rest),
             OpenLeaf::Definition(left) => self.feed_definition(left, rest),
-            OpenLeaf::Table(left) => self.feed_table(left, rest),
+            OpenLeaf::Table {
+                columns,
+                left,
+                has_delimiter,
+            } => self.feed_table(columns, left, has_delimiter, rest),
             OpenLeaf::Indented(waits, end) => self.feed_indented(waits, end, rest),
             OpenLeaf::Fenced(delimiter, run_length, indent, waits) => {
                 self.feed_fenced(delimiter, run_length, indent, waits, rest)
@@ -114,7 +118,7 @@ impl<'a, E: EntityLookup> Pass<'a, E> {
                 self.begin_paragraph(rest)
             }
             OpenLeaf::Closed
-            | OpenLeaf::Table(_)
+            | OpenLeaf::Table { .. }
             | OpenLeaf::Indented(_, _)
             | OpenLeaf::Fenced(_, _, _, _)
             | OpenLeaf::Html(_)

@@ -12,7 +12,7 @@ impl<'a, E: EntityLookup> Pass<'a, E> {
     ghost use Rattle.cmark_blocks.specs.Runs.{IsGood, IsVerbatim};
     ghost use Rattle.cmark_blocks.specs.Steps.{ClosesLeaf};
 
-    /// Closes fenced code, HTML or metadata at the end of the last line.
+    /// Closes fenced code, HTML, metadata or a table at the end of the last line.
     fn close_verbatim(&mut self, waits: Option<Stretch>) -> Result<(), AllocError>
         requires good { IsGood self.old }
         requires is { IsVerbatim self.old.leaf waits }
@@ -41,13 +41,13 @@ impl<'a, E: EntityLookup> Pass<'a, E> {
         match self.leaf {
             OpenLeaf::Closed => Ok(()),
             OpenLeaf::Paragraph(from, last) => self.close_paragraph(from, last),
-            OpenLeaf::Definition(_) | OpenLeaf::AfterTag | OpenLeaf::Table(_) => {
+            OpenLeaf::Definition(_) | OpenLeaf::AfterTag => {
                 self.leaf = OpenLeaf::Closed;
                 Ok(())
             }
             OpenLeaf::Indented(waits, end) => self.close_indented(waits, end),
             OpenLeaf::Fenced(_, _, _, waits) => self.close_verbatim(waits),
-            OpenLeaf::Html(_) => self.close_verbatim(None),
+            OpenLeaf::Html(_) | OpenLeaf::Table { .. } => self.close_verbatim(None),
             OpenLeaf::Metadata(_, waits) => self.close_verbatim(waits),
         }
     }

@@ -13,7 +13,7 @@ use std::alloc::AllocError;
 
 impl<'a, E: EntityLookup> Pass<'a, E> {
     ghost use Rattle.cmark_blocks.specs.declared.state.OpenLeaf.TheVariants as leaf;
-    ghost use Rattle.cmark_blocks.specs.Runs.{IsGood};
+    ghost use Rattle.cmark_blocks.specs.Runs.{CanBegin, IsGood};
     ghost use Rattle.cmark_leaf_nodes.specs.TextColumns.{IsRead};
     ghost use Rattle.cmark_blocks.specs.Steps.{Steps, Begins, BeginsAnew};
     ghost use Rattle.cmark_blocks.specs.Entered.{BeginsAs, BeginsFirst};
@@ -88,9 +88,7 @@ impl<'a, E: EntityLookup> Pass<'a, E> {
             (λ entered. IfSome entered
             (λ inside. length (row_of inside.0).columns < length (row_of rest.entry).columns)) }
         ensures text { self.new.text ≡ self.old.text }
-        ensures leaf { IfOk result
-            (λ entered. IfSome entered (λ inside. self.new.leaf ≡ leaf.Closed)) }
-        ensures bare { IfOk result (λ entered. IfSome entered (λ inside. self.new.bare ≡ false)) }
+        ensures can { IfOk result (λ entered. IfSome entered (λ inside. CanBegin self.new)) }
     {
         if let Some((width, inside)) = self.definition_begun(rest) {
             self.begin_list_definition(width, rest.begin())?;

@@ -22,8 +22,12 @@ pub(crate) enum OpenLeaf<'a> {
     Paragraph(usize, LineRest<'a>),
     /// A link reference definition, and the number of its lines to come.
     Definition(usize),
-    /// A table that was drawn to its end, and the number of its lines to come.
-    Table(usize),
+    /// A table: the number of its columns, the number of cells that may still be filled in, and whether its delimiter row was fed.
+    Table {
+        columns: usize,
+        left: usize,
+        has_delimiter: bool,
+    },
     /// Indented code: the stretch of the text that waits, and the end of its last line, a byte offset.
     Indented(Option<Stretch>, usize),
     /// Fenced code: its fence's character, length and indent in columns, and the stretch of the text that waits.

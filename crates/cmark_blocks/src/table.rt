@@ -1,6 +1,7 @@
-//! Tables (GFM 4.10). A table is drawn to its end when it begins; its lines are then skipped.
+//! Tables (GFM 4.10): their heads and their rows.
 
-ghost use Rattle.std.specs.Prelude.{◌≡◌, ◌<◌, ◌≤◌, List, ℕ, Some, false, length, nat_lt, OnOk, IfOk, IfSome};
+ghost use Rattle.std.specs.Prelude.{◌≡◌, ◌≤◌, List, ℕ, Some, false, length, nat_lt, OnOk, IfOk, IfSome};
+ghost use Rattle.cmark_block_model.specs.BlockPass.{is_row};
 ghost use Rattle.cmark_block_model.specs.Drawing.{Drawing};
 ghost use Rattle.cmark_builder.specs.Drawn.{Draws};
 ghost use Rattle.cmark_grammar.specs.BlockDocument.{Table};
@@ -8,7 +9,7 @@ ghost use Rattle.cmark_grammar.specs.TableRows.{count_missing};
 ghost use Rattle.cmark_grammar.specs.Tables.{delimiter_row};
 ghost use Rattle.cmark_items.specs.ItemNodes.{columns_of, kind_of, shape};
 ghost use Rattle.cmark_items.specs.Tables.{defined};
-ghost use Rattle.cmark_line_rules.specs.Rests.{IsIn, row_of};
+ghost use Rattle.cmark_line_rules.specs.Rests.{row_of};
 ghost use Rattle.cmark_values.specs.Shown.{shown_options};
 
 use crate::gathered::words_in;
@@ -44,6 +45,14 @@ fn misses_too_many(row: LineRest<'_>, columns: usize, left: usize) -> bool
     columns > left && count_missing(row, columns) > left
 }
 
+/// Whether the line is another row of a table with `columns` columns, in which `left` cells may still be filled in.
+#[inline]
+pub(crate) fn is_row(rest: LineRest<'_>, columns: usize, left: usize, options: Options) -> bool
+    ensures { result ≡ is_row (shown_options options) columns left (row_of rest.entry) }
+{
+    !interrupts(rest, false, options) && !misses_too_many(rest, columns, left)
+}
+
 /// The body of a table with this delimiter row, which is kept in the table of texts.
 fn table_body<'a>(builder: &mut Builder<'a>, row: &'a str) -> Result<ItemBody, AllocError>
     ensures kind { IfOk result
@@ -63,7 +72,7 @@ impl<'a, E: EntityLookup> Pass<'a, E> {
     ghost use Rattle.cmark_blocks.specs.Runs.{IsGood};
     ghost use Rattle.cmark_leaf_nodes.specs.TextColumns.{IsRead};
     ghost use Rattle.cmark_blocks.specs.Steps.{BeginsText, FeedsLeaf};
-    ghost use Rattle.cmark_blocks.specs.TablesAhead.{TellsHead, TellsInterrupts, TellsBlock, GoesOnWithRow, DrawsRows, BeginsTable};
+    ghost use Rattle.cmark_blocks.specs.TablesAhead.{TellsHead, TellsInterrupts, TellsBlock, BeginsTable};
 
     /// The number of columns of the table whose head this line is, and its delimiter row; `None` if it is not a head. The line and those
     /// ahead are seen from inside the `count` outermost containers.
@@ -116,55 +125,6 @@ impl<'a, E: EntityLookup> Pass<'a, E> {
         self.table_interrupts(count, rest) || (may_define && begins_definition(rest, self.options))
     }
 
-    /// The line after this one, inside all open containers, if it is another row of a table with `columns` columns, in which `left` cells
-    /// may still be filled in.
-    fn row_ahead(&self, columns: usize, left: usize, last: LineRest<'a>) -> Option<LineRest<'a>>
-        requires bare { self.now.bare ≡ false }
-        requires within { IsIn self.now.text.now last }
-        ensures next { GoesOnWithRow E.replacement self.now columns left last.entry result }
-        ensures placed { IfSome result (IsIn self.now.text.now) }
-        ensures fits { IfSome result (λ row. count_missing columns (row_of row) ≤ left) }
-        ensures further { IfSome result
-            (λ row. (row_of last.entry).line_end < (row_of row).line_end) }
-    {
-        let row = self.line_ahead(last)?;
-        if interrupts(row, false, self.options) || misses_too_many(row, columns, left) {
-            None
-        } else {
-            Some(row)
-        }
-    }
-
-    /// Adds the rows after the delimiter row of a table with `columns` columns as nodes after the last sibling. Returns their number, and
-    /// the end of the table's last line, a byte offset.
-    fn draw_rows(
-        &mut self,
-        columns: usize,
-        delimiter: LineRest<'a>,
-    ) -> Result<(usize, usize), AllocError>
-        requires good { IsGood self.old }
-        requires line { IsIn self.old.text.now delimiter }
-        requires bare { self.old.bare ≡ false }
-        ensures good { IsGood self.new }
-        ensures runs { IfOk result
-            (λ taken. DrawsRows E.replacement columns delimiter.entry taken.0 taken.1 self.old
-            self.new) }
-        ensures few { IfOk result (λ taken. taken.0 < 18446744073709551615) }
-        ensures text { self.new.text ≡ self.old.text }
-        ensures leaf { self.new.leaf ≡ self.old.leaf }
-    {
-        let mut last = delimiter;
-        let mut count = 0;
-        let mut left = MOST_FILLED;
-        while let Some(row) = self.row_ahead(columns, left, last) {
-            let filled = draw_row(&mut self.builder, row, columns)?;
-            left -= filled;
-            count += 1;
-            last = row;
-        }
-        Ok((count, last.line_end()))
-    }
-
     /// Begins a table with `columns` columns and this delimiter row on a line, with no leaf open.
     fn begin_table(
         &mut self,
@@ -186,9 +146,11 @@ impl<'a, E: EntityLookup> Pass<'a, E> {
         let body = table_body(&mut self.builder, row)?;
         self.builder.open(rest.words_begin(), body)?;
         draw_head(&mut self.builder, rest, columns)?;
-        let (count, line_end) = self.draw_rows(columns, delimiter)?;
-        self.builder.close(line_end);
-        self.leaf = OpenLeaf::Table(count + 1);
+        self.leaf = OpenLeaf::Table {
+            columns,
+            left: MOST_FILLED,
+            has_delimiter: false,
+        };
         Ok(())
     }
 
@@ -226,20 +188,39 @@ impl<'a, E: EntityLookup> Pass<'a, E> {
         }
     }
 
-    /// Feeds a line after the head of a table, of which `left` lines are left.
-    pub(crate) fn feed_table(&mut self, left: usize, rest: LineRest<'a>) -> Result<(), AllocError>
+    /// Feeds a line after the head of a table: the delimiter row, which is drawn nowhere, another row, or a line after the table.
+    pub(crate) fn feed_table(
+        &mut self,
+        columns: usize,
+        left: usize,
+        has_delimiter: bool,
+        rest: LineRest<'a>,
+    ) -> Result<(), AllocError>
         requires good { IsGood self.old }
         requires line { IsRead self.old.text.now rest }
-        requires is { self.old.leaf ≡ leaf.Table left }
+        requires is { self.old.leaf ≡ leaf.Table columns left has_delimiter }
         requires bare { self.old.bare ≡ false }
         ensures good { IsGood self.new }
         ensures runs { OnOk result (FeedsLeaf E.replacement rest.entry self.old self.new) }
         ensures text { self.new.text ≡ self.old.text }
     {
-        if left == 0 {
+        if !has_delimiter {
+            self.leaf = OpenLeaf::Table {
+                columns,
+                left,
+                has_delimiter: true,
+            };
+            return Ok(());
+        }
+        if !is_row(rest, columns, left, self.options) {
             return self.begin_anew(rest);
         }
-        self.leaf = OpenLeaf::Table(left - 1);
+        let filled = draw_row(&mut self.builder, rest, columns)?;
+        self.leaf = OpenLeaf::Table {
+            columns,
+            left: left - filled,
+            has_delimiter: true,
+        };
         Ok(())
     }
 }

@@ -3,8 +3,8 @@ use Rattle.std.proofs.Common.{◌≡◌, ℕ, Bool, true, false, nat_lt, if◌th
 use Rattle.std.specs.Prelude.{map, filter, drop, length, ◌≤◌}
 use Rattle.std.proofs.lemmas.List.{append-nil}
 use Rattle.std.proofs.Math.ListN.{drop_of_length-le}
-use Rattle.cmark_emphasis.specs.Shown.{shown_run}
-use Rattle.cmark_emphasis.specs.declared.run.Run as code_run
+use Rattle.cmark_emphasis.specs.Shown.{shown_placed}
+use Rattle.cmark_emphasis.specs.declared.run.PlacedRun.{PlacedRun}
 use Rattle.cmark_grammar.specs.Spans.{Spans, Nil, Single, singles}
 use Rattle.cmark_grammar.specs.Emphasis.{Run, Pair, Sibling, Plain, Delimiter, Piece, Whole, Standing, agrees, pair_of, rest_of_opener, rest_of_closer, wrapped, before, keep, deactivates, deactivated, is_tilde_or_caret, left_open, stand, runs_of}
 use Rattle.cmark_inline_model.specs.EmphasisModel.{Closed, paired, chosen, close, or_none, closed, resolve, pairs_of}
@@ -88,10 +88,10 @@ pub run_pairs-are : (ts : List Sibling) → run_pairs (runs_of ts) ≡ pairs_of 
 run_pairs-are ts = pairs-resolve ts []
 
 -- at the end of the runs
-pub pairs_end : (ts : List Sibling) (runs : List code_run.Run) (i : ℕ) (opens : List Run) (a b : List Pair) → length runs ≤ i → a ++ pair_all (map shown_run (drop i runs)) opens ≡ b ++ run_pairs (map shown_run runs) → runs_of ts ≡ map shown_run runs → a ≡ b ++ pairs_of ts
+pub pairs_end : (ts : List Sibling) (runs : List PlacedRun) (i : ℕ) (opens : List Run) (a b : List Pair) → length runs ≤ i → a ++ pair_all (map shown_placed (drop i runs)) opens ≡ b ++ run_pairs (map shown_placed runs) → runs_of ts ≡ map shown_placed runs → a ≡ b ++ pairs_of ts
 pairs_end ts runs i opens a b le e r =
     sym (append-nil a)
-    ∙ ap (λ l. a ++ pair_all (map shown_run l) opens) (sym (drop_of_length-le runs le))
+    ∙ ap (λ l. a ++ pair_all (map shown_placed l) opens) (sym (drop_of_length-le runs le))
     ∙ e
     ∙ ap (λ l. b ++ run_pairs l) (sym r)
     ∙ ap (λ l. b ++ l) (run_pairs-are ts)

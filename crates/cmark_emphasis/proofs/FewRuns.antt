@@ -1,8 +1,6 @@
 -- The pairs of one run, and of two runs, that are the only ones of a list.
-use Rattle.std.proofs.Common.{◌≡◌, Bool, true, false, ◌&&◌, arith, get_or, length, nat_lt, if◌then◌else◌, List, [], ◌∷◌, ◌++◌, refl, sym, ap, ◌∙◌}
-use Rattle.std.specs.Prelude.{map, filter}
-use Rattle.cmark_emphasis.specs.Shown.{shown_run}
-use Rattle.cmark_emphasis.specs.declared.run.Run as code_run
+use Rattle.std.proofs.Common.{◌≡◌, Bool, true, false, ◌&&◌, nat_lt, if◌then◌else◌, List, [], ◌∷◌, ◌++◌, refl, sym, ap, ◌∙◌}
+use Rattle.std.specs.Prelude.{filter}
 use Rattle.cmark_grammar.specs.Emphasis.{Run, Pair, Sibling, agrees, pair_of, deactivates, runs_of}
 use Rattle.cmark_inline_model.specs.EmphasisModel.{pairs_of}
 use Rattle.cmark_emphasis.specs.Stack.{chased, rest_on, run_pairs, stays_open}
@@ -34,18 +32,6 @@ two_runs first second = ap (λ opens. (chased second (rest_on first opens)).pair
     opened true false = refl
     opened false l = refl
 
--- the pairs of siblings whose runs are these
-pub few_pairs : (siblings : List Sibling) (runs : List Run) (before pairs : List Pair) → runs_of siblings ≡ runs → pairs ≡ before ++ run_pairs runs → pairs ≡ before ++ pairs_of siblings
-few_pairs siblings runs before pairs are is = is ∙ ap (λ l. before ++ l) (ap run_pairs (sym are) ∙ run_pairs-are siblings)
-
--- exactly one run, and exactly two
-pub one_is : (runs : List code_run.Run) → length runs ≡ 1 → run_pairs (map shown_run runs) ≡ []
-one_is [] e = absurd (omega arith)
-one_is (run ∷ []) e = one_run (shown_run run)
-one_is (run ∷ other ∷ runs) e = absurd (omega arith)
-
-pub two_are : (runs : List code_run.Run) (d e : code_run.Run) → length runs ≡ 2 → map shown_run runs ≡ shown_run (get_or runs 0 d) ∷ (shown_run (get_or runs 1 e) ∷ [])
-two_are [] d e is = absurd (omega arith)
-two_are (run ∷ []) d e is = absurd (omega arith)
-two_are (run ∷ other ∷ []) d e is = refl
-two_are (run ∷ other ∷ third ∷ runs) d e is = absurd (omega arith)
+-- the pairs of siblings whose only runs are these
+pub two_pairs : (siblings : List Sibling) (first second : Run) (pairs : List Pair) → runs_of siblings ≡ first ∷ (second ∷ []) → pairs ≡ run_pairs (first ∷ (second ∷ [])) → pairs ≡ pairs_of siblings
+two_pairs siblings first second pairs are is = is ∙ ap run_pairs (sym are) ∙ run_pairs-are siblings

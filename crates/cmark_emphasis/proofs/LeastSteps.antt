@@ -12,9 +12,10 @@ use Rattle.cmark_emphasis.specs.Bottoms.{AreBottoms, active_runs, bottom_of, cla
 use Rattle.cmark_emphasis.specs.Counts.{examined_of_two, searches}
 use Rattle.cmark_emphasis.specs.Least.{AreStanding, HasSought, IsOfKind, Seeking, Standing, active_in, count_of, fresh_in, is_fresh, least_examined, least_from, left_standing, passed_by, put_open, put_up, run_of, seek, sought, stays_standing, takes_none, with_more}
 use Rattle.cmark_emphasis.specs.Nearest.{IsNearest, with_opener, with_rest}
-use Rattle.cmark_emphasis.specs.Shown.{open_runs, shown_run}
+use Rattle.cmark_emphasis.specs.Shown.{open_runs, shown_placed, shown_run}
 use Rattle.cmark_emphasis.specs.Stack.{NoneAgree, stays_open}
 use Rattle.cmark_emphasis.specs.declared.bottom.OpenersBottom.{OpenersBottom}
+use Rattle.cmark_emphasis.specs.declared.run.PlacedRun.{PlacedRun}
 use Rattle.cmark_emphasis.specs.declared.run.Run as code_run
 use Rattle.cmark_emphasis.proofs.Agreeing.{class-delimiter, class_low, closing}
 use Rattle.cmark_emphasis.proofs.Counting.{bottom-within, tilde-deactivates}
@@ -508,21 +509,21 @@ standing-none bottoms bs = record {
 }
 
 -- one more run
-pub round-least : (runs : List code_run.Run) (i : ℕ) (d : code_run.Run) (ss : List Standing) (first before after bound : ℕ) (bottoms : OpenersBottom) (stack next : List code_run.Run) (rest : code_run.Run) → i < length runs → HasSought (shown_run (get_or runs i d)) ss before after bottoms stack (shown_run rest)
-    → AreBottoms bottoms stack → next ≡ with_opener rest stack → first + bound ≤ before + least_from (map shown_run (drop i runs)) ss
-    → (now : List Standing) × AreStanding bottoms next now × (first + bound ≤ after + least_from (map shown_run (drop (i + 1) runs)) now)
+pub round-least : (runs : List PlacedRun) (i : ℕ) (d : PlacedRun) (ss : List Standing) (first before after bound : ℕ) (bottoms : OpenersBottom) (stack next : List code_run.Run) (rest : code_run.Run) → i < length runs → HasSought (shown_placed (get_or runs i d)) ss before after bottoms stack (shown_run rest)
+    → AreBottoms bottoms stack → next ≡ with_opener rest stack → first + bound ≤ before + least_from (map shown_placed (drop i runs)) ss
+    → (now : List Standing) × AreStanding bottoms next now × (first + bound ≤ after + least_from (map shown_placed (drop (i + 1) runs)) now)
 round-least runs i d ss first before after bound bottoms stack next rest lt h bs n so =
-    let s = sought (shown_run (get_or runs i d)) ss in
+    let s = sought (shown_placed (get_or runs i d)) ss in
     let step : drop i runs ≡ get_or runs i d ∷ drop (i + 1) runs = drop-cons runs i d lt ∙ ap (λ k. get_or runs i d ∷ drop k runs) (let e : suc i ≡ i + 1 = omega arith in e) in
-    let all = ap (λ l. least_from (map shown_run l) ss) step in
+    let all = ap (λ l. least_from (map shown_placed l) ss) step in
     let most = h.least in
     let stand : AreStanding bottoms next (put_open s.rest s.standing) =
     subst (λ l. AreStanding bottoms l (put_open s.rest s.standing)) (sym n) (subst (λ x. AreStanding bottoms (with_opener rest stack) (put_open x s.standing)) (sym h.rest_is) (standing-opener bottoms stack s.standing rest bs h.stand)) in
     (put_open s.rest s.standing, stand, omega (arith, all, most, so))
 
 -- no run is left
-pub end-least : (runs : List code_run.Run) (i : ℕ) (ss : List Standing) → length runs ≤ i → least_from (map shown_run (drop i runs)) ss ≡ 0
-end-least runs i ss le = ap (λ l. least_from (map shown_run l) ss) (drop_of_length-le runs le)
+pub end-least : (runs : List PlacedRun) (i : ℕ) (ss : List Standing) → length runs ≤ i → least_from (map shown_placed (drop i runs)) ss ≡ 0
+end-least runs i ss le = ap (λ l. least_from (map shown_placed l) ss) (drop_of_length-le runs le)
 
 -- a run alone, and two runs
 left-none : (r : Run) → left_standing r [] ≡ []
@@ -625,8 +626,3 @@ kinds-class closer other bottoms class height k is lt = go (class_of other) refl
         by : (n ≡ class) ⊎ (n ≡ class → ⊥) → (k < bottom_of bottoms other) ⊎ IsOfKind closer other
         by (inl same) = inr (inl (class-delimiter closer other class is (e ∙ ap (λ m. Some m) same)))
         by (inr differs) = inl (let one : bottom_of bottoms other ≡ get_or bottoms.heights n 0 = rw e refl in let two = get_or-set_other bottoms.heights class n height 0 differs in omega (arith, l, one, two))
-
-pub one-is-least : (runs : List code_run.Run) → length runs ≡ 1 → least_examined (map shown_run runs) ≡ 0
-one-is-least [] e = refl
-one-is-least (run ∷ []) e = one-least (shown_run run)
-one-is-least (run ∷ other ∷ runs) e = absurd (omega (arith, e))

@@ -5,11 +5,12 @@ use Rattle.std.proofs.lemmas.List.{append-nil, map-append, length-reverse, lengt
 use Rattle.std.proofs.lemmas.Bool.{ltb-true}
 use Rattle.std.proofs.lemmas.Option.{slice_get-get_or, slice_get_within}
 use Rattle.cmark_grammar.specs.Emphasis.{Run, Pair, agrees, paired_count, pair_of, rest_of_opener, rest_of_closer, is_tilde_or_caret}
-use Rattle.cmark_emphasis.specs.Shown.{shown_run, shown_pair, open_runs}
+use Rattle.cmark_emphasis.specs.Shown.{shown_run, shown_pair, open_runs, shown_placed}
 use Rattle.cmark_emphasis.specs.Bottoms.{AreBottoms, bottom_of, class_of, active_runs, or_other, stays}
 use Rattle.cmark_emphasis.specs.Nearest.{IsNearest, with_opener, with_rest}
 use Rattle.cmark_emphasis.specs.Stack.{Chased, and_then, put, still_open, chase, or_same, chased, NoneAgree, course_from, pair_all, rest_on}
 use Rattle.cmark_emphasis.specs.declared.bottom.OpenersBottom.{OpenersBottom}
+use Rattle.cmark_emphasis.specs.declared.run.PlacedRun.{PlacedRun}
 use Rattle.cmark_emphasis.specs.declared.run.Run as code_run
 use Rattle.cmark_emphasis.specs.declared.run.Pair as code_pair
 use Rattle.cmark_emphasis.proofs.Agreeing.{mark_same, closing, class_no_tilde}
@@ -230,24 +231,24 @@ course_next c o r stack front next pairs more m i n k h lt at f low sh ne re mo 
     )
 
 -- one more run
-pub round : (runs : List code_run.Run) (i : ℕ) (d : code_run.Run) (stack : List code_run.Run) (old new : List code_pair.Pair) (rest : Run) (opens next : List Run) (all : List Pair) → i < length runs
-    → course_from (shown_run (get_or runs i d)) stack old ≡ record { rest = rest; opens = opens; pairs = map shown_pair new } → next ≡ rest_on rest opens
-    → map shown_pair old ++ pair_all (map shown_run (drop i runs)) (open_runs stack) ≡ all → map shown_pair new ++ pair_all (map shown_run (drop (i + 1) runs)) next ≡ all
+pub round : (runs : List PlacedRun) (i : ℕ) (d : PlacedRun) (stack : List code_run.Run) (old new : List code_pair.Pair) (rest : Run) (opens next : List Run) (all : List Pair) → i < length runs
+    → course_from (shown_placed (get_or runs i d)) stack old ≡ record { rest = rest; opens = opens; pairs = map shown_pair new } → next ≡ rest_on rest opens
+    → map shown_pair old ++ pair_all (map shown_placed (drop i runs)) (open_runs stack) ≡ all → map shown_pair new ++ pair_all (map shown_placed (drop (i + 1) runs)) next ≡ all
 round runs i d stack old new rest opens next all lt course on so =
     ap (λ l. l ++ pair_all more next) (sym pairs)
     ∙ append_assoc (map shown_pair old) mine.pairs (pair_all more next)
     ∙ ap (λ l. map shown_pair old ++ (mine.pairs ++ pair_all more l)) (on ∙ ap (λ r. rest_on r opens) (sym rest_is) ∙ ap (rest_on mine.rest) (sym opens_are))
-    ∙ ap (λ l. map shown_pair old ++ pair_all (map shown_run l) (open_runs stack)) (sym step)
+    ∙ ap (λ l. map shown_pair old ++ pair_all (map shown_placed l) (open_runs stack)) (sym step)
     ∙ so
   where
     step : drop i runs ≡ get_or runs i d ∷ drop (i + 1) runs
     step = drop-cons runs i d lt ∙ ap (λ k. get_or runs i d ∷ drop k runs) (let e : suc i ≡ i + 1 = omega arith in e)
 
     mine : Chased
-    mine = chased (shown_run (get_or runs i d)) (open_runs stack)
+    mine = chased (shown_placed (get_or runs i d)) (open_runs stack)
 
     more : List Run
-    more = map shown_run (drop (i + 1) runs)
+    more = map shown_placed (drop (i + 1) runs)
 
     pairs : map shown_pair old ++ mine.pairs ≡ map shown_pair new
     pairs = ap (λ (c : Chased). c.pairs) course

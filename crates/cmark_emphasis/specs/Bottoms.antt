@@ -1,7 +1,7 @@
 -- How far down the stack the search for an open run goes (`openers_bottom` in the appendix of CommonMark).
-use Rattle.std.specs.Prelude.{◌≡◌, ℕ, zero, suc, ◌+◌, ◌%◌, ◌<◌, ◌≤◌, Bool, false, ◌==◌, ◌&&◌, if◌then◌else◌, Option, Some, None, List, [], ◌∷◌, length, get_or}
+use Rattle.std.specs.Prelude.{◌≡◌, ℕ, zero, suc, ◌+◌, ◌%◌, ◌<◌, ◌≤◌, Bool, false, ◌==◌, ◌&&◌, if◌then◌else◌, Option, Some, None, List, [], ◌∷◌, length, get_or, All}
 use Rattle.cmark_grammar.specs.Emphasis.{Run, agrees, can_both, is_tilde_or_caret}
-use Rattle.cmark_emphasis.specs.Shown.{shown_run}
+use Rattle.cmark_emphasis.specs.Shown.{IsPlaced, shown_run}
 use Rattle.cmark_emphasis.specs.Stack.{stays_open}
 use Rattle.cmark_emphasis.specs.declared.run.Run as code_run
 use Rattle.cmark_emphasis.specs.declared.bottom.OpenersBottom.{OpenersBottom}
@@ -33,6 +33,11 @@ pub record NoneBelow (closer : Run) (stack : List code_run.Run) (height : ℕ) :
 pub record AreBottoms (bottoms : OpenersBottom) (stack : List code_run.Run) : Type 0 where
   pub emphasis : (closer : Run) (class : ℕ) → class_of closer ≡ Some class → NoneBelow closer stack (get_or bottoms.heights class 0)
   pub inactive_below : bottoms.inactive_below ≤ length stack
+
+-- the open runs on the stack have their bytes in slots, and these are their bottoms
+pub record IsStack (bottoms : OpenersBottom) (stack : List code_run.Run) : Type 0 where
+  pub placed : All IsPlaced stack
+  pub bottom : AreBottoms bottoms stack
 
 abbrev pub or_other : Option ℕ → (heights : List ℕ) → (other : ℕ) → ℕ
 or_other None heights other = other

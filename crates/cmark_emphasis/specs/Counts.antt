@@ -2,6 +2,7 @@
 use Rattle.std.specs.Prelude.{◌≡◌, ℕ, zero, suc, ◌+◌, Bool, true, ◌==◌, ◌&&◌, ◌||◌, nat_lt, if◌then◌else◌, List, get_or}
 use Rattle.cmark_grammar.specs.Emphasis.{Run, is_tilde_or_caret}
 use Rattle.cmark_emphasis.specs.declared.bottom.OpenersBottom.{OpenersBottom}
+use Rattle.cmark_emphasis.specs.declared.run.PlacedRun as code_placed
 use Rattle.cmark_emphasis.specs.declared.run.Run as code_run
 
 -- whether run_length bytes of this delimiter may be a run: two `=`, or any number of the others
@@ -10,6 +11,9 @@ is_run_of delimiter run_length = (delimiter == 42) || ((delimiter == 95) || (is_
 
 abbrev pub IsKnown : code_run.Run → Type 0
 IsKnown run = is_run_of run.delimiter run.run_length ≡ true
+
+abbrev pub IsKnownPlaced : code_placed.PlacedRun → Type 0
+IsKnownPlaced p = IsKnown p.run
 
 -- the run searches for an open one: it can close, and bytes of it are left
 abbrev pub searches : Run → Bool

@@ -6,6 +6,4 @@ pub mod Least
 pub mod Nearest
 pub mod QuoteSteps
 pub mod Shown
-pub mod Slots
 pub mod Stack
-pub mod TwoRuns

@@ -1,5 +1,5 @@
 -- Runs and pairs of the code as values of the grammar.
-use Rattle.std.specs.Prelude.{◌+◌, ◌<◌, ◌^◌, List, map, reverse}
+use Rattle.std.specs.Prelude.{◌+◌, ◌<◌, ◌^◌, List, [], ◌∷◌, Option, Some, None, map, reverse}
 use Rattle.cmark_grammar.specs.Emphasis.{Run, Pair}
 use Rattle.cmark_grammar.specs.Flanking.{Flanking}
 use Rattle.cmark_grammar.specs.Quotes.{Quote}
@@ -7,16 +7,29 @@ use Rattle.cmark_emphasis.specs.declared.quotes.Quote as code_quote
 use Rattle.cmark_emphasis.specs.declared.flanking.Flanking as code_flanking
 use Rattle.cmark_grammar.specs.Spans.{SpanKind}
 use Rattle.cmark_grammar.specs.Spans as grammar
-use Rattle.cmark_emphasis.specs.declared.slot.SpanKind as code_kind
-use Rattle.cmark_emphasis.specs.declared.slot.SpanKind.TheVariants as code
+use Rattle.cmark_emphasis.specs.declared.span.SpanKind as code_kind
+use Rattle.cmark_emphasis.specs.declared.span.SpanKind.TheVariants as code
 use Rattle.cmark_emphasis.specs.declared.run.Run as code_run
+use Rattle.cmark_emphasis.specs.declared.run.PlacedRun as code_placed
 use Rattle.cmark_emphasis.specs.declared.run.Pair as code_pair
 
 abbrev pub shown_run : code_run.Run → Run
 shown_run run = record { delimiter = run.delimiter; run_length = run.run_length; at = run.at; left = run.left; opens = run.opens; closes = run.closes }
 
+-- a whole run at its slot
+abbrev pub shown_placed : code_placed.PlacedRun → Run
+shown_placed p = record { delimiter = p.run.delimiter; run_length = p.run.run_length; at = p.slot; left = p.run.run_length; opens = p.run.opens; closes = p.run.closes }
+
 abbrev pub shown_pair : code_pair.Pair → Pair
 shown_pair pair = record { delimiter = pair.delimiter; from = pair.from; to = pair.to; count = pair.count }
+
+abbrev pub pairs_in : Option code_pair.Pair → List Pair
+pairs_in None = []
+pairs_in (Some pair) = shown_pair pair ∷ []
+
+-- the slots of the run, if it has any, have indices that fit in a usize
+abbrev pub Fits : code_placed.PlacedRun → Type 0
+Fits p = 0 < p.run.run_length → p.slot + p.run.run_length < 2 ^ 64
 
 -- the indices of the run fit in a usize
 abbrev pub IsPlaced : code_run.Run → Type 0

@@ -1,11 +1,10 @@
 //! Theorems about the definitions of emphasis. Each is the contract of a function that does nothing.
 
-ghost use Rattle.std.specs.Prelude.{◌≡◌, List, []};
+ghost use Rattle.std.specs.Prelude.{◌≡◌, List};
 ghost use Rattle.cmark_grammar.specs.Emphasis.{IsEmphasis, Pair, Run, Sibling, StandFrom, agrees, places_taken};
 ghost use Rattle.cmark_inline_model.specs.EmphasisModel.{pairs_of, spans_of};
 ghost use Rattle.cmark_grammar.specs.Spans.{Spans, TakePlaces};
 ghost use Rattle.cmark_emphasis.specs.Classes.{IsClosing, IsLike};
-ghost use Rattle.cmark_emphasis.specs.Slots.{AreBalanced, read_slots, slots_of};
 
 /// The model's pairs and spans are the emphasis of the siblings.
 pub fn emphasis_is_derived()
@@ -25,18 +24,6 @@ pub fn one_emphasis()
 pub fn spans_take_the_places()
     ensures { (siblings : List Sibling) → StandFrom 0 siblings
         → TakePlaces 0 (spans_of siblings) (places_taken siblings) }
-{}
-
-/// The slots of the spans of siblings, read from left to right, describe these spans. `Begin` opens a span at its index. `End` ends the
-/// span that was opened last, after its own index.
-pub fn slots_say_the_spans()
-    ensures { (siblings : List Sibling) → StandFrom 0 siblings
-        → read_slots (slots_of (spans_of siblings)) ≡ spans_of siblings }
-{}
-
-/// The slots of spans are balanced.
-pub fn slots_are_balanced()
-    ensures { (spans : Spans) → AreBalanced [] (slots_of spans) }
 {}
 
 /// An open run agrees with all closing runs of a class, or with none. For `*`, and for `_`, a class is given by the length modulo 3 and by

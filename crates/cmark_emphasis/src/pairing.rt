@@ -4,16 +4,16 @@ ghost use Rattle.std.specs.Prelude.{◌≡◌, ◌&&◌, ◌++◌, ◌∷◌, �
 ghost use Rattle.cmark_grammar.specs.Emphasis.{Sibling, agrees, pair_of, runs_of};
 ghost use Rattle.cmark_inline_model.specs.EmphasisModel.{pairs_of};
 ghost use Rattle.cmark_grammar.specs.Emphasis as grammar;
-ghost use Rattle.cmark_emphasis.specs.Shown.{shown_run, shown_pair, open_runs, IsPlaced};
-ghost use Rattle.cmark_emphasis.specs.Bottoms.{AreBottoms, active_runs};
+ghost use Rattle.cmark_emphasis.specs.Shown.{Fits, IsPlaced, open_runs, pairs_in, shown_pair, shown_placed, shown_run};
+ghost use Rattle.cmark_emphasis.specs.Bottoms.{AreBottoms, IsStack, active_runs};
 ghost use Rattle.cmark_emphasis.specs.Bottoms.{bottom_of};
-ghost use Rattle.cmark_emphasis.specs.Counts.{IsKnown, examined_of_two, put_back, searches, total_of};
+ghost use Rattle.cmark_emphasis.specs.Counts.{IsKnown, IsKnownPlaced, examined_of_two, put_back, searches, total_of};
 ghost use Rattle.cmark_emphasis.specs.Least.{AreStanding, HasSought, Standing, least_examined};
 ghost use Rattle.cmark_emphasis.specs.Nearest.{IsNearest, with_opener, with_rest};
 ghost use Rattle.cmark_emphasis.specs.Stack.{Chased, NoneAgree, course_from, run_pairs};
 
 use crate::bottom::OpenersBottom;
-use crate::run::{Pair, Run};
+use crate::run::{Pair, PlacedRun, Run};
 use std::alloc::AllocError;
 
 /// The rule of three: if one of the runs can both open and close, the sum of their lengths is not a multiple of 3, unless both lengths are.
@@ -90,6 +90,19 @@ fn nearest(
     }
     count(examined, stack.len() - i);
     None
+}
+
+/// The run in its slots, with all its bytes left.
+fn whole_run(placed: PlacedRun) -> Run
+    requires { Fits placed }
+    ensures value { shown_run result ≡ shown_placed placed }
+    ensures placed { IsPlaced result }
+{
+    Run {
+        at: placed.slot,
+        left: placed.run.run_length,
+        ..placed.run
+    }
 }
 
 /// The pair of an open run and the run that closes it.
@@ -174,8 +187,7 @@ fn close(
 ) -> Result<Run, AllocError>
     requires run { IsPlaced run }
     requires known { IsKnown run }
-    requires stack { All IsPlaced stack.old.items }
-    requires bottoms { AreBottoms bottoms.old stack.old.items }
+    requires stack { IsStack bottoms.old stack.old.items }
     requires room { examined.old + 15 * length stack.old.items + 15 < 2 ^ 128 }
     ensures counts { examined.new + total_of bottoms.old ≤ examined.old + 15 * length
         stack.old.items + 15 }
@@ -187,8 +199,7 @@ fn close(
         (λ rest. (standing : List Standing) → AreStanding bottoms.old stack.old.items standing
         → HasSought (shown_run run) standing examined.old examined.new bottoms.new stack.new.items
         (shown_run rest)) }
-    ensures placed { OnOk result (All IsPlaced stack.new.items) }
-    ensures bottoms { OnOk result (AreBottoms bottoms.new stack.new.items) }
+    ensures stack { OnOk result (IsStack bottoms.new stack.new.items) }
     ensures rest { IfOk result IsPlaced }
     ensures value { IfOk result
         (λ rest. course_from (shown_run run)
@@ -210,7 +221,7 @@ fn close(
 }
 
 /// Whether two runs that are the only ones of a list make a pair.
-pub(crate) fn makes_a_pair(first: Run, second: Run) -> bool
+fn makes_a_pair(first: Run, second: Run) -> bool
     ensures { result
         ≡ (first.opens && (nat_lt 0 first.left && agrees (shown_run first) (shown_run second))) }
 {
@@ -229,64 +240,53 @@ fn examined_of_two(first: Run, second: Run) -> usize
     }
 }
 
-/// Adds the pair of two runs that are the only ones of a list, if they make one.
-fn pair_two(
-    first: Run,
-    second: Run,
-    pairs: &mut Vec<Pair>,
-    examined: &mut u128,
-) -> Result<(), AllocError>
-    requires placed { IsPlaced first }
+/// The pair of two runs that are the only ones of a list, if they make one. `examined` counts the first run if the second examines it.
+pub fn pair_two(first: PlacedRun, second: PlacedRun, examined: &mut u128) -> Option<Pair>
+    requires first { Fits first }
+    requires second { Fits second }
     requires room { examined.old < 2 ^ 127 }
-    ensures counts { examined.new
-        ≡ examined.old + examined_of_two (shown_run first) (shown_run second) }
-    ensures least { OnOk result
-        (examined.old + least_examined (shown_run first ∷ (shown_run second ∷ [])) ≤ examined.new) }
-    ensures value { OnOk result
-        (map shown_pair pairs.new.items
-        ≡ map shown_pair pairs.old.items ++ run_pairs (shown_run first ∷ (shown_run second ∷ []))) }
+    ensures few { examined.new ≤ examined.old + 1 }
+    ensures least { examined.old + least_examined
+        (shown_placed first ∷ (shown_placed second ∷ [])) ≤ examined.new }
+    ensures value { (siblings : List Sibling)
+        → runs_of siblings ≡ shown_placed first ∷ (shown_placed second ∷ [])
+        → pairs_in result ≡ pairs_of siblings }
 {
-    count(examined, examined_of_two(first, second));
-    if !makes_a_pair(first, second) {
-        return Ok(());
+    let opener = whole_run(first);
+    let closer = whole_run(second);
+    count(examined, examined_of_two(opener, closer));
+    if !makes_a_pair(opener, closer) {
+        return None;
     }
-    pairs.push(pair_up(first, second))?;
-    Ok(())
+    Some(pair_up(opener, closer))
 }
 
 /// Adds the pairs of these runs, in the order in which they close (CommonMark 6.2, GFM 6.5). They have to be the runs of one list of
-/// siblings, in their order. `stack` is working memory; its content does not matter. If memory is refused, `pairs` may have some of the
-/// pairs.
+/// siblings, in their order. A pair names the slots of its bytes. `stack` is working memory; its content does not matter. If memory is
+/// refused, `pairs` may have some of the pairs.
 ///
 /// `examined` counts the open runs that searches examine, at most fifteen for each run. A search that finds nothing is not repeated for a
 /// run of its class (`OpenersBottom`). A search that finds an open run takes all runs that it passed off the stack.
 pub fn pair_runs(
-    runs: &[Run],
+    runs: &[PlacedRun],
     stack: &mut Vec<Run>,
     pairs: &mut Vec<Pair>,
     examined: &mut u128,
 ) -> Result<(), AllocError>
-    requires placed { All IsPlaced runs.now }
-    requires known { All IsKnown runs.now }
+    requires fits { All Fits runs.now }
+    requires known { All IsKnownPlaced runs.now }
     requires room { examined.old < 2 ^ 127 }
     ensures few { examined.new ≤ examined.old + 15 * length runs.now }
     ensures least { OnOk result
-        (examined.old + least_examined (map shown_run runs.now) ≤ examined.new) }
+        (examined.old + least_examined (map shown_placed runs.now) ≤ examined.new) }
     ensures value { OnOk result
-        ((siblings : List Sibling) → runs_of siblings ≡ map shown_run runs.now
+        ((siblings : List Sibling) → runs_of siblings ≡ map shown_placed runs.now
         → map shown_pair pairs.new.items ≡ map shown_pair pairs.old.items ++ pairs_of siblings) }
 {
-    // Most lists have one or two runs, which need no stack.
-    if runs.len() == 1 {
-        return Ok(());
-    }
-    if runs.len() == 2 {
-        return pair_two(runs[0], runs[1], pairs, examined);
-    }
     stack.clear();
     let mut bottoms = OpenersBottom::new();
-    for run in runs.iter() {
-        let rest = close(*run, stack, &mut bottoms, pairs, examined)?;
+    for placed in runs.iter() {
+        let rest = close(whole_run(*placed), stack, &mut bottoms, pairs, examined)?;
         keep_open(stack, rest)?;
     }
     Ok(())

@@ -1,6 +1,6 @@
 //! Delimiter runs and their pairs.
 
-/// A delimiter run, or the rest of one (CommonMark 6.2). Indices count the siblings of a list from 0; each byte of a run is a sibling.
+/// A delimiter run, or the rest of one (CommonMark 6.2). Each byte of a run has a slot of its own, and an index is that of a slot.
 #[derive(Clone, Copy)]
 pub struct Run {
     /// The number of bytes of the whole run.
@@ -19,6 +19,13 @@ pub struct Run {
 
 // A text may have a run for each two of its bytes, so the fields of one byte are next to each other.
 const _: () = prove!(size_of::<Run>() == 32);
+
+/// A whole run and the index of its first slot. The slots of its other bytes follow it.
+#[derive(Clone, Copy)]
+pub struct PlacedRun {
+    pub slot: usize,
+    pub run: Run,
+}
 
 /// A pair: `count` bytes that open, directly before an index, and as many bytes that close, from an index on.
 #[derive(Clone, Copy)]

@@ -15,6 +15,7 @@ use Rattle.cmark_grammar.specs.Tokens.{slice}
 use Rattle.cmark_inline.specs.Asking.{AsksOnce, AsksUpTo}
 use Rattle.cmark_inline.specs.Decided.{shown_answer, shown_question}
 use Rattle.cmark_inline.specs.Linked.{said_by}
+use Rattle.cmark_slot_events.specs.LeafStates.{GivesLong}
 use Rattle.cmark_slot_events.specs.LinkStarts as starts
 use Rattle.cmark_slot_events.specs.LinkStarts.{IsStartFirst}
 use Rattle.cmark_inline.specs.PlainStretches.{StandUpTo}
@@ -176,13 +177,13 @@ module _ {E F : Type 0} (Says : F → BrokenLink → Option (CowStr × CowStr) �
 
     -- an event that is not a short one is passed
     pub long-gives : {X : Type 0} (result : Result Given X) (walk : SpanWalk E F) (leaf_events : LeafEvents) (r : IsReadBy replacement reader walk) → walk.in_leaf ≡ true → leaf_events.slots ≡ walk.events.slots → AreOpened (source_of walk) leaf_events.walk.opened.items → OnOk result (AreLeft walk.leaf leaf_events)
-        → IfOk result (λ given. Follows (source_of walk) (opened_of walk) (shown_ranged given) leaf_events.walk.opened.items) → IfOk result (λ given. events_to_come walk.leaf walk.events ≡ shown_ranged given ∷ events_to_come walk.leaf leaf_events)
+        → IfOk result (λ given. GivesLong walk.leaf walk.events given leaf_events)
         → IfOk result (λ given. Gives Says replacement reader walk given (record walk { events = leaf_events }))
-    long-gives (Ok given) walk leaf_events r inside slots opened left follows first = record {
-      range = follows.range;
-      passes = spanned walk leaf_events (shown_ranged given ∷ []) r inside (spanned-at walk leaf_events r.left r.stands inside slots opened left) first;
+    long-gives (Ok given) walk leaf_events r inside slots opened left gives = record {
+      range = gives.follows.range;
+      passes = spanned walk leaf_events (shown_ranged given ∷ []) r inside (spanned-at walk leaf_events r.left r.stands inside slots opened left) gives.events;
     }
-    long-gives (Err x) walk leaf_events r inside slots opened left follows first = tt
+    long-gives (Err x) walk leaf_events r inside slots opened left gives = tt
 
     -- the start of a link is passed
     pub start-passes : (walk : SpanWalk E F) (leaf_events : LeafEvents) (r : IsReadBy replacement reader walk) → walk.in_leaf ≡ true → StandsAt (record walk { events = leaf_events }) r.left

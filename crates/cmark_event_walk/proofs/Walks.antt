@@ -13,6 +13,7 @@ use Rattle.cmark_inline.specs.Counted.{Counts, extent_of, total}
 use Rattle.cmark_inline.specs.Footnoted.{SameFootnotes}
 use Rattle.cmark_inline_model.specs.LeafExtents.{extent, extents}
 use Rattle.cmark_slot_events.specs.Events.{AreLeft}
+use Rattle.cmark_slot_events.specs.LeafStates.{IsOver}
 use Rattle.cmark_slot_events.specs.Opens.{AreOpened}
 use Rattle.cmark_slots.specs.Slots.{AreSlots}
 use Rattle.cmark_leaf_text.specs.declared.leaf_text.LeafText.{LeafText}
@@ -104,12 +105,16 @@ module _ {E F : Type 0} where
   spanned-at walk leaf_events left s inside slots opened given =
       let new : SpanWalk E F = record walk { events = leaf_events } in
       let h = in-leaf walk inside s.leaf in
-      let here : StandsInLeaf new = record { read = h.read; slots = subst (λ (v : Vec Slot). AreSlots (text_of walk.leaf) (length (text_of walk.leaf)) v.items) (sym slots) h.slots; opened = opened; given = given } in
+      let here : StandsInLeaf new = record { over = record { read = h.over.read; slots = subst (λ (v : Vec Slot). AreSlots (text_of walk.leaf) (length (text_of walk.leaf)) v.items) (sym slots) h.over.slots; opened = opened }; given = given } in
       record { blocks = record { remains = s.blocks.remains; few = s.blocks.few; able = s.blocks.able; same_text = s.blocks.same_text; special = s.blocks.special }; leaf = subst (λ b. StandsIn b new) (sym inside) here }
 
   -- the events that the slots still have can be returned
   pub given-left : (walk : SpanWalk E F) (left : List Segment) → StandsAt walk left → walk.in_leaf ≡ true → AreLeft walk.leaf walk.events
   given-left walk left s inside = (in-leaf walk inside s.leaf).given
+
+  -- the leaf was read, and its slots are those of its text
+  pub over-leaf : (walk : SpanWalk E F) (left : List Segment) → StandsAt walk left → walk.in_leaf ≡ true → IsOver walk.leaf walk.events
+  over-leaf walk left s inside = (in-leaf walk inside s.leaf).over
 
   -- a link is next only in a leaf
   pub link-inside : (walk : SpanWalk E F) → is_some (link_to_come walk) ≡ true → walk.in_leaf ≡ true
@@ -133,7 +138,7 @@ module _ {E F : Type 0} where
   enters old leaf inline leaf_events footnotes callback is_cell read source slots none given counts live one others before extent text = record {
     stands = record {
       blocks = record { remains = before.blocks.remains; few = before.blocks.few; able = subst (λ s. IsAble inline s others) (sym source) (able-leaf old.inline inline (source_of old) one others leaf before.able counts extent text live); same_text = before.blocks.same_text ∙ sym source; special = before.blocks.special };
-      leaf = record { read = read; slots = slots; opened = none-opened leaf.source.now leaf_events.walk.opened.items none; given = given };
+      leaf = record { over = record { read = read; slots = slots; opened = none-opened leaf.source.now leaf_events.walk.opened.items none }; given = given };
     };
     inside = refl;
     none_open = none;

@@ -27,6 +27,7 @@ use Rattle.cmark_inline.specs.Counted.{total}
 use Rattle.cmark_inline.specs.declared.state.InlineState.{InlineState}
 use Rattle.cmark_inline.specs.declared.steps.Steps.{Steps}
 use Rattle.cmark_inline.specs.Decided.{said}
+use Rattle.cmark_inline.specs.Footnoted.{SameFootnotes}
 use Rattle.cmark_inline.specs.Linked.{said_by}
 use Rattle.cmark_slot_events.specs.LinkStarts as starts
 use Rattle.cmark_slot_events.specs.Longs as longs
@@ -34,12 +35,11 @@ use Rattle.cmark_slot_events.specs.Opens as opens
 use Rattle.cmark_inline.specs.PlainStretches.{IsSetOf}
 use Rattle.cmark_inline.specs.Resolved.{Answered, ResolvesAs}
 use Rattle.cmark_slot_events.specs.Events.{AreLeft, events_to_come}
-use Rattle.cmark_slot_events.specs.Opens.{AreOpened}
-use Rattle.cmark_slots.specs.Slots.{AreSlots}
+use Rattle.cmark_slot_events.specs.LeafStates.{IsOver}
 use Rattle.cmark_inline.specs.declared.callback.BrokenLink.{BrokenLink}
 use Rattle.cmark_slot_events.specs.declared.leaf_events.Opened.{Opened}
 use Rattle.cmark_leaf_text.specs.Reads as reads
-use Rattle.cmark_leaf_text.specs.Reads.{IsPart, IsRead, text_of}
+use Rattle.cmark_leaf_text.specs.Reads.{IsPart}
 use Rattle.cmark_leaf_text.specs.declared.stretch.LeafLine.{LeafLine}
 use Rattle.cmark_text.specs.Excerpt.{excerpt_bytes}
 use Rattle.cmark_text.specs.Ranged.{shown_ranged}
@@ -125,6 +125,21 @@ module _ {E F : Type 0} where
   abbrev pub footnotes_of : SpanWalk E F → FootnoteDefs
   footnotes_of walk = walk.footnotes
 
+  -- the walk has these settings: the options, the look-up of entities, the reference expansion limit in bytes, and the callback
+  pub record HasSettings (walk : SpanWalk E F) (chosen : Options) (known : E) (limit : ℕ) (asked : F) : Type 0 where
+    pub options : options_of walk ≡ chosen
+    pub entities : walk.entities.now ≡ known
+    pub expansion_left : expansion_left_of walk ≡ limit
+    pub callback : callback_of walk ≡ asked
+
+  -- a call keeps the text, its link reference definitions and the labels of its footnotes. The steps of the searches are at most 128 for each
+  -- byte of the text
+  pub record KeepsText (old new : SpanWalk E F) : Type 0 where
+    pub counted : IsCounted new
+    pub definitions : definitions_of new ≡ definitions_of old
+    pub footnotes : SameFootnotes (footnotes_of old) (footnotes_of new)
+    pub source : source_of new ≡ source_of old
+
   -- a call only reads in the current leaf: everything outside of the leaf is as it was
   pub record KeepsAround (old new : SpanWalk E F) : Type 0 where
     pub callback : callback_of new ≡ callback_of old
@@ -148,9 +163,7 @@ module _ {E F : Type 0} where
 
   -- the state in a leaf: its text was read, its slots and its open elements are sound, and its events are left
   pub record StandsInLeaf (walk : SpanWalk E F) : Type 0 where
-    pub read : IsRead walk.leaf
-    pub slots : AreSlots (text_of walk.leaf) (length (text_of walk.leaf)) walk.events.slots.items
-    pub opened : AreOpened (source_of walk) (opened_of walk)
+    pub over : IsOver walk.leaf walk.events
     pub given : AreLeft walk.leaf walk.events
 
   abbrev pub StandsIn : (in_leaf : Bool) → SpanWalk E F → Type 0
@@ -195,6 +208,13 @@ module _ {E F : Type 0} where
   LeavesFewer old (next.Short short start end) new = events_left new < events_left old
   LeavesFewer old next.Long new = events_left new ≤ events_left old
   LeavesFewer old next.Over new = Unit {0}
+
+  -- and no more than before after any result. The leaf has the same slots, fewer than a `usize` can count
+  pub record CountsDown (old : SpanWalk E F) (next : Next) (new : SpanWalk E F) : Type 0 where
+    pub fewer : LeavesFewer old next new
+    pub most : events_left new ≤ events_left old
+    pub few : old.in_leaf ≡ true → length new.events.slots.items < 18446744073709551616
+    pub slots : new.events.slots ≡ old.events.slots
 
   -- fewer events are left after one or more events were returned
   abbrev pub LeavesFewerAfter : SpanWalk E F → Coming → SpanWalk E F → Type 0
@@ -376,3 +396,10 @@ module _ {E F : Type 0} (Says : F → BrokenLink → Option (CowStr × CowStr) �
   pub record ReadsLeaf (leaf : Leaf) (old new : SpanWalk E F) : Type 0 where
     pub resolves : ResolvesAs Says reader leaf (expansion_left_of old) (events_to_come new.leaf new.events) (expansion_left_of new) (callback_of old) (callback_of new)
     pub same : ReadsSame replacement reader new
+
+module _ {E F : Type 0} (Says : F → BrokenLink → Option (CowStr × CowStr) → F → Type 0) (replacement : E → Lookup) where
+  -- memory was refused: the next event is not the end of an element, and the questions are the first ones of the events that were left
+  pub record Refuses (old new : SpanWalk E F) : Type 0 where
+    pub ends : (reader : Reader) → NoEndIsNext replacement reader old
+    pub asked : HasAsked Says (callback_of old) (callback_of new)
+    pub stops : (reader : Reader) → IsReadBy replacement reader old → Stops Says replacement reader old new

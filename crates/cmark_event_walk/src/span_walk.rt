@@ -7,7 +7,6 @@ ghost use Rattle.cmark_grammar.specs.Readers.{Reader as GrammarReader};
 ghost use Rattle.cmark_grammar.specs.LeafText.{Leaf};
 ghost use Rattle.cmark_grammar.specs.SpanDocuments.{Left, Segment};
 ghost use Rattle.cmark_inline.specs.Counted.{total};
-ghost use Rattle.cmark_inline.specs.Footnoted.{SameFootnotes};
 ghost use Rattle.cmark_inline_model.specs.LeafExtents.{extents};
 ghost use Rattle.cmark_references.specs.Links.{shown_link};
 ghost use Rattle.cmark_inline.specs.Resolved.{StopsAs};
@@ -55,7 +54,7 @@ pub struct SpanWalk<'input, 'e, E, F> {
 }
 
 impl<'input, 'e, E: EntityLookup, F: BrokenLinkCallback<'input> + Drop> SpanWalk<'input, 'e, E, F> {
-    ghost use Rattle.cmark_event_walk.specs.Walking.{BeforeLeaf, ComesLong, KeepsAround, EntersLeaf, Gives, GivesComing, GivesInLeaf, GivesStart, IfLong, IsCounted, IsLong, IsReadBy, KeepsAfterLeaf, LeavesFewer, LeavesFewerAfter, LeavesLeaf, NoEndIsNext, ReadsLeaf, ReadsSame, Remains, Stands, Stops, are_lines, callback_of, definitions_of, events_left, expansion_left_of, footnotes_of, link_to_come, options_of, source_of, steps_of};
+    ghost use Rattle.cmark_event_walk.specs.Walking.{BeforeLeaf, ComesLong, CountsDown, KeepsAround, EntersLeaf, Gives, GivesComing, GivesInLeaf, GivesStart, HasSettings, IfLong, IsLong, IsReadBy, KeepsAfterLeaf, KeepsText, LeavesFewerAfter, LeavesLeaf, NoEndIsNext, ReadsLeaf, ReadsSame, Refuses, Remains, Stands, are_lines, callback_of, definitions_of, events_left, expansion_left_of, footnotes_of, link_to_come, options_of, source_of, steps_of};
 
     /// Returns a walk over the rest of `walk`, which is a walk over the blocks of `text`. `budget` is more than the number of events and
     /// leaves that `walk` still returns. `entities` maps entity names to their characters. `footnotes` are the footnotes that the text
@@ -88,11 +87,9 @@ impl<'input, 'e, E: EntityLookup, F: BrokenLinkCallback<'input> + Drop> SpanWalk
             (events : List Shown) → BlocksRemain walk.entry left
             → Remains E.replacement reader result exchanges events
             → Left reader left (expansion_left_of result) exchanges events }
-        ensures expansion_left { expansion_left_of result ≡ expansion_limit }
+        ensures settings { HasSettings result
+            (shown_options options) entities.entry.now expansion_limit callback }
         ensures steps { total (steps_of result) ≡ 0 }
-        ensures options { options_of result ≡ shown_options options }
-        ensures entities { result.entities.now ≡ entities.entry.now }
-        ensures callback { callback_of result ≡ callback }
         ensures definitions { definitions_of result ≡ block_definitions walk.entry }
         ensures footnotes { footnotes_of result ≡ footnotes }
         ensures source { source_of result ≡ text.entry.now }
@@ -151,16 +148,8 @@ impl<'input, 'e, E: EntityLookup, F: BrokenLinkCallback<'input> + Drop> SpanWalk
         ensures long { IfOk result
             (λ coming. IfLong coming (ComesLong E.replacement self.old self.new)) }
         ensures fewer { IfOk result (λ coming. LeavesFewerAfter self.old coming self.new) }
-        ensures ends { OnErr result
-            ((reader : GrammarReader) → NoEndIsNext E.replacement reader self.old) }
-        ensures asked { OnErr result
-            (HasAsked F.answers (callback_of self.old) (callback_of self.new)) }
-        ensures stops { (reader : GrammarReader) → IsReadBy E.replacement reader self.old
-            → OnErr result (Stops F.answers E.replacement reader self.old self.new) }
-        ensures counted { IsCounted self.new }
-        ensures definitions { definitions_of self.new ≡ definitions_of self.old }
-        ensures footnotes { SameFootnotes (footnotes_of self.old) (footnotes_of self.new) }
-        ensures source { source_of self.new ≡ source_of self.old }
+        ensures refused { OnErr result (Refuses F.answers E.replacement self.old self.new) }
+        ensures keeps { KeepsText self.old self.new }
     {
         loop {
             let Ok(span) = self.next_in_leaf() else {
@@ -209,10 +198,7 @@ impl<'input, 'e, E: EntityLookup, F: BrokenLinkCallback<'input> + Drop> SpanWalk
         ensures ends { OnErr result
             ((reader : GrammarReader) → NoEndIsNext E.replacement reader self.old) }
         ensures callback { callback_of self.new ≡ callback_of self.old }
-        ensures counted { IsCounted self.new }
-        ensures definitions { definitions_of self.new ≡ definitions_of self.old }
-        ensures footnotes { SameFootnotes (footnotes_of self.old) (footnotes_of self.new) }
-        ensures source { source_of self.new ≡ source_of self.old }
+        ensures keeps { KeepsText self.old self.new }
     {
         if self.in_leaf {
             return self.events.take_long(&self.leaf);
@@ -259,10 +245,7 @@ impl<'input, 'e, E: EntityLookup, F: BrokenLinkCallback<'input> + Drop> SpanWalk
         ensures ends { OnErr result
             ((reader : GrammarReader) → NoEndIsNext E.replacement reader self.old) }
         ensures callback { callback_of self.new ≡ callback_of self.old }
-        ensures counted { IsCounted self.new }
-        ensures definitions { definitions_of self.new ≡ definitions_of self.old }
-        ensures footnotes { SameFootnotes (footnotes_of self.old) (footnotes_of self.new) }
-        ensures source { source_of self.new ≡ source_of self.old }
+        ensures keeps { KeepsText self.old self.new }
     {
         self.events.pass_link(&self.leaf)
     }
@@ -283,11 +266,7 @@ impl<'input, 'e, E: EntityLookup, F: BrokenLinkCallback<'input> + Drop> SpanWalk
             → IfOk result (λ next. KeepsAfterLeaf E.replacement reader self.old next self.new) }
         ensures ends { OnErr result
             ((reader : GrammarReader) → NoEndIsNext E.replacement reader self.old) }
-        ensures fewer { IfOk result (λ next. LeavesFewer self.old next self.new) }
-        ensures most { OnOk result (events_left self.new ≤ events_left self.old) }
-        ensures few { OnOk result
-            (self.old.in_leaf ≡ true → length self.new.events.slots.items < 18446744073709551616) }
-        ensures slots { OnOk result (self.new.events.slots ≡ self.old.events.slots) }
+        ensures fewer { IfOk result (λ next. CountsDown self.old next self.new) }
         ensures around { KeepsAround self.old self.new }
     {
         if !self.in_leaf {
@@ -359,11 +338,8 @@ impl<'input, 'e, E: EntityLookup, F: BrokenLinkCallback<'input> + Drop> SpanWalk
             → StopsAs F.answers reader leaf (expansion_left_of self.old) (callback_of self.old)
             (callback_of self.new)) }
         ensures asked { HasAsked F.answers (callback_of self.old) (callback_of self.new) }
-        ensures counted { IsCounted self.new }
-        ensures source { source_of self.new ≡ source_of self.old }
         ensures budget { self.new.budget ≡ self.old.budget }
-        ensures definitions { definitions_of self.new ≡ definitions_of self.old }
-        ensures footnotes { SameFootnotes (footnotes_of self.old) (footnotes_of self.new) }
+        ensures keeps { KeepsText self.old self.new }
     {
         let Ok(()) = self.leaf.read(self.lines.as_slice(), is_cell) else {
             return Err(AllocError);

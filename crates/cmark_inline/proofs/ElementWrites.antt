@@ -21,7 +21,7 @@ use Rattle.cmark_slots.specs.Standing.{AreNamed, CanSettle}
 use Rattle.cmark_slots.specs.Slots.{AreSlots}
 use Rattle.cmark_inline.specs.FormedSlots.{WritesElement, dressed_after, end_slot, wrapped}
 use Rattle.cmark_slots.specs.declared.bracket.Bracket.{Bracket}
-use Rattle.cmark_slots.specs.declared.delimiter.PlacedRun.{PlacedRun}
+use Rattle.cmark_emphasis.specs.declared.run.PlacedRun.{PlacedRun}
 use Rattle.cmark_references.specs.declared.link.Link.{Link}
 use Rattle.cmark_inline.specs.declared.link.Target.{Target}
 use Rattle.cmark_slots.specs.declared.quote.PlacedQuote.{PlacedQuote}

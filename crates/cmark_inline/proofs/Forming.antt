@@ -11,7 +11,7 @@ use Rattle.cmark_slots.specs.MarkedSlots.{AreWhole, EndWithin, SameBefore, last_
 use Rattle.cmark_slots.specs.SlotViews.{link_named, text_named}
 use Rattle.cmark_slots.specs.Standing.{AreEnded, AreNamed, AreSound, BeginsBefore, CanSettle, EndInOrder, EndsIn, IsPlain, IsSettled, IsTaken, IsTakenPair, NamesAs, source_end}
 use Rattle.cmark_slots.specs.declared.bracket.Bracket.{Bracket}
-use Rattle.cmark_slots.specs.declared.delimiter.PlacedRun.{PlacedRun}
+use Rattle.cmark_emphasis.specs.declared.run.PlacedRun.{PlacedRun}
 use Rattle.cmark_slots.specs.declared.quote.PlacedQuote.{PlacedQuote}
 use Rattle.cmark_slots.specs.declared.slot.Slot.{Slot}
 use Rattle.cmark_slots.specs.declared.slot.SlotKind.TheVariants as kind

@@ -18,7 +18,7 @@ use Rattle.cmark_slots.specs.Slots.{AreSlots, HoldNoLink, PushesText, byte_slots
 use Rattle.cmark_inline.specs.Stands.{SameSpans, Stands}
 use Rattle.cmark_inline.specs.Tokens.{AppendsQuote, Puts, PutsAutolink}
 use Rattle.cmark_slots.specs.declared.bracket.Bracket.{Bracket}
-use Rattle.cmark_slots.specs.declared.delimiter.PlacedRun.{PlacedRun}
+use Rattle.cmark_emphasis.specs.declared.run.PlacedRun.{PlacedRun}
 use Rattle.cmark_references.specs.declared.link.Link.{Link}
 use Rattle.cmark_slots.specs.declared.quote.PlacedQuote.{PlacedQuote}
 use Rattle.cmark_slots.specs.declared.slot.Element.TheVariants as element

@@ -24,7 +24,7 @@ use Rattle.cmark_leaf_text.specs.Reads.{text_of}
 use Rattle.cmark_leaf_text.specs.declared.leaf_text.LeafText.{LeafText}
 use Rattle.cmark_slots.specs.MarkedSlots.{siblings_from}
 use Rattle.cmark_slots.specs.declared.bracket.Bracket as slots
-use Rattle.cmark_slots.specs.declared.delimiter.PlacedRun.{PlacedRun}
+use Rattle.cmark_emphasis.specs.declared.run.PlacedRun.{PlacedRun}
 use Rattle.cmark_span_scan.specs.declared.backtick_runs.BacktickRuns.{BacktickRuns}
 use Rattle.cmark_span_scan.specs.declared.dollars.Dollars.{Dollars}
 use Rattle.cmark_inline.specs.Closers.{Examines}

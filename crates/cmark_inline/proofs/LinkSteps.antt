@@ -32,7 +32,7 @@ use Rattle.cmark_slots.specs.QuoteSlots.{characters_of}
 use Rattle.cmark_inline.specs.Reached.{HasRead, bracket_place, runs_of, quotes_of}
 use Rattle.cmark_slots.specs.SlotViews.{shown_slots}
 use Rattle.cmark_slots.specs.declared.bracket.Bracket.{Bracket}
-use Rattle.cmark_slots.specs.declared.delimiter.PlacedRun.{PlacedRun}
+use Rattle.cmark_emphasis.specs.declared.run.PlacedRun.{PlacedRun}
 use Rattle.cmark_slots.specs.declared.quote.PlacedQuote.{PlacedQuote}
 use Rattle.cmark_inline.specs.declared.state.InlineState.{InlineState}
 

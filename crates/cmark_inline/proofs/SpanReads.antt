@@ -1,9 +1,13 @@
 -- The results of the calls, as results at a special byte.
-use Rattle.std.proofs.Common.{◌≡◌, ◌⊎◌, inl, inr, ℕ, Bool, List, subst}
+use Rattle.std.proofs.Common.{◌≡◌, ◌⊎◌, inl, inr, ℕ, Bool, List, Result, subst}
+use Rattle.std.specs.declared.alloc.AllocError.{AllocError}
+use Rattle.std.proofs.lemmas.Result.{IfOk-weaker}
 use Rattle.cmark_grammar.specs.Answers.{Lookup}
 use Rattle.cmark_grammar.specs.Options.{Options}
 use Rattle.cmark_leaf_text.specs.Reads.{is_cell_of, text_of}
 use Rattle.cmark_leaf_text.specs.declared.leaf_text.LeafText.{LeafText}
+use Rattle.cmark_inline.specs.ReadsLeafOn.{ReadsLeafOn}
+use Rattle.cmark_inline.specs.ReadsOn.{ReadsOn}
 use Rattle.cmark_inline.specs.SpecialReads.{OpensBracket, ReadsSpecial}
 use Rattle.cmark_inline.specs.Tokens.{Passes, Appends, Escapes, TakesEscaped, AppendsRun, AppendsQuote, PassesOver, EscapesPipe}
 use Rattle.cmark_inline.specs.declared.state.InlineState.{InlineState}
@@ -64,3 +68,12 @@ module _ (o : Options) (l : Lookup) (leaf : LeafText) (text : List ℕ) (same : 
   pub run-reads : Passes o l (is_cell_of leaf) text here old new next ⊎ AppendsRun o l (is_cell_of leaf) text here old new next → ReadsSpecial o l leaf here old new next
   run-reads (inl h) = passes h
   run-reads (inr h) = appends-run h
+
+pub reads-leaf : (leaf : LeafText) (text : List ℕ) (here : Cursor) (old new : InlineState) (result : Result Cursor AllocError) → ReadsOn text here old new result → ReadsLeafOn leaf text here old new result
+reads-leaf leaf text here old new result r = record {
+  expansion_left = r.expansion_left;
+  steps = r.steps;
+  sound = λ h. IfOk-weaker result _ _ (λ next k. k.sound h) r.keeps;
+  ends = IfOk-weaker result _ _ (λ next k. k.ends leaf) r.keeps;
+  moves = r.moves;
+}

@@ -28,7 +28,7 @@ use Rattle.cmark_inline.specs.Wikilinks.{IsNamed, Shows, display_place, has_poth
 use Rattle.cmark_inline.specs.FormedSlots.{Forgets, dressed_after, end_slot, wrapped}
 use Rattle.cmark_slots.specs.declared.bracket.Bracket.{Bracket}
 use Rattle.cmark_slots.specs.declared.bracket.Brackets.{Brackets}
-use Rattle.cmark_slots.specs.declared.delimiter.PlacedRun.{PlacedRun}
+use Rattle.cmark_emphasis.specs.declared.run.PlacedRun.{PlacedRun}
 use Rattle.cmark_references.specs.declared.link.Link.{Link}
 use Rattle.cmark_slots.specs.declared.quote.PlacedQuote.{PlacedQuote}
 use Rattle.cmark_slots.specs.declared.slot.Element.{Element}

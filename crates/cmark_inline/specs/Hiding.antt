@@ -15,7 +15,7 @@ use Rattle.cmark_slots.specs.SlotViews.{first_of, item_slot, shown_slot, shown_s
 use Rattle.cmark_inline.specs.Wikilinks.{IsWikilink, Shows, has_pothole}
 use Rattle.cmark_inline.specs.FormedSlots.{Forgets, dressed_after, wrapped}
 use Rattle.cmark_slots.specs.declared.bracket.Bracket.{Bracket}
-use Rattle.cmark_slots.specs.declared.delimiter.PlacedRun.{PlacedRun}
+use Rattle.cmark_emphasis.specs.declared.run.PlacedRun.{PlacedRun}
 use Rattle.cmark_slots.specs.declared.quote.PlacedQuote.{PlacedQuote}
 use Rattle.cmark_slots.specs.declared.slot.Slot.{Slot}
 use Rattle.cmark_slots.specs.declared.slot.SlotKind.TheVariants as kind

@@ -1,4 +1,5 @@
 pub mod Asking
+pub mod AtCloser
 pub mod BracketViews
 pub mod Closers
 pub mod Counted
@@ -7,6 +8,7 @@ pub mod Decided
 pub mod Footnoted
 pub mod FormedSlots
 pub mod Hiding
+pub mod LeafPass
 pub mod LeafViews
 pub mod LeastSteps
 pub mod Linked
@@ -14,11 +16,14 @@ pub mod MarkupInSource
 pub mod Paid
 pub mod PlainStretches
 pub mod Reached
+pub mod ReadsLeafOn
 pub mod ReadsOn
 pub mod Resolved
+pub mod Sought
 pub mod Sound
 pub mod SpecialReads
 pub mod Stands
+pub mod TextOf
 pub mod Tokens
 pub mod Uses
 pub mod Wikilinks

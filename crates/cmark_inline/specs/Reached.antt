@@ -16,7 +16,7 @@ use Rattle.cmark_inline_model.specs.RowPasses.{IsReached}
 use Rattle.cmark_slots.specs.MarkedSlots.{places_of}
 use Rattle.cmark_slots.specs.SlotViews.{shown_slots}
 use Rattle.cmark_slots.specs.declared.bracket.Bracket.{Bracket}
-use Rattle.cmark_slots.specs.declared.delimiter.PlacedRun.{PlacedRun}
+use Rattle.cmark_emphasis.specs.declared.run.PlacedRun.{PlacedRun}
 use Rattle.cmark_slots.specs.declared.quote.PlacedQuote.{PlacedQuote}
 use Rattle.cmark_inline.specs.declared.state.InlineState.{InlineState}
 

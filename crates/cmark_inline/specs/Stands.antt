@@ -1,11 +1,12 @@
 -- Facts that hold while the text of a leaf is read.
-use Rattle.std.specs.Prelude.{◌≡◌, ℕ, ◌+◌, ◌*◌, ◌≤◌, ◌<◌, List, length, slice_index}
+use Rattle.std.specs.Prelude.{◌≡◌, false, ℕ, ◌+◌, ◌*◌, ◌≤◌, ◌<◌, List, length, slice_index}
 use Rattle.std.specs.Str.{IsCharBoundary}
 use Rattle.cmark_inline.specs.declared.reference.LinkReference.{LinkReference}
 use Rattle.cmark_inline.specs.declared.link.Target.{Target}
 use Rattle.cmark_inline.specs.declared.state.InlineState.{InlineState}
 use Rattle.cmark_inline.specs.declared.step.Cursor.{Cursor}
-use Rattle.cmark_slots.specs.Slots.{AreBrackets, AreFree, AreSlots, PushesText, bytes_of}
+use Rattle.cmark_slots.specs.Slots.{AreBrackets, AreFree, AreSlots, IsSlot, PushesText, begins_link, bytes_of}
+use Rattle.cmark_slots.specs.declared.slot.Slot.{Slot}
 
 -- the state of a pass that has read the text up to the offset `at`. All slots, brackets and doubled brackets end by this offset. There are
 -- at most `at` slots, and one for each byte of the delimiter runs. No link begins after a bracket that may form one. At most 15 open runs are
@@ -38,6 +39,19 @@ pub record Moves (text : List ℕ) (at : ℕ) (state : InlineState) (next : Curs
   pub stands : Stands text next.pending state
   pub cursor : IsCursor text next
   pub further : at < next.at
+
+-- the text from `start` to `end` may become a slot, unless it is empty
+pub record IsPendingUpTo (text : List ℕ) (start end : ℕ) : Type 0 where
+  pub starts : IsCharBoundary text start
+  pub stops : IsCharBoundary text end
+  pub following : start ≤ end
+
+-- the slot ends after the pending text, which ends at `text_end`, and after the offset `at`. It begins no link
+pub record ComesNext (text : List ℕ) (at text_end : ℕ) (slot : Slot) : Type 0 where
+  pub ordered : text_end < slot.end
+  pub is : IsSlot text slot.end slot
+  pub further : at < slot.end
+  pub kind : begins_link slot.kind ≡ false
 
 -- memory sufficed for the slot of the pending text from `start` to `end`
 pub record Flushes (start end : ℕ) (old : InlineState) : Type 0 where

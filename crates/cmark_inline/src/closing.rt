@@ -1,27 +1,25 @@
 //! Closing brackets, and the links and images that they form (CommonMark 6.3 and 6.4).
 
-ghost use Rattle.std.specs.Prelude.{◌≡◌, ◌<◌, length, IfOk, OnErr, OnOk, false, ◌+◌, ◌*◌, ◌^◌, IfSome, None, Bool, ℕ, List, ◌++◌, ◌∷◌, [], ◌≤◌, drop, take};
-ghost use Rattle.cmark_leaf_text.specs.Reads.{IsRead, text_of, IsPart};
+ghost use Rattle.std.specs.Prelude.{◌≡◌, ◌<◌, IfOk, OnErr, OnOk, false, ◌+◌, ◌^◌, IfSome, None, Bool, ℕ, List, ◌++◌, ◌∷◌, [], drop};
+ghost use Rattle.cmark_leaf_text.specs.Reads.{IsPart};
 ghost use Rattle.cmark_values.specs.Shown.{shown_options};
-ghost use Rattle.cmark_emphasis.specs.Least.{least_examined};
-ghost use Rattle.cmark_inline.specs.Asking.{AsksOnce};
-ghost use Rattle.cmark_inline.specs.Closers.{AsksOfCloser, AsksOfLink, Closes, DeactivatesAfter, LinksTaken, LeavesElement};
-ghost use Rattle.cmark_inline.specs.Footnoted.{SameFootnotes};
-ghost use Rattle.cmark_inline.specs.Uses.{RiseUpTo};
+ghost use Rattle.cmark_inline.specs.AtCloser.{AsksLeft, CanLink, DropsAfterBracket, EndsElement, ExaminesAfter, FormsElement, GoesOn, IsWithin, KeepsLimits, PassesCloser, StandsSound, UsesUpTo};
+ghost use Rattle.cmark_inline.specs.TextOf.{IsTextOf};
+ghost use Rattle.cmark_inline.specs.Closers.{AsksOfCloser, AsksOfLink, Closes, DeactivatesAfter, LinksTaken};
 ghost use Rattle.cmark_slots.specs.Standing.{AreEnded, CanSettle, IsSettled};
 ghost use Rattle.cmark_inline.specs.Sound.{IsSound, IsTakenFrom};
-ghost use Rattle.cmark_inline.specs.Stands.{IsAtByte, Moves, Stands, Flushes, IsTarget};
-ghost use Rattle.cmark_slots.specs.Slots.{HoldNoLink, IsBracket, IsEnd, NoNewLink, AreSlots, bytes_of};
+ghost use Rattle.cmark_inline.specs.Stands.{IsAtByte, Stands, IsTarget};
+ghost use Rattle.cmark_slots.specs.Slots.{HoldNoLink, IsBracket};
 ghost use Rattle.cmark_leaf_text.specs.declared.leaf_text.LeafText.{LeafText as LeafTexts};
 ghost use Rattle.cmark_grammar.specs.BracketStates.{Opener};
 ghost use Rattle.cmark_grammar.specs.OpenBrackets.{nearest, used_up};
 ghost use Rattle.cmark_inline.specs.BracketViews.{StandFor, TakenAs};
 ghost use Rattle.cmark_slots.specs.declared.bracket.Bracket.{Bracket as Opening};
 ghost use Rattle.cmark_inline.specs.Decided.{AsksOfTarget, EndsWithin, TargetDecides};
-ghost use Rattle.cmark_inline.specs.FormedSlots.{WritesElement, dressed_after, end_slot};
+ghost use Rattle.cmark_inline.specs.FormedSlots.{dressed_after, end_slot};
 ghost use Rattle.cmark_grammar.specs.Spans.{Spans};
 ghost use Rattle.cmark_values.specs.declared.text.CowStr.{CowStr as Texts};
-ghost use Rattle.cmark_grammar.specs.Emphasis.{IsEmphasis, Pair, runs_of};
+ghost use Rattle.cmark_grammar.specs.Emphasis.{IsEmphasis, Pair};
 ghost use Rattle.cmark_slots.specs.MarkedSlots.{siblings_from};
 ghost use Rattle.cmark_slots.specs.SlotViews.{shown_slots};
 ghost use Rattle.cmark_references.specs.declared.link.Link.{Link as Links};
@@ -55,22 +53,9 @@ impl<'a> InlineState<'a> {
         here: Cursor,
     ) -> Result<Cursor, AllocError>
         requires byte { IsAtByte text.now here self.old }
-        requires read { IsRead leaf.now }
-        requires same { text.now ≡ text_of leaf.now }
+        requires text { IsTextOf leaf.now text.now }
         requires sound { IsSound self.old }
         requires ready { F.ready callback.old }
-        ensures sound { OnOk result (IsSound self.new) }
-        ensures ends { OnOk result
-            (AreEnded leaf.now self.old.slots.items → AreEnded leaf.now self.new.slots.items) }
-        ensures ready { F.ready callback.new }
-        ensures asks { AsksOnce F.answers callback.old callback.new }
-        ensures spent { self.old.expansion_left ≡ 0
-            → (callback.new ≡ callback.old) × (self.new.expansion_left ≡ 0) }
-        ensures steps { self.new.steps ≡ self.old.steps }
-        ensures moves { IfOk result (Moves text.now here.at self.new) }
-        ensures footnotes { SameFootnotes footnotes.old footnotes.new }
-        ensures rise { RiseUpTo 1 footnotes.old footnotes.new }
-        ensures flushes { OnOk result (Flushes here.pending here.at self.old) }
         ensures closes { IfOk result
             (λ next. Closes F.answers (shown_options reader.now.options)
             (E.replacement reader.now.entities.now) reader.now.references.now footnotes.old
@@ -80,6 +65,11 @@ impl<'a> InlineState<'a> {
             (AsksOfCloser F.answers (shown_options reader.now.options)
             (E.replacement reader.now.entities.now) reader.now.references.now footnotes.old leaf.now
             text.now here.at self.old callback.old callback.new) }
+        ensures asks { AsksLeft F.ready F.answers self.old self.new callback.old callback.new }
+        ensures uses { UsesUpTo 1 footnotes.old footnotes.new }
+        ensures steps { self.new.steps ≡ self.old.steps }
+        ensures passes { IfOk result
+            (PassesCloser leaf.now text.now here.pending here.at self.old self.new) }
     {
         self.flush(text, here, here.at)?;
         let following_it = following(text, here.at);
@@ -116,27 +106,11 @@ impl<'a> InlineState<'a> {
         taken: Option<Bracket>,
         close: usize,
     ) -> Result<Option<Cursor>, AllocError>
-        requires stands { Stands text.now close self.old }
-        requires bracket { IfSome taken (IsBracket text.now close) }
-        requires free { IfSome taken
-            (λ bracket. bracket.is_image ≡ false → HoldNoLink self.old.slots.items bracket.slot) }
+        requires text { IsTextOf leaf.now text.now }
+        requires at { StandsSound text.now close self.old }
+        requires opening { IfSome taken (CanLink text.now close self.old) }
         requires close { IsPart text.now close (close + 1) }
-        requires read { IsRead leaf.now }
-        requires same { text.now ≡ text_of leaf.now }
-        requires sound { IsSound self.old }
-        requires taken { IfSome taken (IsTakenFrom self.old) }
         requires ready { F.ready callback.old }
-        ensures sound { OnOk result (IsSound self.new) }
-        ensures ends { OnOk result
-            ((leaf : LeafTexts) → AreEnded leaf self.old.slots.items
-            → AreEnded leaf self.new.slots.items) }
-        ensures ready { F.ready callback.new }
-        ensures asks { AsksOnce F.answers callback.old callback.new }
-        ensures spent { self.old.expansion_left ≡ 0
-            → (callback.new ≡ callback.old) × (self.new.expansion_left ≡ 0) }
-        ensures steps { self.new.steps ≡ self.old.steps }
-        ensures stands { IfOk result (λ next. next ≡ None → Stands text.now close self.new) }
-        ensures moves { IfOk result (λ next. IfSome next (Moves text.now close self.new)) }
         ensures links { IfOk result
             (λ next. LinksTaken F.answers (shown_options reader.now.options)
             (E.replacement reader.now.entities.now) reader.now.references.now leaf.now text.now
@@ -145,6 +119,9 @@ impl<'a> InlineState<'a> {
             (AsksOfLink F.answers (shown_options reader.now.options)
             (E.replacement reader.now.entities.now) reader.now.references.now leaf.now text.now
             taken close self.old callback.old callback.new) }
+        ensures asks { AsksLeft F.ready F.answers self.old self.new callback.old callback.new }
+        ensures steps { self.new.steps ≡ self.old.steps }
+        ensures goes_on { IfOk result (GoesOn text.now close self.old self.new) }
     {
         let Some(bracket) = taken else {
             return Ok(None);
@@ -165,12 +142,8 @@ impl<'a> InlineState<'a> {
         requires stands { Stands text.now at self.old }
         requires sound { IsSound self.old }
         ensures sound { IsSound self.new }
-        ensures taken { IfSome result (IsTakenFrom self.new) }
         ensures stands { Stands text.now at self.new }
-        ensures expansion_left { self.new.expansion_left ≡ self.old.expansion_left }
-        ensures bracket { IfSome result (IsBracket text.now at) }
-        ensures link { IfSome result
-            (λ bracket. bracket.is_image ≡ false → HoldNoLink self.new.slots.items bracket.slot) }
+        ensures opening { IfSome result (CanLink text.now at self.new) }
         ensures others { self.new ≡ record self.old { brackets = self.new.brackets } }
         ensures takes { (wikilinks : Bool) (place : ℕ → ℕ) (openers : List Opener)
             (bs : List Opening)
@@ -195,17 +168,8 @@ impl<'a> InlineState<'a> {
     ) -> Result<Option<Target<'a>>, AllocError>
         requires bracket { IsBracket text.now close bracket }
         requires close { IsPart text.now close (close + 1) }
-        requires read { IsRead leaf.now }
-        requires same { text.now ≡ text_of leaf.now }
+        requires text { IsTextOf leaf.now text.now }
         requires ready { F.ready callback.old }
-        ensures ready { F.ready callback.new }
-        ensures asks { AsksOnce F.answers callback.old callback.new }
-        ensures spent { self.old.expansion_left ≡ 0
-            → (callback.new ≡ callback.old) × (self.new.expansion_left ≡ 0) }
-        ensures others { self.new
-            ≡ record self.old
-            { expansion_left = self.new.expansion_left; label_close = self.new.label_close } }
-        ensures target { IfOk result (λ found. IfSome found (IsTarget text.now close)) }
         ensures decides { IfOk result
             (λ found. TargetDecides F.answers (shown_options reader.now.options)
             (E.replacement reader.now.entities.now) reader.now.references.now leaf.now text.now
@@ -214,6 +178,11 @@ impl<'a> InlineState<'a> {
             (AsksOfTarget F.answers (shown_options reader.now.options)
             (E.replacement reader.now.entities.now) reader.now.references.now leaf.now text.now
             bracket close self.old callback.old callback.new) }
+        ensures asks { AsksLeft F.ready F.answers self.old self.new callback.old callback.new }
+        ensures others { self.new
+            ≡ record self.old
+            { expansion_left = self.new.expansion_left; label_close = self.new.label_close } }
+        ensures target { IfOk result (λ found. IfSome found (IsTarget text.now close)) }
         ensures label { OnOk result
             (EndsWithin text.now self.old.label_close → EndsWithin text.now self.new.label_close) }
     {
@@ -247,28 +216,18 @@ impl<'a> InlineState<'a> {
         close: usize,
         target: Target<'a>,
     ) -> Result<(), AllocError>
-        requires stands { Stands text.now close self.old }
+        requires at { StandsSound text.now close self.old }
         requires close { IsPart text.now close (close + 1) }
         requires target { IsTarget text.now close target }
         requires free { bracket.is_image ≡ false → HoldNoLink self.old.slots.items bracket.slot }
-        requires sound { IsSound self.old }
         requires taken { IsTakenFrom self.old bracket }
-        ensures sound { OnOk result (IsSound self.new) }
+        ensures forms { OnOk result
+            (FormsElement (shown_options options) bracket target.entry self.old self.new) }
+        ensures limits { KeepsLimits self.old self.new }
+        ensures at { OnOk result (StandsSound text.now target.entry.resume self.new) }
         ensures ends { OnOk result
             ((leaf : LeafTexts) → AreEnded leaf self.old.slots.items
             → AreEnded leaf self.new.slots.items) }
-        ensures expansion_left { self.new.expansion_left ≡ self.old.expansion_left }
-        ensures steps { self.new.steps ≡ self.old.steps }
-        ensures stands { OnOk result (Stands text.now target.entry.resume self.new) }
-        ensures kept { OnOk result
-            (self.new.links.items ≡ self.old.links.items ++ (target.entry.link ∷ [])) }
-        ensures link { OnOk result
-            (bracket.is_image ≡ false → HoldNoLink self.new.slots.items (bracket.slot + 1)) }
-        ensures leaves { OnOk result
-            (LeavesElement bracket.is_image bracket.start self.old self.new) }
-        ensures label { self.new.label_close ≡ self.old.label_close }
-        ensures writes { OnOk result
-            (WritesElement (shown_options options) bracket target.entry self.old self.new) }
     {
         let Target { link, end, .. } = target;
         let element = linked_element(bracket.is_image, self.links.len());
@@ -301,45 +260,11 @@ impl<'a> InlineState<'a> {
         close: usize,
         end: usize,
     ) -> Result<(), AllocError>
-        requires runs { bytes_of self.old.delimiters.placed.items ≤ length self.old.slots.items }
-        requires there { bracket.slot < length self.old.slots.items }
-        requires runs_there { bracket.runs ≤ length self.old.delimiters.placed.items }
-        requires quotes_there { bracket.quotes ≤ length self.old.quotes.placed.items }
+        requires within { IsWithin bracket self.old }
         requires settles { CanSettle (bracket.slot + 1) self.old.slots.items
             (drop bracket.runs self.old.delimiters.placed.items)
             (drop bracket.quotes self.old.quotes.placed.items) }
         requires room { self.old.delimiters.examined < 2 ^ 127 }
-        ensures examined { OnOk result
-            (self.new.delimiters.examined + 15 * length
-            self.new.delimiters.placed.items ≤ self.old.delimiters.examined + 15 * length
-            self.old.delimiters.placed.items) }
-        ensures least { OnOk result
-            (self.old.delimiters.examined + least_examined
-            (runs_of (siblings_from 0 (drop bracket.runs self.old.delimiters.placed.items)))
-            ≤ self.new.delimiters.examined) }
-        ensures table { self.new.links ≡ self.old.links }
-        ensures texts { self.new.texts ≡ self.old.texts }
-        ensures settled { OnOk result
-            (IsSettled (bracket.slot + 1) self.old.slots.items self.new.slots.items) }
-        ensures placed { OnOk result
-            (self.new.delimiters.placed.items
-            ≡ take bracket.runs self.old.delimiters.placed.items) }
-        ensures quotes { OnOk result
-            (self.new.quotes.placed.items ≡ take bracket.quotes self.old.quotes.placed.items) }
-        ensures expansion_left { self.new.expansion_left ≡ self.old.expansion_left }
-        ensures steps { self.new.steps ≡ self.old.steps }
-        ensures label { self.new.label_close ≡ self.old.label_close }
-        ensures brackets { self.new.brackets ≡ self.old.brackets }
-        ensures doubled { self.new.doubled ≡ self.old.doubled }
-        ensures slots { OnOk result
-            ((text : List ℕ) (place : ℕ) → AreSlots text place self.old.slots.items
-            → IsEnd text place close end → AreSlots text place self.new.slots.items) }
-        ensures length { OnOk result
-            (length self.new.slots.items ≡ length self.old.slots.items + 1) }
-        ensures links { OnOk result (NoNewLink self.old.slots.items self.new.slots.items) }
-        ensures runs { OnOk result
-            (bytes_of self.new.delimiters.placed.items ≤ bytes_of
-            self.old.delimiters.placed.items) }
         ensures dressed { OnOk result
             ((leaf : LeafTexts) (texts : List Texts) (links : List Links) (pairs : List Pair)
             (spans : Spans)
@@ -349,6 +274,15 @@ impl<'a> InlineState<'a> {
             ≡ dressed_after (shown_options options) bracket pairs self.old.delimiters.placed.items
             self.old.quotes.placed.items
             (shown_slots leaf texts links (self.old.slots.items ++ (end_slot close end ∷ [])))) }
+        ensures settled { OnOk result
+            (IsSettled (bracket.slot + 1) self.old.slots.items self.new.slots.items) }
+        ensures others { self.new
+            ≡ record self.old
+            { slots = self.new.slots; delimiters = self.new.delimiters; quotes = self.new.quotes } }
+        ensures examines { OnOk result (ExaminesAfter bracket self.old self.new) }
+        ensures drops { OnOk result (DropsAfterBracket bracket self.old self.new) }
+        ensures ends { OnOk result
+            (EndsElement close end self.old.slots.items self.new.slots.items) }
     {
         push_slot(&mut self.slots, SlotKind::End, close, end)?;
         self.quotes.resolve(bracket.quotes, &mut self.slots)?;

@@ -10,15 +10,14 @@ ghost use Rattle.cmark_grammar.specs.Tokens.{slice};
 ghost use Rattle.cmark_references.specs.Footnotes.{Counts, Keeps};
 ghost use Rattle.cmark_leaf_text.specs.Reads.{IsPart, is_cell_of};
 ghost use Rattle.cmark_values.specs.Shown.{shown_options, text_bytes};
+ghost use Rattle.cmark_inline.specs.AtCloser.{DecidesFootnote, FormsReference, GoesOn, IsOpening, KeepsLimits, StandsSound, UsesUpTo};
 ghost use Rattle.cmark_inline.specs.Closers.{LeavesFootnote};
-ghost use Rattle.cmark_inline.specs.Footnoted.{CountsOf, KeepsLabel, PutsReference, SameFootnotes, fits_footnote, footnote_after, footnote_label, footnote_of, forms_footnote, is_accepted, is_footnote_label, reference_as, reference_slot, reference_start, unless_footnote, with_mark};
+ghost use Rattle.cmark_inline.specs.Footnoted.{CountsOf, PutsReference, SameFootnotes, fits_footnote, footnote_after, footnote_label, footnote_of, forms_footnote, is_accepted, is_footnote_label, reference_as, reference_slot, reference_start, unless_footnote, with_mark};
 ghost use Rattle.cmark_inline.specs.Hiding.{WritesReference};
 ghost use Rattle.cmark_inline.specs.Uses.{RiseUpTo};
 ghost use Rattle.cmark_slots.specs.Standing.{AreEnded};
-ghost use Rattle.cmark_inline.specs.Sound.{IsSound, IsTakenFrom};
 ghost use Rattle.cmark_leaf_text.specs.declared.leaf_text.LeafText.{LeafText as LeafTexts};
 ghost use Rattle.cmark_slots.specs.Slots.{AreSlots, IsBracket, IsSlot, NoNewLink, begins_link};
-ghost use Rattle.cmark_inline.specs.Stands.{Moves, Stands};
 
 use crate::reference::label_text;
 use crate::state::InlineState;
@@ -226,53 +225,24 @@ impl<'a> InlineState<'a> {
         taken: Option<Bracket>,
         close: usize,
     ) -> Result<Option<Cursor>, AllocError>
-        requires stands { Stands text.now close self.old }
-        requires bracket { IfSome taken (IsBracket text.now close) }
+        requires at { StandsSound text.now close self.old }
+        requires opening { IfSome taken (IsOpening text.now close self.old) }
         requires close { IsPart text.now close (close + 1) }
-        requires sound { IsSound self.old }
-        requires taken { IfSome taken (IsTakenFrom self.old) }
-        ensures sound { OnOk result (IsSound self.new) }
-        ensures ends { OnOk result
-            ((leaf : LeafTexts) → AreEnded leaf self.old.slots.items
-            → AreEnded leaf self.new.slots.items) }
-        ensures forms { IfOk result
-            (λ next. is_some next
-            ≡ forms_footnote (shown_options options) footnotes.old
+        ensures decides { IfOk result
+            (DecidesFootnote (shown_options options)
             (footnote_of (shown_options options) (is_cell_of leaf.now)
-            (is_there close self.old.label_close) text.now close taken)) }
-        ensures next { IfOk result
-            (λ next. IfSome next (λ next. (next.pending ≡ close + 1) × (next.at ≡ close + 1))) }
-        ensures moves { IfOk result (λ next. IfSome next (Moves text.now close self.new)) }
-        ensures others { IfOk result (λ next. next ≡ None → self.new ≡ self.old) }
+            (is_there close self.old.label_close) text.now close taken) footnotes.old footnotes.new
+            self.old self.new) }
+        ensures forms { IfOk result
+            (λ next. IfSome next
+            (FormsReference taken
+            (footnote_of (shown_options options) (is_cell_of leaf.now)
+            (is_there close self.old.label_close) text.now close taken) close self.old self.new)) }
+        ensures limits { KeepsLimits self.old self.new }
+        ensures goes_on { IfOk result (GoesOn text.now close self.old self.new) }
         ensures off { (shown_options options).footnotes ≡ false
             → (self.new ≡ self.old) × (footnotes.new ≡ footnotes.old) }
-        ensures counts { OnOk result
-            (CountsOf
-            (footnote_of (shown_options options) (is_cell_of leaf.now)
-            (is_there close self.old.label_close) text.now close taken) footnotes.old
-            footnotes.new) }
-        ensures same { SameFootnotes footnotes.old footnotes.new }
-        ensures rise { RiseUpTo 1 footnotes.old footnotes.new }
-        ensures leaves { IfOk result
-            (λ next. IfSome next
-            (λ next. IfSome taken (λ bracket. LeavesFootnote bracket.start self.old self.new))) }
-        ensures label_close { self.new.label_close ≡ self.old.label_close }
-        ensures expansion_left { self.new.expansion_left ≡ self.old.expansion_left }
-        ensures steps { self.new.steps ≡ self.old.steps }
-        ensures label { IfOk result
-            (λ next. IfSome next
-            (λ next. IfSome
-            (footnote_of (shown_options options) (is_cell_of leaf.now)
-            (is_there close self.old.label_close) text.now close taken)
-            (λ label. KeepsLabel label self.old.texts.items self.new.texts.items))) }
-        ensures writes { IfOk result
-            (λ next. IfSome next
-            (λ next. IfSome taken
-            (λ bracket. IfSome
-            (footnote_of (shown_options options) (is_cell_of leaf.now)
-            (is_there close self.old.label_close) text.now close taken)
-            (λ label. WritesReference bracket (normal_form label) (close + 1) self.old
-            self.new)))) }
+        ensures uses { UsesUpTo 1 footnotes.old footnotes.new }
     {
         let Some(bracket) = taken else {
             return Ok(None);
@@ -317,27 +287,22 @@ impl<'a> InlineState<'a> {
         close: usize,
         name: CowStr<'a>,
     ) -> Result<(), AllocError>
-        requires stands { Stands text.now close self.old }
-        requires bracket { IsBracket text.now close bracket }
+        requires at { StandsSound text.now close self.old }
+        requires opening { IsOpening text.now close self.old bracket }
         requires close { IsPart text.now close (close + 1) }
-        requires sound { IsSound self.old }
-        requires taken { IsTakenFrom self.old bracket }
-        ensures sound { OnOk result (IsSound self.new) }
-        ensures ends { OnOk result
-            ((leaf : LeafTexts) → AreEnded leaf self.old.slots.items
-            → AreEnded leaf self.new.slots.items) }
-        ensures expansion_left { self.new.expansion_left ≡ self.old.expansion_left }
-        ensures steps { self.new.steps ≡ self.old.steps }
-        ensures leaves { OnOk result (LeavesFootnote bracket.start self.old self.new) }
-        ensures label_close { self.new.label_close ≡ self.old.label_close }
-        ensures stands { OnOk result (Stands text.now (close + 1) self.new) }
-        ensures texts { OnOk result
-            (self.new.texts.items ≡ self.old.texts.items ++ (name.entry ∷ [])) }
+        ensures writes { OnOk result
+            (WritesReference bracket (text_bytes name.entry) (close + 1) self.old self.new) }
         ensures slots { OnOk result
             (PutsReference bracket (reference_as bracket (length self.old.texts.items) (close + 1))
             self.old.slots.items self.new.slots.items) }
-        ensures writes { OnOk result
-            (WritesReference bracket (text_bytes name.entry) (close + 1) self.old self.new) }
+        ensures leaves { OnOk result (LeavesFootnote bracket.start self.old self.new) }
+        ensures limits { KeepsLimits self.old self.new }
+        ensures at { OnOk result (StandsSound text.now (close + 1) self.new) }
+        ensures ends { OnOk result
+            ((leaf : LeafTexts) → AreEnded leaf self.old.slots.items
+            → AreEnded leaf self.new.slots.items) }
+        ensures texts { OnOk result
+            (self.new.texts.items ≡ self.old.texts.items ++ (name.entry ∷ [])) }
     {
         let kind = SlotKind::FootnoteReference(self.texts.len());
         self.texts.push(name)?;

@@ -1,12 +1,12 @@
 //! Formulas between dollar signs (this profile's own).
 
-ghost use Rattle.std.specs.Prelude.{◌≡◌, ◌<◌, ◌≤◌, true, false, if◌then◌else◌, Bool, length, slice_index, is_some, IfOk, OnOk};
+ghost use Rattle.std.specs.Prelude.{◌≡◌, ◌<◌, ◌≤◌, true, false, if◌then◌else◌, Bool, slice_index, is_some, IfOk, OnOk};
 ghost use Rattle.cmark_grammar.specs.Answers.{Lookup};
 ghost use Rattle.cmark_grammar.specs.Options.{Options};
 ghost use Rattle.cmark_span_scan.specs.Dollars.{AreDollarsOf, formula_at};
 ghost use Rattle.cmark_inline.specs.Paid.{DollarsPaid};
 ghost use Rattle.cmark_inline.specs.ReadsOn.{ReadsOn};
-ghost use Rattle.cmark_inline.specs.Stands.{IsCursor, Stands};
+ghost use Rattle.cmark_inline.specs.Stands.{IsAtByte};
 ghost use Rattle.cmark_slots.specs.Slots.{begins_link};
 ghost use Rattle.cmark_inline.specs.Tokens.{Appends};
 ghost use Rattle.cmark_slots.specs.declared.slot.SlotKind.TheVariants as slot_kind;
@@ -28,10 +28,10 @@ impl<'a> InlineState<'a> {
     ) -> Result<Cursor, AllocError>
         requires dollars { AreDollarsOf text.now dollars.old }
         requires paid { DollarsPaid text.now here.at dollars.old }
-        requires stands { Stands text.now here.pending self.old }
-        requires cursor { IsCursor text.now here }
-        requires here { here.at < length text.now }
+        requires byte { IsAtByte text.now here self.old }
         requires dollar { slice_index text.now here.at ≡ 36 }
+        ensures token { (options : Options) (lookup : Lookup) (is_cell : Bool) → options.math ≡ true
+            → IfOk result (Appends options lookup is_cell text.now here self.old self.new) }
         ensures dollars { AreDollarsOf text.now dollars.new }
         ensures paid { IfOk result (λ next. DollarsPaid text.now next.at dollars.new) }
         ensures grows { dollars.old.visited ≤ dollars.new.visited }
@@ -39,8 +39,6 @@ impl<'a> InlineState<'a> {
             (is_some (formula_at text.now here.at) ≡ true
             → dollars.old.visited < dollars.new.visited) }
         ensures reads_on { ReadsOn text.now here self.old self.new result }
-        ensures token { (options : Options) (lookup : Lookup) (is_cell : Bool) → options.math ≡ true
-            → IfOk result (Appends options lookup is_cell text.now here self.old self.new) }
     {
         if let Some(formula) = dollars.formula(text, here.at)? {
             let slot = Slot {

@@ -4,11 +4,12 @@ ghost use Rattle.std.specs.Prelude.{◌≡◌, ◌<◌, ◌≤◌, ◌+◌, ◌^
 ghost use Rattle.std.specs.Str.{IsCharBoundary};
 ghost use Rattle.cmark_grammar.specs.InlineHtml.{after_inline_html, after_markup};
 ghost use Rattle.cmark_scan_bytes.specs.Guards.{may_pass};
-ghost use Rattle.cmark_leaf_text.specs.Reads.{IsRead, IsPart, source_of, text_of};
+ghost use Rattle.cmark_leaf_text.specs.Reads.{IsPart, text_of};
 ghost use Rattle.cmark_inline.specs.MarkupInSource.{AreUnclosed, FindsNone, IsFound, IsInSource, source_from};
 ghost use Rattle.cmark_inline.specs.Counted.{extent_of};
-ghost use Rattle.cmark_inline.specs.LeastSteps.{PassesFound};
 ghost use Rattle.cmark_inline.specs.Paid.{MarkupPaid};
+ghost use Rattle.cmark_inline.specs.Sought.{CanBeSlot, IsMarkupSought, IsSizeIn, SearchesMarkup};
+ghost use Rattle.cmark_inline.specs.TextOf.{IsTextOf};
 ghost use Rattle.cmark_slots.specs.Slots.{IsContent, begins_link};
 ghost use Rattle.cmark_inline.specs.Tokens.{opens_markup};
 ghost use Rattle.cmark_slots.specs.declared.slot.SlotKind.TheVariants as slot_kind;
@@ -55,25 +56,16 @@ impl Unclosed {
     /// the source, up to the end of the leaf's last line, and includes the prefixes of later lines. A search that found no end is not
     /// repeated.
     pub fn inline_html(&mut self, leaf: &LeafText<'_>, text: &str, at: usize) -> Option<FoundHtml>
-        requires read { IsRead leaf.now }
-        requires same { text.now ≡ text_of leaf.now }
+        requires text { IsTextOf leaf.now text.now }
         requires part { IsPart text.now at (at + 1) }
-        requires kept { AreUnclosed leaf.now at self.old }
-        requires paid { MarkupPaid leaf.now at self.old }
-        ensures part { IfSome result (λ found. IsPart text.now at found.end) }
-        ensures content { IfSome result (λ found. IsContent text.now found.kind) }
-        ensures kind { IfSome result (λ found. begins_link found.kind ≡ false) }
-        ensures edge { IfSome result
-            (λ found. (end : ℕ) → found.kind ≡ slot_kind.SourceHtml end
-            → IsCharBoundary (source_of leaf.now) end) }
+        requires sought { IsMarkupSought leaf.now at self.old }
         ensures is { IfSome result (IsFound leaf.now at) }
         ensures none { result ≡ None → FindsNone leaf.now at }
+        ensures fits { IfSome result (CanBeSlot leaf.now text.now at) }
         ensures kept { AreUnclosed leaf.now at self.new }
         ensures paid { MatchOption result (MarkupPaid leaf.now (at + 1) self.new)
             (λ found. MarkupPaid leaf.now found.end self.new) }
-        ensures grows { self.old.passed ≤ self.new.passed }
-        ensures passes { opens_markup (drop (at + 1) text.now) ≡ true
-            → PassesFound (source_from leaf.now at) self.old self.new }
+        ensures searches { SearchesMarkup leaf.now text.now at self.old self.new }
     {
         if !opens_in_source(text, at) {
             return tag(text, at);
@@ -83,25 +75,17 @@ impl Unclosed {
 
     // The markup whose `<` is at `at`, as the source reads from there on; `None` if there is none.
     fn in_source(&mut self, leaf: &LeafText<'_>, text: &str, at: usize) -> Option<FoundHtml>
-        requires read { IsRead leaf.now }
-        requires same { text.now ≡ text_of leaf.now }
+        requires text { IsTextOf leaf.now text.now }
         requires part { IsPart text.now at (at + 1) }
         requires opens { opens_markup (drop (at + 1) text.now) ≡ true }
-        requires kept { AreUnclosed leaf.now at self.old }
-        requires paid { MarkupPaid leaf.now at self.old }
-        ensures part { IfSome result (λ found. IsPart text.now at found.end) }
-        ensures content { IfSome result (λ found. IsContent text.now found.kind) }
-        ensures kind { IfSome result (λ found. begins_link found.kind ≡ false) }
-        ensures edge { IfSome result
-            (λ found. (end : ℕ) → found.kind ≡ slot_kind.SourceHtml end
-            → IsCharBoundary (source_of leaf.now) end) }
+        requires sought { IsMarkupSought leaf.now at self.old }
         ensures is { IfSome result (IsInSource leaf.now at) }
         ensures none { result ≡ None → after_markup (source_from leaf.now at) ≡ None }
+        ensures fits { IfSome result (CanBeSlot leaf.now text.now at) }
         ensures kept { AreUnclosed leaf.now at self.new }
         ensures paid { MatchOption result (MarkupPaid leaf.now (at + 1) self.new)
             (λ found. MarkupPaid leaf.now found.end self.new) }
-        ensures grows { self.old.passed ≤ self.new.passed }
-        ensures passes { PassesFound (source_from leaf.now at) self.old self.new }
+        ensures searches { SearchesMarkup leaf.now text.now at self.old self.new }
     {
         let size = self.size_in_source(leaf, text, at)?;
         let source_end = leaf.place(at) + size;
@@ -114,16 +98,13 @@ impl Unclosed {
 
     // The number of bytes of the source in the markup whose `<` is at `at`; `None` if there is none.
     fn size_in_source(&mut self, leaf: &LeafText<'_>, text: &str, at: usize) -> Option<usize>
-        requires read { IsRead leaf.now }
-        requires same { text.now ≡ text_of leaf.now }
+        requires text { IsTextOf leaf.now text.now }
         requires part { IsPart text.now at (at + 1) }
         requires kept { AreUnclosed leaf.now at self.old }
         requires room { self.old.passed < 2 ^ 127 }
         ensures value { option_map (λ size. drop size (source_from leaf.now at)) result
             ≡ after_markup (source_from leaf.now at) }
-        ensures some { IfSome result (λ size. 0 < size) }
-        ensures within { IfSome result (λ size. size ≤ length (source_from leaf.now at)) }
-        ensures ends { IfSome result (IsCharBoundary (source_from leaf.now at)) }
+        ensures size { IfSome result (IsSizeIn (source_from leaf.now at)) }
         ensures kept { AreUnclosed leaf.now at self.new }
         ensures pays { MatchOption result
             (self.new.passed + may_pass (extent_of leaf.now) (extent_of leaf.now)

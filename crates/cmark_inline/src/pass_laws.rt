@@ -29,7 +29,7 @@ ghost use Rattle.cmark_slots.specs.QuoteSlots.{characters_of};
 ghost use Rattle.cmark_inline.specs.Reached.{HasRead, bracket_place};
 ghost use Rattle.cmark_slots.specs.SlotViews.{all_events, shown_slot, shown_slots};
 ghost use Rattle.cmark_slots.specs.declared.bracket.Bracket.{Bracket};
-ghost use Rattle.cmark_slots.specs.declared.delimiter.PlacedRun.{PlacedRun};
+ghost use Rattle.cmark_emphasis.specs.declared.run.PlacedRun.{PlacedRun};
 ghost use Rattle.cmark_slots.specs.declared.quote.PlacedQuote.{PlacedQuote};
 ghost use Rattle.cmark_slots.specs.declared.slot.Slot.{Slot};
 ghost use Rattle.cmark_inline.specs.declared.state.InlineState.{InlineState};

@@ -11,6 +11,7 @@ ghost use Rattle.cmark_inline.specs.Asking.{AsksOnce};
 ghost use Rattle.cmark_inline.specs.Decided.{is_full};
 ghost use Rattle.cmark_inline.specs.Footnoted.{as_label};
 ghost use Rattle.cmark_inline.specs.Stands.{IsLinkReference};
+ghost use Rattle.cmark_inline.specs.TextOf.{IsTextOf};
 ghost use Rattle.cmark_slots.specs.Slots.{IsBracket};
 ghost use Rattle.cmark_grammar.specs.Tokens.{slice};
 
@@ -173,11 +174,8 @@ impl<'a> InlineState<'a> {
         link_reference: LinkReference<'_>,
     ) -> Result<Option<Target<'a>>, AllocError>
         requires part { IsPart text.now start link_reference.end }
-        requires read { IsRead leaf.now }
-        requires same { text.now ≡ text_of leaf.now }
+        requires text { IsTextOf leaf.now text.now }
         requires ready { F.ready callback.old }
-        ensures ready { F.ready callback.new }
-        ensures asks { AsksOnce F.answers callback.old callback.new }
         ensures refers { IfOk result
             (λ found. Refers F.answers
             (definition reader.now.references.now
@@ -194,6 +192,8 @@ impl<'a> InlineState<'a> {
             (normal_form (as_label (is_cell_of leaf.now) link_reference.entry.label.now))
             (place_of leaf.now start) (place_of leaf.now (link_reference.entry.end - 1) + 1)
             callback.old callback.new) }
+        ensures ready { F.ready callback.new }
+        ensures asks { AsksOnce F.answers callback.old callback.new }
         ensures expansion_left { IfOk result
             (λ found. self.new.expansion_left ≡ left_after self.old.expansion_left found) }
         ensures others { self.new ≡ record self.old { expansion_left = self.new.expansion_left } }

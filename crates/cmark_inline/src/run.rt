@@ -76,17 +76,13 @@ impl<'a> InlineState<'a> {
         requires stands { Stands text.now start self.old }
         requires part { IsPart text.now start end }
         requires ascii { (k : ℕ) → start ≤ k → k < end → slice_index text.now k < 128 }
-        ensures expansion_left { self.new.expansion_left ≡ self.old.expansion_left }
-        ensures steps { self.new.steps ≡ self.old.steps }
+        ensures bytes { OnOk result
+            (self.new.slots.items ≡ self.old.slots.items ++ byte_slots start (end - start)) }
+        ensures others { self.new ≡ record self.old { slots = self.new.slots } }
         ensures slots { OnOk result (AreSlots text.now end self.new.slots.items) }
-        ensures brackets { OnOk result (self.new.brackets ≡ self.old.brackets) }
-        ensures delimiters { OnOk result (self.new.delimiters ≡ self.old.delimiters) }
         ensures links { OnOk result (NoNewLink self.old.slots.items self.new.slots.items) }
         ensures length { OnOk result
             (length self.new.slots.items ≡ length self.old.slots.items + (end - start)) }
-        ensures others { OnOk result (self.new ≡ record self.old { slots = self.new.slots }) }
-        ensures bytes { OnOk result
-            (self.new.slots.items ≡ self.old.slots.items ++ byte_slots start (end - start)) }
     {
         let mut at = start;
         while at < end {

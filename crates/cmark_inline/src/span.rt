@@ -7,7 +7,7 @@ ghost use Rattle.cmark_grammar.specs.Options.{Options as OptionsRead};
 ghost use Rattle.cmark_grammar.specs.Siblings.{address_type};
 ghost use Rattle.cmark_values.specs.Shown.{shown_link_type, shown_options};
 ghost use Rattle.cmark_span_scan.specs.Backticks.{AreRunsOf};
-ghost use Rattle.cmark_leaf_text.specs.Reads.{IsRead, IsPart, text_of};
+ghost use Rattle.cmark_leaf_text.specs.Reads.{IsPart};
 ghost use Rattle.cmark_inline.specs.Linked.{IsAutolink};
 ghost use Rattle.cmark_references.specs.declared.link.Link.{Link as Links};
 ghost use Rattle.cmark_inline.specs.ReadsOn.{ReadsOn};
@@ -16,8 +16,9 @@ ghost use Rattle.cmark_inline.specs.Tokens.{Appends, PutsAutolink, TakesEscaped}
 ghost use Rattle.cmark_inline.specs.LeastSteps.{PassesAt};
 ghost use Rattle.cmark_inline.specs.MarkupInSource.{AreUnclosed, ReadsLess};
 ghost use Rattle.cmark_inline.specs.Paid.{MarkupPaid, RunsPaid};
-ghost use Rattle.cmark_slots.specs.Standing.{AreEnded};
-ghost use Rattle.cmark_inline.specs.Sound.{IsSound};
+ghost use Rattle.cmark_inline.specs.ReadsLeafOn.{ReadsLeafOn};
+ghost use Rattle.cmark_inline.specs.Sought.{IsMarkupSought};
+ghost use Rattle.cmark_inline.specs.TextOf.{IsTextOf};
 
 use crate::markup::Unclosed;
 use crate::place::{autolink_end, following, is_followed_by, pass, run_end, text_start};
@@ -96,24 +97,17 @@ impl<'a> InlineState<'a> {
         here: Cursor,
     ) -> Result<Cursor, AllocError>
         requires byte { IsAtByte text.now here self.old }
-        requires read { IsRead leaf.now }
-        requires same { text.now ≡ text_of leaf.now }
-        requires kept { AreUnclosed leaf.now here.at unclosed.old }
-        requires paid { MarkupPaid leaf.now here.at unclosed.old }
-        ensures expansion_left { self.new.expansion_left ≡ self.old.expansion_left }
-        ensures steps { self.new.steps ≡ self.old.steps }
-        ensures sound { IsSound self.old → OnOk result (IsSound self.new) }
-        ensures ends { OnOk result
-            (AreEnded leaf.now self.old.slots.items → AreEnded leaf.now self.new.slots.items) }
-        ensures moves { IfOk result (Moves text.now here.at self.new) }
+        requires text { IsTextOf leaf.now text.now }
+        requires sought { IsMarkupSought leaf.now here.at unclosed.old }
+        ensures token { (lookup : Lookup) → slice_index text.now here.at ≡ 60
+            → IfOk result
+            (ReadsLess (shown_options options) lookup leaf.now here self.old self.new) }
+        ensures reads_on { ReadsLeafOn leaf.now text.now here self.old self.new result }
         ensures kept { AreUnclosed leaf.now here.at unclosed.new }
         ensures paid { IfOk result (λ next. MarkupPaid leaf.now next.at unclosed.new) }
         ensures passes { OnOk result
             (PassesAt (shown_options options).email_autolinks leaf.now here.at unclosed.old
             unclosed.new) }
-        ensures token { (lookup : Lookup) → slice_index text.now here.at ≡ 60
-            → IfOk result
-            (ReadsLess (shown_options options) lookup leaf.now here self.old self.new) }
     {
         if is_followed_by(text, here.at, b'\\') {
             return Ok(pass(text, here));
@@ -149,19 +143,16 @@ impl<'a> InlineState<'a> {
         requires cursor { IsCursor text.now here }
         requires whole { IsPart text.now here.at end }
         requires inside { IsPart text.now (here.at + 1) (end - 1) }
-        requires read { IsRead leaf.now }
-        requires same { text.now ≡ text_of leaf.now }
-        ensures at { IfOk result (λ next. (next.pending ≡ end) × (next.at ≡ end)) }
+        requires text { IsTextOf leaf.now text.now }
         ensures slots { OnOk result
             (PutsAutolink (length self.old.links.items) here.pending here.at end
             self.old.slots.items self.new.slots.items) }
-        ensures others { OnOk result
-            (self.new ≡ record self.old { slots = self.new.slots; links = self.new.links }) }
         ensures link { IfOk result
             (λ next. (parts : Links) × IsAutolink text.now here.at end parts
             × (self.new.links.items ≡ self.old.links.items ++ (parts ∷ []))) }
-        ensures expansion_left { self.new.expansion_left ≡ self.old.expansion_left }
-        ensures steps { self.new.steps ≡ self.old.steps }
+        ensures at { IfOk result (λ next. (next.pending ≡ end) × (next.at ≡ end)) }
+        ensures others { self.new
+            ≡ record self.old { slots = self.new.slots; links = self.new.links } }
         ensures moves { IfOk result (Moves text.now here.at self.new) }
     {
         let dest_url = text_between(self.alloc, leaf, here.at + 1, end - 1)?;

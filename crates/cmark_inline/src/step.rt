@@ -1,32 +1,25 @@
 //! One pass over a leaf's text, from special byte to special byte.
 
-ghost use Rattle.std.specs.Prelude.{◌≡◌, ◌==◌, true, false, ◌<◌, ◌≤◌, ◌+◌, ◌*◌, ◌++◌, ◌∷◌, ℕ, [], drop, length, take, slice_index, Err, IfOk, IsOk, OnErr, OnOk, alloc_error};
+ghost use Rattle.std.specs.Prelude.{◌≡◌, ◌==◌, true, false, ◌<◌, ◌≤◌, ◌+◌, ◌*◌, ◌++◌, ◌∷◌, [], length, take, slice_index, Err, IfOk, IsOk, OnErr, OnOk};
 ghost use Rattle.std.specs.Str.{IsCharBoundary};
-ghost use Rattle.cmark_span_scan.specs.Backticks.{AreRunsOf};
-ghost use Rattle.cmark_span_scan.specs.Dollars.{AreDollarsOf};
 ghost use Rattle.cmark_leaf_text.specs.Reads.{IsRead, source_of, text_of};
-ghost use Rattle.cmark_inline.specs.Asking.{AsksBetween, AsksUpTo, closing_brackets};
+ghost use Rattle.cmark_inline.specs.LeafPass.{CanReadOn, Fails, FindsToken, IsLaidOut, PassesTo, ReadsWholly, StaysBetween, StaysWithin};
+ghost use Rattle.cmark_inline.specs.ReadsLeafOn.{ReadsLeafOn};
+ghost use Rattle.cmark_inline.specs.Sought.{AreOfText, IsSoughtIn};
+ghost use Rattle.cmark_inline.specs.TextOf.{IsTextOf};
 ghost use Rattle.cmark_inline.specs.Counted.{Counts, total};
 ghost use Rattle.cmark_inline.specs.CursorProgress.{ComesOn, StopsOn};
 ghost use Rattle.cmark_inline.specs.PlainStretches.{IsSetOf};
-ghost use Rattle.cmark_inline.specs.Resolved.{Resolves, Stops};
-ghost use Rattle.cmark_inline.specs.Stands.{IsAtByte, IsCursor, Moves, Stands};
-ghost use Rattle.cmark_slots.specs.Slots.{AreSlots, IsSlot, PushesText, begins_link};
-ghost use Rattle.cmark_inline.specs.Footnoted.{SameFootnotes};
-ghost use Rattle.cmark_inline.specs.LeastSteps.{CountsLeast, CountsUses, PassesAt, VisitsAt};
+ghost use Rattle.cmark_inline.specs.Resolved.{Stops};
+ghost use Rattle.cmark_inline.specs.Stands.{ComesNext, IsAtByte, IsPendingUpTo, Moves, Stands};
+ghost use Rattle.cmark_slots.specs.Slots.{IsSlot, PushesText, begins_link};
+ghost use Rattle.cmark_inline.specs.LeastSteps.{PassesAt, VisitsAt};
 ghost use Rattle.cmark_inline.specs.MarkupInSource.{AreUnclosed};
 ghost use Rattle.cmark_inline.specs.Paid.{ArePaid, HasRoom};
-ghost use Rattle.cmark_slots.specs.MarkedSlots.{AreWhole, EndWithin};
-ghost use Rattle.cmark_slots.specs.Standing.{AreEnded};
-ghost use Rattle.cmark_inline.specs.Sound.{IsSound};
-ghost use Rattle.cmark_slots.specs.SlotViews.{CanBeGiven};
 ghost use Rattle.cmark_inline.specs.SpecialReads.{ReadsSpecial};
 ghost use Rattle.cmark_inline.specs.Tokens.{Puts, read_on};
-ghost use Rattle.cmark_inline.specs.Uses.{RiseBetween, RiseUpTo};
 ghost use Rattle.cmark_inline_model.specs.SpecialBytes.{is_special};
-ghost use Rattle.cmark_search.specs.Sets.{in_rows};
 ghost use Rattle.cmark_values.specs.Shown.{shown_options};
-ghost use Rattle.std.specs.List.{position_or_len};
 
 use crate::callback::BrokenLinkCallback;
 use crate::markup::Unclosed;
@@ -75,41 +68,17 @@ impl<'a> InlineState<'a> {
         requires read { IsRead leaf.now }
         requires counted { total self.old.steps ≤ 128 * length (source_of leaf.now) }
         requires ready { F.ready callback.old }
-        ensures ready { F.ready callback.new }
-        ensures asks { AsksUpTo F.answers (closing_brackets (text_of leaf.now)) callback.old
-            callback.new }
-        ensures spent { self.old.expansion_left ≡ 0 → callback.new ≡ callback.old }
-        ensures few { OnOk result (length self.new.slots.items ≤ length (text_of leaf.now)) }
-        ensures slots { OnOk result
-            (AreSlots (text_of leaf.now) (length (text_of leaf.now)) self.new.slots.items) }
-        ensures left { OnOk result
-            (CanBeGiven leaf.now self.new.texts.items self.new.links.items self.new.slots.items) }
-        ensures whole { OnOk result
-            (AreWhole self.new.slots.items × EndWithin self.new.slots.items) }
-        ensures footnotes { SameFootnotes footnotes.old footnotes.new }
-        ensures rise { RiseUpTo (closing_brackets (text_of leaf.now)) footnotes.old footnotes.new }
-        ensures uses { IsSetOf (shown_options reader.now.options) reader.now.special.now
-            → OnOk result
-            (CountsUses F.answers (shown_options reader.now.options)
-            (E.replacement reader.now.entities.now) reader.now.references.now leaf.now
-            self.old.expansion_left footnotes.old footnotes.new callback.old callback.new) }
-        ensures succeeds { self.old.failed ≡ false → text_of leaf.now ≡ [] → IsOk result }
-        ensures counts { Counts leaf.now self.old.steps self.new.steps }
-        ensures least { IsSetOf (shown_options reader.now.options) reader.now.special.now
-            → OnOk result
-            (CountsLeast F.answers (shown_options reader.now.options)
-            (E.replacement reader.now.entities.now) reader.now.references.now footnotes.old leaf.now
-            self.old.expansion_left self.old.steps self.new.steps callback.old callback.new) }
-        ensures live { OnOk result (self.new.failed ≡ false) }
-        ensures failed { OnErr result (self.new.failed ≡ true) }
-        ensures refused { self.old.failed ≡ true
-            → (result ≡ Err alloc_error) × (self.new ≡ self.old) × (footnotes.new ≡ footnotes.old)
-            × (callback.new ≡ callback.old) }
         ensures reads { IsSetOf (shown_options reader.now.options) reader.now.special.now
             → OnOk result
-            (Resolves F.answers (shown_options reader.now.options)
-            (E.replacement reader.now.entities.now) reader.now.references.now footnotes.old leaf.now
-            self.old.expansion_left self.new callback.old callback.new) }
+            (ReadsWholly F.answers (shown_options reader.now.options)
+            (E.replacement reader.now.entities.now) reader.now.references.now footnotes.old
+            footnotes.new leaf.now self.old self.new callback.old callback.new) }
+        ensures laid_out { OnOk result (IsLaidOut leaf.now self.new) }
+        ensures within { StaysWithin F.ready F.answers leaf.now self.old.expansion_left
+            footnotes.old footnotes.new callback.old callback.new }
+        ensures counts { Counts leaf.now self.old.steps self.new.steps }
+        ensures fails { Fails result (text_of leaf.now) self.old self.new footnotes.old
+            footnotes.new callback.old callback.new }
         ensures stops { IsSetOf (shown_options reader.now.options) reader.now.special.now
             → OnErr result
             (Stops F.answers (shown_options reader.now.options)
@@ -136,37 +105,17 @@ impl<'a> InlineState<'a> {
         requires read { IsRead leaf.now }
         requires room { HasRoom self.old.steps }
         requires ready { F.ready callback.old }
-        ensures counts { OnOk result (Counts leaf.now self.old.steps self.new.steps) }
-        ensures least { IsSetOf (shown_options reader.now.options) reader.now.special.now
-            → OnOk result
-            (CountsLeast F.answers (shown_options reader.now.options)
-            (E.replacement reader.now.entities.now) reader.now.references.now footnotes.old leaf.now
-            self.old.expansion_left self.old.steps self.new.steps callback.old callback.new) }
-        ensures refused { OnErr result (self.new.steps ≡ self.old.steps) }
-        ensures ready { F.ready callback.new }
-        ensures asks { AsksUpTo F.answers (closing_brackets (text_of leaf.now)) callback.old
-            callback.new }
-        ensures spent { self.old.expansion_left ≡ 0 → callback.new ≡ callback.old }
-        ensures few { OnOk result (length self.new.slots.items ≤ length (text_of leaf.now)) }
-        ensures slots { OnOk result
-            (AreSlots (text_of leaf.now) (length (text_of leaf.now)) self.new.slots.items) }
-        ensures left { OnOk result
-            (CanBeGiven leaf.now self.new.texts.items self.new.links.items self.new.slots.items) }
-        ensures whole { OnOk result
-            (AreWhole self.new.slots.items × EndWithin self.new.slots.items) }
-        ensures footnotes { SameFootnotes footnotes.old footnotes.new }
-        ensures rise { RiseUpTo (closing_brackets (text_of leaf.now)) footnotes.old footnotes.new }
-        ensures uses { IsSetOf (shown_options reader.now.options) reader.now.special.now
-            → OnOk result
-            (CountsUses F.answers (shown_options reader.now.options)
-            (E.replacement reader.now.entities.now) reader.now.references.now leaf.now
-            self.old.expansion_left footnotes.old footnotes.new callback.old callback.new) }
-        ensures succeeds { text_of leaf.now ≡ [] → IsOk result }
         ensures reads { IsSetOf (shown_options reader.now.options) reader.now.special.now
             → OnOk result
-            (Resolves F.answers (shown_options reader.now.options)
-            (E.replacement reader.now.entities.now) reader.now.references.now footnotes.old leaf.now
-            self.old.expansion_left self.new callback.old callback.new) }
+            (ReadsWholly F.answers (shown_options reader.now.options)
+            (E.replacement reader.now.entities.now) reader.now.references.now footnotes.old
+            footnotes.new leaf.now self.old self.new callback.old callback.new) }
+        ensures laid_out { OnOk result (IsLaidOut leaf.now self.new) }
+        ensures within { StaysWithin F.ready F.answers leaf.now self.old.expansion_left
+            footnotes.old footnotes.new callback.old callback.new }
+        ensures counts { OnOk result (Counts leaf.now self.old.steps self.new.steps) }
+        ensures refused { OnErr result (self.new.steps ≡ self.old.steps) }
+        ensures succeeds { text_of leaf.now ≡ [] → IsOk result }
         ensures stops { IsSetOf (shown_options reader.now.options) reader.now.special.now
             → OnErr result
             (Stops F.answers (shown_options reader.now.options)
@@ -215,39 +164,11 @@ impl<'a> InlineState<'a> {
         ahead: &[u8],
         cursor: Cursor,
     ) -> Result<Cursor, AllocError>
-        requires runs { AreRunsOf text.now sought.old.runs }
-        requires dollars { AreDollarsOf text.now sought.old.dollars }
-        requires stands { Stands text.now cursor.pending self.old }
-        requires cursor { IsCursor text.now cursor }
-        requires more { cursor.at < length text.now }
-        requires read { IsRead leaf.now }
-        requires same { text.now ≡ text_of leaf.now }
+        requires text { IsTextOf leaf.now text.now }
         requires ahead { take (length text.now) ahead.now ≡ text.now }
-        requires kept { AreUnclosed leaf.now cursor.at sought.old.unclosed }
-        requires paid { ArePaid leaf.now cursor.at sought.old }
-        requires sound { IsSound self.old }
+        requires here { CanReadOn text.now cursor self.old }
+        requires sought { IsSoughtIn leaf.now text.now cursor.at sought.old }
         requires ready { F.ready callback.old }
-        ensures sound { OnOk result (IsSound self.new) }
-        ensures ends { OnOk result
-            (AreEnded leaf.now self.old.slots.items → AreEnded leaf.now self.new.slots.items) }
-        ensures runs { AreRunsOf text.now sought.new.runs }
-        ensures dollars { AreDollarsOf text.now sought.new.dollars }
-        ensures kept { IfOk result (λ next. AreUnclosed leaf.now next.at sought.new.unclosed) }
-        ensures paid { IfOk result (λ next. ArePaid leaf.now next.at sought.new) }
-        ensures ready { F.ready callback.new }
-        ensures asks { AsksBetween F.answers text.now cursor.at (length text.now) callback.old
-            callback.new }
-        ensures asks_here { IfOk result
-            (λ next. AsksBetween F.answers text.now cursor.at next.at callback.old callback.new) }
-        ensures spent { self.old.expansion_left ≡ 0
-            → (callback.new ≡ callback.old) × (self.new.expansion_left ≡ 0) }
-        ensures steps { self.new.steps ≡ self.old.steps }
-        ensures moves { IfOk result (Moves text.now cursor.at self.new) }
-        ensures footnotes { SameFootnotes footnotes.old footnotes.new }
-        ensures rise { RiseBetween text.now cursor.at (length text.now) footnotes.old
-            footnotes.new }
-        ensures rise_here { IfOk result
-            (λ next. RiseBetween text.now cursor.at next.at footnotes.old footnotes.new) }
         ensures come { IsSetOf (shown_options reader.now.options) reader.now.special.now
             → IfOk result
             (λ next. ComesOn F.answers (shown_options reader.now.options)
@@ -259,20 +180,14 @@ impl<'a> InlineState<'a> {
             (StopsOn F.answers (shown_options reader.now.options)
             (E.replacement reader.now.entities.now) reader.now.references.now footnotes.old leaf.now
             sought.old cursor self.old callback.old callback.new) }
-        ensures rest { cursor.at + position_or_len (in_rows reader.now.special.now)
-            (drop cursor.at text.now) ≡ length text.now
-            → IfOk result
-            (λ next. (next.pending ≡ cursor.pending) × (next.at ≡ length text.now)
-            × (self.new ≡ self.old)) }
-        ensures token { (at : ℕ)
-            → at
-            ≡ cursor.at + position_or_len (in_rows reader.now.special.now) (drop cursor.at text.now)
-            → at < length text.now
-            → is_special (shown_options reader.now.options) (slice_index text.now at) ≡ true
-            → (slice_index text.now at == 93) ≡ false
-            → IfOk result
-            (ReadsSpecial (shown_options reader.now.options) (E.replacement reader.now.entities.now)
-            leaf.now (record { pending = cursor.pending; at = at }) self.old self.new) }
+        ensures finds { IfOk result
+            (FindsToken (shown_options reader.now.options) (E.replacement reader.now.entities.now)
+            reader.now.special.now leaf.now text.now cursor self.old self.new) }
+        ensures passes { IfOk result
+            (PassesTo F.answers leaf.now text.now cursor.at footnotes.old footnotes.new sought.new
+            self.old self.new callback.old callback.new) }
+        ensures between { StaysBetween F.ready F.answers text.now cursor.at (length text.now)
+            footnotes.old footnotes.new sought.new self.old self.new callback.old callback.new }
     {
         let bytes = text.as_bytes();
         let at = reader.special.next(bytes, ahead, cursor.at);
@@ -301,32 +216,22 @@ impl<'a> InlineState<'a> {
         text: &str,
         here: Cursor,
     ) -> Result<Cursor, AllocError>
-        requires runs { AreRunsOf text.now sought.old.runs }
-        requires dollars { AreDollarsOf text.now sought.old.dollars }
         requires byte { IsAtByte text.now here self.old }
-        requires read { IsRead leaf.now }
-        requires same { text.now ≡ text_of leaf.now }
-        requires kept { AreUnclosed leaf.now here.at sought.old.unclosed }
-        requires paid { ArePaid leaf.now here.at sought.old }
-        ensures runs { AreRunsOf text.now sought.new.runs }
-        ensures dollars { AreDollarsOf text.now sought.new.dollars }
-        ensures kept { AreUnclosed leaf.now here.at sought.new.unclosed }
-        ensures paid { IfOk result (λ next. ArePaid leaf.now next.at sought.new) }
-        ensures expansion_left { self.new.expansion_left ≡ self.old.expansion_left }
-        ensures steps { self.new.steps ≡ self.old.steps }
-        ensures visits { OnOk result (VisitsAt text.now here.at sought.old sought.new) }
-        ensures passes { OnOk result
-            (PassesAt (shown_options reader.now.options).email_autolinks leaf.now here.at
-            sought.old.unclosed sought.new.unclosed) }
-        ensures sound { IsSound self.old → OnOk result (IsSound self.new) }
-        ensures ends { OnOk result
-            (AreEnded leaf.now self.old.slots.items → AreEnded leaf.now self.new.slots.items) }
-        ensures moves { IfOk result (Moves text.now here.at self.new) }
+        requires text { IsTextOf leaf.now text.now }
+        requires sought { IsSoughtIn leaf.now text.now here.at sought.old }
         ensures token { is_special (shown_options reader.now.options) (slice_index text.now here.at)
             ≡ true → (slice_index text.now here.at == 93) ≡ false
             → IfOk result
             (ReadsSpecial (shown_options reader.now.options) (E.replacement reader.now.entities.now)
             leaf.now here self.old self.new) }
+        ensures reads_on { ReadsLeafOn leaf.now text.now here self.old self.new result }
+        ensures of_text { AreOfText text.now sought.new }
+        ensures kept { AreUnclosed leaf.now here.at sought.new.unclosed }
+        ensures paid { IfOk result (λ next. ArePaid leaf.now next.at sought.new) }
+        ensures visits { OnOk result (VisitsAt text.now here.at sought.old sought.new) }
+        ensures passes { OnOk result
+            (PassesAt (shown_options reader.now.options).email_autolinks leaf.now here.at
+            sought.old.unclosed sought.new.unclosed) }
     {
         match text.as_bytes()[here.at] {
             b'\n' | b'\r' => self.line_ending(text, here),
@@ -396,21 +301,14 @@ impl<'a> InlineState<'a> {
         slot: Slot,
     ) -> Result<Cursor, AllocError>
         requires stands { Stands text.now here.pending self.old }
-        requires starts { IsCharBoundary text.now here.pending }
-        requires stops { IsCharBoundary text.now text_end }
-        requires following { here.pending ≤ text_end }
-        requires ordered { text_end < slot.end }
-        requires slot { IsSlot text.now slot.end slot }
-        requires further { here.at < slot.end }
-        requires kind { begins_link slot.kind ≡ false }
-        ensures expansion_left { self.new.expansion_left ≡ self.old.expansion_left }
-        ensures table { self.new.links ≡ self.old.links }
+        requires pending { IsPendingUpTo text.now here.pending text_end }
+        requires next { ComesNext text.now here.at text_end slot }
+        ensures slots { OnOk result
+            (Puts here.pending text_end slot self.old.slots.items self.new.slots.items) }
         ensures length { IfOk result (λ next. length self.new.slots.items ≤ text_end + 1) }
         ensures moves { IfOk result (Moves text.now here.at self.new) }
         ensures end { IfOk result (λ next. next.pending ≡ slot.end) }
         ensures at { IfOk result (λ next. next.at ≡ slot.end) }
-        ensures slots { OnOk result
-            (Puts here.pending text_end slot self.old.slots.items self.new.slots.items) }
         ensures others { self.new ≡ record self.old { slots = self.new.slots } }
     {
         self.flush(text, here, text_end)?;
@@ -431,20 +329,14 @@ impl<'a> InlineState<'a> {
         slot: Slot,
     ) -> Result<Cursor, AllocError>
         requires stands { Stands text.now here.pending self.old }
-        requires starts { IsCharBoundary text.now here.pending }
-        requires stops { IsCharBoundary text.now text_end }
-        requires following { here.pending ≤ text_end }
-        requires ordered { text_end < slot.end }
-        requires slot { IsSlot text.now slot.end slot }
-        requires further { here.at < slot.end }
-        requires kind { begins_link slot.kind ≡ false }
-        ensures expansion_left { self.new.expansion_left ≡ self.old.expansion_left }
+        requires pending { IsPendingUpTo text.now here.pending text_end }
+        requires next { ComesNext text.now here.at text_end slot }
+        ensures slots { OnOk result
+            (Puts here.pending text_end slot self.old.slots.items self.new.slots.items) }
         ensures moves { IfOk result (Moves text.now here.at self.new) }
         ensures order { IfOk result (λ next. slot.end ≤ next.at) }
         ensures at { IfOk result
             (λ next. (next.pending ≡ next.at) × (next.at ≡ read_on text.now slot.end)) }
-        ensures slots { OnOk result
-            (Puts here.pending text_end slot self.old.slots.items self.new.slots.items) }
         ensures others { self.new ≡ record self.old { slots = self.new.slots } }
     {
         let next = self.put(text, here, text_end, slot)?;

@@ -1,25 +1,22 @@
 //! Wikilinks (this profile's own).
 
-ghost use Rattle.std.specs.Prelude.{◌≡◌, ◌⊎◌, ◌≤◌, ◌<◌, ◌+◌, ◌++◌, ◌∷◌, ◌&&◌, ◌==◌, drop, if◌then◌else◌, false, is_some, ℕ, [], length, IfOk, OnOk, IfSome, None, Some};
+ghost use Rattle.std.specs.Prelude.{◌≡◌, ◌⊎◌, ◌≤◌, ◌<◌, ◌+◌, ◌&&◌, ◌==◌, drop, if◌then◌else◌, false, is_some, ℕ, length, IfOk, OnOk, IfSome, None, Some};
 ghost use Rattle.std.specs.Str.{IsCharBoundary};
 ghost use Rattle.cmark_grammar.specs.BracketDecisions.{name_in};
 ghost use Rattle.cmark_leaf_text.specs.Reads.{IsRead, IsPart, text_of};
 ghost use Rattle.cmark_values.specs.Shown.{shown_options};
 ghost use Rattle.cmark_grammar.specs.Letters.{first_is};
-ghost use Rattle.cmark_inline.specs.Closers.{LeavesWikilink, TriesDoubled};
+ghost use Rattle.cmark_inline.specs.AtCloser.{FormsPair, FormsWikilink, HidesSlots, IsInside, IsPair, KeepsLimits, StandsSound, TriesPair};
+ghost use Rattle.cmark_inline.specs.TextOf.{IsTextOf};
 ghost use Rattle.cmark_slots.specs.Doubled.{nearest};
-ghost use Rattle.cmark_slots.specs.MarkedSlots.{SameBefore};
 ghost use Rattle.cmark_slots.specs.SlotViews.{link_of};
 ghost use Rattle.cmark_slots.specs.declared.slot.Element.TheVariants as element;
-ghost use Rattle.cmark_inline.specs.Hiding.{AreLeft, WritesShown, WritesWikilink};
-ghost use Rattle.cmark_slots.specs.Standing.{AreEnded, AreNamed, CanSettle, EndsIn};
-ghost use Rattle.cmark_inline.specs.Sound.{IsPairFrom, IsSound, IsTakenFrom};
-ghost use Rattle.cmark_slots.specs.declared.bracket.Bracket.{Bracket as Opening};
+ghost use Rattle.cmark_inline.specs.Hiding.{AreLeft};
+ghost use Rattle.cmark_slots.specs.Standing.{AreEnded, EndsIn};
+ghost use Rattle.cmark_inline.specs.Sound.{IsSound};
 ghost use Rattle.cmark_leaf_text.specs.declared.leaf_text.LeafText.{LeafText as LeafTexts};
-ghost use Rattle.cmark_slots.specs.Slots.{AreSlots, HoldNoLink, IsBracket, NoNewLink};
-ghost use Rattle.cmark_inline.specs.Stands.{Moves, Stands};
+ghost use Rattle.cmark_slots.specs.Slots.{HoldNoLink, IsBracket};
 ghost use Rattle.cmark_inline.specs.Wikilinks.{IsNamed, IsWikilink, Shows, forms_wikilink, wiki_text};
-ghost use Rattle.cmark_references.specs.declared.link.Link.{Link as Links};
 
 use crate::place::is_followed_by;
 use crate::state::InlineState;
@@ -126,44 +123,25 @@ impl<'a> InlineState<'a> {
         text: &str,
         close: usize,
     ) -> Result<Option<Cursor>, AllocError>
-        requires stands { Stands text.now close self.old }
+        requires text { IsTextOf leaf.now text.now }
+        requires at { StandsSound text.now close self.old }
         requires close { IsPart text.now close (close + 1) }
-        requires read { IsRead leaf.now }
-        requires same { text.now ≡ text_of leaf.now }
-        requires sound { IsSound self.old }
-        ensures sound { OnOk result (IsSound self.new) }
-        ensures ends { OnOk result
-            (AreEnded leaf.now self.old.slots.items → AreEnded leaf.now self.new.slots.items) }
-        ensures taken { IfOk result
-            (λ next. next ≡ None → (bracket : Opening) → IsTakenFrom self.old bracket
-            → IsTakenFrom self.new bracket) }
         ensures forms { IfOk result
             (λ next. is_some next
             ≡ forms_wikilink (shown_options options) leaf.now close self.old.doubled) }
-        ensures next { IfOk result
-            (λ next. IfSome next (λ next. (next.pending ≡ close + 2) × (next.at ≡ close + 2))) }
-        ensures moves { IfOk result (λ next. IfSome next (Moves text.now close self.new)) }
-        ensures stands { IfOk result (λ next. next ≡ None → Stands text.now close self.new) }
-        ensures others { IfOk result
-            (λ next. next ≡ None → self.new ≡ record self.old { doubled = self.new.doubled }) }
-        ensures off { (shown_options options).wikilinks ≡ false → self.new ≡ self.old }
-        ensures expansion_left { self.new.expansion_left ≡ self.old.expansion_left }
-        ensures steps { self.new.steps ≡ self.old.steps }
+        ensures pair { IfOk result
+            (λ next. IfSome next
+            (FormsPair (shown_options options) leaf.now text.now close self.old self.new)) }
         ensures tries { IfOk result
             (λ next. next ≡ None
-            → TriesDoubled
+            → TriesPair
             ((shown_options options).wikilinks && first_is (λ b. b == 93)
-            (drop (close + 1) text.now)) self.old.doubled self.new.doubled) }
-        ensures leaves { IfOk result
-            (λ next. IfSome next
-            (λ next. IfSome (nearest self.old.doubled)
-            (λ tried. LeavesWikilink tried.0.start self.old self.new))) }
-        ensures label_close { self.new.label_close ≡ self.old.label_close }
-        ensures writes { IfOk result
-            (λ next. IfSome next
-            (λ next. IfSome (nearest self.old.doubled)
-            (λ tried. WritesWikilink (shown_options options) leaf.now text.now tried.0 close
-            self.old self.new))) }
+            (drop (close + 1) text.now)) text.now close self.old self.new) }
+        ensures limits { KeepsLimits self.old self.new }
+        ensures sound { OnOk result (IsSound self.new) }
+        ensures ends { OnOk result
+            (AreEnded leaf.now self.old.slots.items → AreEnded leaf.now self.new.slots.items) }
+        ensures off { (shown_options options).wikilinks ≡ false → self.new ≡ self.old }
     {
         if !options.contains(Options::ENABLE_WIKILINKS) || !is_followed_by(text, close, b']') {
             return Ok(None);
@@ -193,34 +171,20 @@ impl<'a> InlineState<'a> {
         close: usize,
         wikilink: Wikilink<'a>,
     ) -> Result<(), AllocError>
-        requires stands { Stands text.now close self.old }
-        requires doubled { IsBracket text.now close doubled }
-        requires inside { doubled.inside < close }
+        requires at { StandsSound text.now close self.old }
+        requires pair { IsPair text.now close wikilink self.old doubled }
         requires end { IsPart text.now close (close + 2) }
         requires middle { IsCharBoundary text.now (close + 1) }
-        requires display { IfSome wikilink.display
-            (λ place. IsCharBoundary text.now place × (place ≤ close)) }
         requires free { doubled.is_image ≡ false → HoldNoLink self.old.slots.items doubled.slot }
-        requires sound { IsSound self.old }
-        requires taken { IsPairFrom self.old doubled }
-        ensures sound { OnOk result (IsSound self.new) }
+        ensures forms { OnOk result
+            (FormsWikilink (shown_options options) text.now doubled close wikilink.entry self.old
+            self.new) }
+        ensures limits { KeepsLimits self.old self.new }
+        ensures at { OnOk result (StandsSound text.now (close + 2) self.new) }
         ensures ends { OnOk result
             ((leaf : LeafTexts) → AreEnded leaf self.old.slots.items
             → EndsIn leaf close (Some wikilink.entry.source_end)
             → AreEnded leaf self.new.slots.items) }
-        ensures expansion_left { self.new.expansion_left ≡ self.old.expansion_left }
-        ensures steps { self.new.steps ≡ self.old.steps }
-        ensures stands { OnOk result (Stands text.now (close + 2) self.new) }
-        ensures parts { OnOk result
-            ((parts : Links) × IsNamed wikilink.entry parts
-            × (self.new.links.items ≡ self.old.links.items ++ (parts ∷ []))) }
-        ensures link { OnOk result
-            (doubled.is_image ≡ false → HoldNoLink self.new.slots.items (doubled.slot + 1)) }
-        ensures leaves { OnOk result (LeavesWikilink doubled.start self.old self.new) }
-        ensures label_close { self.new.label_close ≡ self.old.label_close }
-        ensures writes { OnOk result
-            (WritesShown (shown_options options) text.now doubled close wikilink.entry self.old
-            self.new) }
     {
         let end = close + 2;
         let index = self.links.len();
@@ -246,47 +210,19 @@ impl<'a> InlineState<'a> {
         close: usize,
         wikilink: Wikilink<'a>,
     ) -> Result<Bracket, AllocError>
-        requires stands { Stands text.now close self.old }
-        requires doubled { IsBracket text.now close doubled }
-        requires inside { doubled.inside < close }
+        requires at { StandsSound text.now close self.old }
+        requires pair { IsPair text.now close wikilink self.old doubled }
         requires end { IsPart text.now close (close + 1) }
-        requires display { IfSome wikilink.display
-            (λ place. IsCharBoundary text.now place × (place ≤ close)) }
-        requires sound { IsSound self.old }
-        requires taken { IsPairFrom self.old doubled }
-        ensures settles { IfOk result
-            (λ inside. CanSettle (doubled.slot + 1) self.new.slots.items
-            (drop inside.runs self.old.delimiters.placed.items)
-            (drop inside.quotes self.old.quotes.placed.items)) }
-        ensures runs { IfOk result (λ inside. doubled.runs ≤ inside.runs) }
-        ensures runs_there { IfOk result
-            (λ inside. inside.runs ≤ length self.old.delimiters.placed.items) }
-        ensures quotes { IfOk result (λ inside. doubled.quotes ≤ inside.quotes) }
-        ensures quotes_there { IfOk result
-            (λ inside. inside.quotes ≤ length self.old.quotes.placed.items) }
-        ensures names { OnOk result
-            ((texts links : ℕ) → AreNamed texts links self.old.slots.items
-            → AreNamed texts links self.new.slots.items) }
-        ensures ends { OnOk result
-            ((leaf : LeafTexts) → AreEnded leaf self.old.slots.items
-            → EndsIn leaf close (Some wikilink.entry.source_end)
-            → AreEnded leaf self.new.slots.items) }
-        ensures before { OnOk result
-            (SameBefore (doubled.slot + 1) self.old.slots.items self.new.slots.items) }
         ensures shows { IfOk result
             (λ inside. (at : ℕ)
             × Shows text.now doubled close wikilink.entry self.old.slots.items self.new.slots.items
             at
             × AreLeft at self.old.delimiters.placed.items self.old.quotes.placed.items doubled
             inside) }
-        ensures slots { OnOk result
-            ((end : ℕ) → AreSlots text.now close self.old.slots.items → close < end
-            → AreSlots text.now end self.new.slots.items) }
-        ensures length { OnOk result
-            (length self.new.slots.items ≤ length self.old.slots.items + 1) }
-        ensures longer { OnOk result (length self.old.slots.items ≤ length self.new.slots.items) }
-        ensures links { OnOk result (NoNewLink self.old.slots.items self.new.slots.items) }
-        ensures bracket { IfOk result (λ inside. inside.slot ≡ doubled.slot) }
+        ensures inside { IfOk result (IsInside doubled self.old self.new) }
+        ensures hides { OnOk result
+            (HidesSlots text.now doubled close wikilink.entry.source_end self.old.slots.items
+            self.new.slots.items) }
         ensures others { self.new ≡ record self.old { slots = self.new.slots } }
     {
         let place = wikilink.display.unwrap_or(close);

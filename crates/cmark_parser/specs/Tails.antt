@@ -1,5 +1,7 @@
 -- A parser of the rest of a text, from an offset on.
-use Rattle.std.specs.Prelude.{ℕ, List, true, false, None}
+use Rattle.std.specs.Prelude.{ℕ, List, take, true, false, None}
+use Rattle.std.specs.Str.{IsCharBoundary}
+use Rattle.cmark_block_model.specs.DocumentModel.{document}
 use Rattle.cmark_block_model.specs.Tails.{document_after}
 use Rattle.cmark_grammar.specs.Answers.{Lookup}
 use Rattle.cmark_grammar.specs.Event.{Ranged}
@@ -7,8 +9,14 @@ use Rattle.cmark_grammar.specs.Options.{Options}
 use Rattle.cmark_grammar.specs.Questions.{Exchange, Plan}
 use Rattle.cmark_grammar.specs.Headline.{profile}
 use Rattle.cmark_grammar.specs.Readers.{Reader}
-use Rattle.cmark_grammar.specs.SpanDocuments.{Left, segments}
+use Rattle.cmark_grammar.specs.References.{references}
+use Rattle.cmark_grammar.specs.SpanDocuments.{Left, footnote_labels, segments}
+use Rattle.cmark_blocks.specs.Footnotes.{HasLabels}
+use Rattle.cmark_blocks.specs.Tails.{HasDefinitions}
+use Rattle.cmark_references.specs.declared.definitions.RefDefs.{RefDefs}
+use Rattle.cmark_references.specs.declared.footnotes.FootnoteDefs.{FootnoteDefs}
 use Rattle.cmark_stream_model.specs.Continued.{reader_with}
+use Rattle.cmark_stream_model.specs.Tails.{IsJoinedAt}
 use Rattle.cmark_parser.specs.declared.parse.Parser.{Parser}
 use Rattle.cmark_parser.specs.Parsing.{Remains}
 use Rattle.cmark_parser.specs.Walking.{SomeLeft, reader_by}
@@ -16,6 +24,14 @@ use Rattle.cmark_parser.specs.Walking.{SomeLeft, reader_by}
 -- the grammar's reader for leaves of a text, if nothing is defined and there is a callback
 abbrev pub undefined_reader : (text : List ℕ) → Options → Lookup → Reader
 undefined_reader text options lookup = reader_with (profile text options lookup true) text (λ folded. None) (λ folded. false)
+
+-- The lines of a text from an offset on can be read by themselves. The blocks before the offset are those of these bytes alone, and the
+-- tables have their definitions and footnotes. No footnote in them is used yet
+pub record CanReadRest (text : List ℕ) (options : Options) (lookup : Lookup) (from : ℕ) (definitions : RefDefs) (footnotes : FootnoteDefs) : Type 0 where
+  pub boundary : IsCharBoundary text from
+  pub joined : IsJoinedAt options lookup text from
+  pub defined : HasDefinitions (references (document (take from text) options lookup)) definitions
+  pub labelled : HasLabels (footnote_labels (document (take from text) options lookup)) footnotes
 
 module _ {E F : Type 0} (replacement : E → Lookup) where
   -- the parser is at the start of a walk over the lines of a text from an offset on, with this reference expansion limit. For each plan

@@ -70,9 +70,12 @@ pub fn to_filtered_html<E: EntityLookup>(
         (shown_options options) (E.replacement entities.now) (string_bytes html)) }
 {
     let none: Option<DefaultBrokenLinkCallback> = None;
-    let mut parser = Parser::new_with_expansion_limit(alloc, text, options, entities, none, limit)?;
-    let room = room_of(text);
-    html_of(alloc, room, &mut parser, filter)
+    let mut made = Parser::new_with_expansion_limit(alloc, text, options, entities, none, limit);
+    // The parser is lent where it was made, as in `filtered_html`.
+    match &mut made {
+        Ok(parser) => html_of(alloc, room_of(text), parser, filter),
+        Err(_) => Err(AllocError),
+    }
 }
 
 /// Returns the safe HTML of a text, for a text of a stranger. Raw HTML is shown as text. A heading has no attribute but its anchor. Anchors
@@ -110,10 +113,13 @@ fn filtered_html<E: EntityLookup, T: Filter>(
     ensures { IfOk result (λ html. IsHtmlBy (usual_limit text.now) (T.filtered filter.now) text.now
         (shown_options options) (E.replacement entities.now) (string_bytes html)) }
 {
-    let mut parser = Parser::new_ext(alloc, text, options, entities)?;
-    let room = room_of(text);
-    // The parser is lent, so that it is dropped at one place only: each way out of a function drops all that the function owns.
-    html_of(alloc, room, &mut parser, filter)
+    let mut made = Parser::new_ext(alloc, text, options, entities);
+    // The parser is lent where it was made, since it has almost 1,000 bytes to move. It is also dropped at one place only: each way out of a
+    // function drops all that the function owns.
+    match &mut made {
+        Ok(parser) => html_of(alloc, room_of(text), parser, filter),
+        Err(_) => Err(AllocError),
+    }
 }
 
 // The string for the HTML has room for at least this many bytes more than the text has. Elements are a large part of a short text's HTML.

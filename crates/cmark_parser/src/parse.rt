@@ -117,6 +117,8 @@ impl<'input, E: EntityLookup, F: BrokenLinkCallback<'input> + Drop> Parser<'inpu
 
     /// Returns a parser with a reference expansion limit of the caller. Once the destinations and titles of references total `limit` bytes,
     /// no definition is looked up, and the callback is not asked. Fails only if memory is refused.
+    // It is apart from its caller: inlined into the function that writes HTML, the loop over lines takes more instructions.
+    #[inline(never)]
     pub fn new_with_expansion_limit(
         alloc: Global,
         text: &'input str,

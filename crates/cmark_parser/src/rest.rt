@@ -1,16 +1,10 @@
 //! A parser of the rest of a text.
 
-ghost use Rattle.std.specs.Prelude.{◌≡◌, IfOk, IsCharBoundary, take};
+ghost use Rattle.std.specs.Prelude.{◌≡◌, IfOk};
 ghost use Rattle.std.specs.Option.{ForSome};
-ghost use Rattle.cmark_blocks.specs.Footnotes.{HasLabels};
-ghost use Rattle.cmark_blocks.specs.Tails.{HasDefinitions};
-ghost use Rattle.cmark_block_model.specs.DocumentModel.{document};
-ghost use Rattle.cmark_grammar.specs.References.{references};
-ghost use Rattle.cmark_grammar.specs.SpanDocuments.{footnote_labels};
-ghost use Rattle.cmark_stream_model.specs.Tails.{IsJoinedAt};
 ghost use Rattle.cmark_values.specs.Shown.{shown_options};
 ghost use Rattle.cmark_parser.specs.Parsing.{Defines, DefinesFootnotes, CanGo, IsReady, callback_of, text_of};
-ghost use Rattle.cmark_parser.specs.Tails.{ReadsRest};
+ghost use Rattle.cmark_parser.specs.Tails.{CanReadRest, ReadsRest};
 
 use crate::parse::{EVENTS_A_BYTE, Parser};
 use cmark_block_walk::Walk;
@@ -25,8 +19,8 @@ use std::mem;
 /// A parser of the rest of `text`, from the line at the byte offset `from` on. A parser of the whole text returns these events, with these
 /// ranges, after the events of the earlier lines.
 ///
-/// The blocks before `from` must be those of these bytes alone (`IsJoinedAt`). `definitions` and `footnotes` are the tables of the earlier
-/// lines, and no footnote in them is used yet. `limit` is the rest of the reference expansion limit, in bytes. Fails only if memory is
+/// The blocks before `from` must be those of these bytes alone. `definitions` and `footnotes` are the tables of the earlier lines, and no
+/// footnote in them is used yet (`CanReadRest`). `limit` is the rest of the reference expansion limit, in bytes. Fails only if memory is
 /// refused.
 pub fn parse_rest<'input, E: EntityLookup, F: BrokenLinkCallback<'input> + Drop>(
     alloc: Global,
@@ -39,15 +33,8 @@ pub fn parse_rest<'input, E: EntityLookup, F: BrokenLinkCallback<'input> + Drop>
     callback: Option<F>,
     limit: usize,
 ) -> Result<Parser<'input, E, F>, AllocError>
-    requires begins { IsCharBoundary text.now from }
-    requires joined { IsJoinedAt
-        (shown_options options) (E.replacement entities.now) text.now from }
-    requires defined { HasDefinitions (references
-        (document (take from text.now) (shown_options options) (E.replacement entities.now)))
-        definitions }
-    requires labelled { HasLabels (footnote_labels
-        (document (take from text.now) (shown_options options) (E.replacement entities.now)))
-        footnotes }
+    requires follows { CanReadRest text.now (shown_options options)
+        (E.replacement entities.now) from definitions footnotes }
     requires ready { ForSome callback F.ready }
     ensures ready { IfOk result (IsReady F.ready) }
     ensures text { IfOk result (λ parser. text_of parser ≡ text.entry.now) }

@@ -1,10 +1,17 @@
 -- The marks that the searches for markup in one text share: each is for a kind whose closer was not found.
-use Rattle.std.specs.Prelude.{◌≡◌, ℕ, ◌+◌, ◌-◌, ◌<◌, ◌≤◌, true, nat_lt, if◌then◌else◌, List, ◌∷◌, ◌++◌, drop, length, min, codes, Option, Some, None}
+use Rattle.std.specs.Prelude.{◌≡◌, ℕ, ◌+◌, ◌-◌, ◌<◌, ◌≤◌, true, nat_lt, if◌then◌else◌, List, ◌∷◌, ◌++◌, drop, length, min, codes, IfSome, Option, Some, None}
 use Rattle.cmark_grammar.specs.InlineHtml.{Find, after_comment}
 use Rattle.cmark_grammar.specs.Letters.{after_first_of, first_is, is_letter, starts}
+use Rattle.cmark_scan_bytes.specs.declared.inline_html.HtmlFind.{HtmlFind}
 use Rattle.cmark_scan_bytes.specs.declared.inline_html.HtmlScanGuard.{HtmlScanGuard}
 use Rattle.cmark_scan_bytes.specs.declared.inline_html.MarkupKind.{MarkupKind}
 use Rattle.cmark_scan_bytes.specs.declared.inline_html.MarkupKind.TheVariants as kind
+
+-- a search from a place of the bytes stays within them. It passed the bytes up to the end that it found
+pub record ReachesWithin (bytes : List ℕ) (at : ℕ) (find : HtmlFind) : Type 0 where
+  pub within : IfSome find.end (λ end. (at ≤ end) × (end ≤ length bytes))
+  pub passed : IfSome find.end (λ end. at + find.passed ≡ end)
+  pub few : at + find.passed ≤ length bytes
 
 -- ## Kinds
 

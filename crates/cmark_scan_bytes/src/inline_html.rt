@@ -3,7 +3,7 @@
 ghost use Rattle.std.specs.Prelude.{◌≡◌, ℕ, ◌+◌, ◌-◌, ◌≤◌, length, drop, codes, Some, None, IfSome, MatchOption, option_copied, option_map};
 ghost use Rattle.std.specs.Str.{IsUtf8, IsCharBoundary};
 ghost use Rattle.cmark_grammar.specs.InlineHtml.{after_comment, declaration_in, cdata_in, opened_in, find_with, comment_find, processing_find};
-ghost use Rattle.cmark_scan_bytes.specs.Guards.{AreMarks, AreWithin, OpensWith, closed_by, guarded, kind_in, mark_of, marked, may_pass};
+ghost use Rattle.cmark_scan_bytes.specs.Guards.{AreMarks, AreWithin, OpensWith, ReachesWithin, closed_by, guarded, kind_in, mark_of, marked, may_pass};
 ghost use Rattle.cmark_scan_bytes.specs.Shown.{shown_find};
 ghost use Rattle.cmark_scan_bytes.specs.declared.inline_html.MarkupKind.TheVariants as kind;
 
@@ -64,9 +64,7 @@ fn find_with(bytes: &[u8], ix: usize, opened: Option<Option<&[u8]>>) -> HtmlFind
         (λ closed. IfSome closed (λ rest. length rest.now ≤ length bytes.now - ix)) }
     ensures value { shown_find result
         ≡ find_with bytes.now ix (option_map option_copied opened.entry) }
-    ensures passed { IfSome result.end (λ end. ix + result.passed ≡ end) }
-    ensures few { ix + result.passed ≤ length bytes.now }
-    ensures within { IfSome result.end (λ end. (ix ≤ end) × (end ≤ length bytes.now)) }
+    ensures reaches { ReachesWithin bytes.now ix result }
 {
     let left = bytes.len() - ix;
     match opened {
@@ -152,9 +150,7 @@ impl HtmlScanGuard {
             ≡ guarded self.old (Some kind) bytes.now ix
             (find_with bytes.now ix (Some (closed_by kind inside.now))) }
         ensures end { result.end ≡ (find_with bytes.now ix (Some (closed_by kind inside.now))).end }
-        ensures within { IfSome result.end (λ end. (ix ≤ end) × (end ≤ length bytes.now)) }
-        ensures passed { IfSome result.end (λ end. ix + result.passed ≡ end) }
-        ensures few { ix + result.passed ≤ length bytes.now }
+        ensures reaches { ReachesWithin bytes.now ix result }
         ensures marks { (later : ℕ) → ix ≤ later → AreMarks bytes.now later self.new }
         ensures bound { AreWithin (length bytes.now) self.old
             → AreWithin (length bytes.now) self.new }
@@ -184,9 +180,7 @@ pub fn scan_inline_html_comment(bytes: &[u8], ix: usize, guard: &mut HtmlScanGua
     ensures value { shown_find result
         ≡ guarded guard.old (kind_in (drop ix bytes.now)) bytes.now ix (comment_find bytes.now ix) }
     ensures end { result.end ≡ (comment_find bytes.now ix).end }
-    ensures within { IfSome result.end (λ end. (ix ≤ end) × (end ≤ length bytes.now)) }
-    ensures passed { IfSome result.end (λ end. ix + result.passed ≡ end) }
-    ensures few { ix + result.passed ≤ length bytes.now }
+    ensures reaches { ReachesWithin bytes.now ix result }
     ensures boundary { IsUtf8 bytes.now → IfSome result.end (IsCharBoundary bytes.now) }
     ensures marks { (later : ℕ) → ix ≤ later → AreMarks bytes.now later guard.new }
     ensures bound { AreWithin (length bytes.now) guard.old
@@ -210,9 +204,7 @@ pub fn scan_inline_html_processing(bytes: &[u8], ix: usize, guard: &mut HtmlScan
     ensures value { shown_find result
         ≡ guarded guard.old (Some kind.Processing) bytes.now ix (processing_find bytes.now ix) }
     ensures end { result.end ≡ (processing_find bytes.now ix).end }
-    ensures within { IfSome result.end (λ end. (ix ≤ end) × (end ≤ length bytes.now)) }
-    ensures passed { IfSome result.end (λ end. ix + result.passed ≡ end) }
-    ensures few { ix + result.passed ≤ length bytes.now }
+    ensures reaches { ReachesWithin bytes.now ix result }
     ensures boundary { IsUtf8 bytes.now → IfSome result.end (IsCharBoundary bytes.now) }
     ensures marks { (later : ℕ) → ix ≤ later → AreMarks bytes.now later guard.new }
     ensures bound { AreWithin (length bytes.now) guard.old

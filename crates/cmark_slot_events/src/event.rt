@@ -17,6 +17,7 @@ ghost use Rattle.cmark_values.specs.Shown.{text_bytes};
 ghost use Rattle.cmark_text.specs.ZeroCopy.{IsZeroCopy};
 ghost use Rattle.cmark_values.specs.Lending.{IsLentBy};
 ghost use Rattle.cmark_slot_events.specs.Opens.{element_end, events_left, AreOpened, Follows};
+ghost use Rattle.cmark_slot_events.specs.LeafStates.{GivesLong, HasNamed, IsOver, IsSlotIn, KeepsPlace, TakesLink};
 ghost use Rattle.cmark_slot_events.specs.Longs.{IsLong, is_linked, is_long};
 ghost use Rattle.cmark_references.specs.Links.{shown_link};
 ghost use Rattle.cmark_slot_events.specs.Events.{AreLeft, IsHeldAs, KeepsOthers, event_as, held_in, events_of, events_to_come, shown_opened};
@@ -39,22 +40,13 @@ impl<'a> LeafEvents<'a> {
     /// Fails if memory is refused.
     #[inline(never)]
     pub fn take_long(&mut self, leaf: &LeafText<'a>) -> Result<Ranged<'a>, AllocError>
-        requires read { IsRead leaf.now }
-        requires slots { AreSlots (text_of leaf.now) (length (text_of leaf.now))
-            self.old.slots.items }
-        requires opened { AreOpened (source_of leaf.now) self.old.walk.opened.items }
+        requires over { IsOver leaf.now self.old }
         requires left { AreLeft leaf.now self.old }
         requires long { IsLong self.old }
         ensures slots { self.new.slots ≡ self.old.slots }
         ensures opened { AreOpened (source_of leaf.now) self.new.walk.opened.items }
-        ensures follows { IfOk result
-            (λ given. Follows (source_of leaf.now) self.old.walk.opened.items (shown_ranged given)
-            self.new.walk.opened.items) }
-        ensures lent { IfOk result (IsRangedZeroCopy (source_of leaf.now)) }
+        ensures gives { IfOk result (λ given. GivesLong leaf.now self.old given self.new) }
         ensures fewer { OnOk result (events_left self.new < events_left self.old) }
-        ensures events { IfOk result
-            (λ given. events_to_come leaf.now self.old
-            ≡ shown_ranged given ∷ events_to_come leaf.now self.new) }
         ensures left { OnOk result (AreLeft leaf.now self.new) }
         ensures ends { OnErr result (BeginWithoutEnd (events_to_come leaf.now self.old)) }
     {
@@ -71,14 +63,11 @@ impl<'a> LeafEvents<'a> {
     // The event of a slot that is not a short one.
     #[inline(always)]
     fn give(&mut self, leaf: &LeafText<'a>, slot: Slot) -> Result<Ranged<'a>, AllocError>
-        requires read { IsRead leaf.now }
-        requires slot { IsSlot (text_of leaf.now) (length (text_of leaf.now)) slot }
+        requires slot { IsSlotIn leaf.now slot }
         requires opened { AreOpened (source_of leaf.now) self.old.walk.opened.items }
-        requires text { IsThere (length self.old.texts.items) (text_named slot.kind) }
-        requires link { IsThere (length self.old.links.items) (link_named slot.kind) }
+        requires named { HasNamed slot self.old }
         requires long { is_long slot.kind ≡ true }
-        ensures slots { self.new.slots ≡ self.old.slots }
-        ensures place { self.new.walk.next ≡ self.old.walk.next }
+        ensures keeps { KeepsPlace self.old self.new }
         ensures opened { AreOpened (source_of leaf.now) self.new.walk.opened.items }
         ensures follows { IfOk result
             (λ given. Follows (source_of leaf.now) self.old.walk.opened.items (shown_ranged given)
@@ -115,13 +104,11 @@ impl<'a> LeafEvents<'a> {
         slot: Slot,
         element: Element,
     ) -> Result<Ranged<'a>, AllocError>
-        requires read { IsRead leaf.now }
-        requires slot { IsSlot (text_of leaf.now) (length (text_of leaf.now)) slot }
+        requires slot { IsSlotIn leaf.now slot }
         requires opened { AreOpened (source_of leaf.now) self.old.walk.opened.items }
         requires link { IsThere (length self.old.links.items) (link_of element) }
         requires linked { is_linked element ≡ true }
-        ensures slots { self.new.slots ≡ self.old.slots }
-        ensures place { self.new.walk.next ≡ self.old.walk.next }
+        ensures takes { TakesLink (link_of element) self.old self.new }
         ensures opened { AreOpened (source_of leaf.now) self.new.walk.opened.items }
         ensures follows { IfOk result
             (λ given. Follows (source_of leaf.now) self.old.walk.opened.items (shown_ranged given)
@@ -138,8 +125,6 @@ impl<'a> LeafEvents<'a> {
             (place_of leaf.now (slot.end - 1) + 1)
             (End (end_of (shown_element self.old.links.items element))) ∷ shown_opened
             self.old.walk.opened.items) }
-        ensures links { KeepsOthers (link_of element) self.old.links.items self.new.links.items }
-        ensures texts { self.new.texts ≡ self.old.texts }
     {
         let range = leaf.range(slot.start, slot.end);
         // The push comes first: if memory is refused, no text was moved out that would have to be dropped.
@@ -157,8 +142,7 @@ impl<'a> LeafEvents<'a> {
     // The event of a slot with a text, whose range is the range of its bytes.
     #[inline(always)]
     fn over_slot(&mut self, leaf: &LeafText<'a>, slot: Slot) -> Result<Ranged<'a>, AllocError>
-        requires read { IsRead leaf.now }
-        requires slot { IsSlot (text_of leaf.now) (length (text_of leaf.now)) slot }
+        requires slot { IsSlotIn leaf.now slot }
         requires text { IsThere (length self.old.texts.items) (text_named slot.kind) }
         requires long { is_long slot.kind ≡ true }
         ensures slots { self.new.slots ≡ self.old.slots }

@@ -1,13 +1,13 @@
 //! The start of a link without an `Event`: the link is borrowed, and then its start is passed.
 
-ghost use Rattle.std.specs.Prelude.{◌≡◌, ◌<◌, true, IfSome, OnErr, OnOk, is_some, length, option_map};
+ghost use Rattle.std.specs.Prelude.{◌≡◌, ◌<◌, true, IfSome, OnErr, OnOk, is_some, option_map};
 ghost use Rattle.cmark_inline_model.specs.FirstEvents.{BeginWithoutEnd};
 ghost use Rattle.cmark_references.specs.Links.{shown_link};
-ghost use Rattle.cmark_leaf_text.specs.Reads.{IsRead, source_of, text_of};
+ghost use Rattle.cmark_leaf_text.specs.Reads.{source_of};
+ghost use Rattle.cmark_slot_events.specs.LeafStates.{IsOver};
 ghost use Rattle.cmark_slot_events.specs.LinkStarts.{IsStartFirst, link_to_come};
 ghost use Rattle.cmark_slot_events.specs.Opens.{events_left, AreOpened};
 ghost use Rattle.cmark_slot_events.specs.Events.{AreLeft, events_to_come};
-ghost use Rattle.cmark_slots.specs.Slots.{AreSlots};
 
 use crate::leaf_events::{LeafEvents, Opened};
 use cmark_leaf_text::LeafText;
@@ -38,10 +38,7 @@ impl<'a> LeafEvents<'a> {
     /// link stays in the table. Fails if memory is refused.
     #[inline(always)]
     pub fn pass_link(&mut self, leaf: &LeafText<'a>) -> Result<(), AllocError>
-        requires read { IsRead leaf.now }
-        requires slots { AreSlots (text_of leaf.now) (length (text_of leaf.now))
-            self.old.slots.items }
-        requires opened { AreOpened (source_of leaf.now) self.old.walk.opened.items }
+        requires over { IsOver leaf.now self.old }
         requires ahead { is_some (link_to_come self.old) ≡ true }
         ensures slots { self.new.slots ≡ self.old.slots }
         ensures left { AreLeft leaf.now self.old → OnOk result (AreLeft leaf.now self.new) }

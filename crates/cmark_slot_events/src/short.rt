@@ -13,9 +13,10 @@ ghost use Rattle.cmark_text.specs.Short.{IsShortZeroCopy, shown_plain, shown_sho
 ghost use Rattle.cmark_text.specs.Shown.{shown_end};
 ghost use Rattle.cmark_values.specs.Lending.{IsPartOf};
 ghost use Rattle.cmark_slots.specs.Elements.{emphasis_tag};
+ghost use Rattle.cmark_slot_events.specs.LeafStates.{CountsDown, IsOver, IsSlotIn, KeepsSlots};
 ghost use Rattle.cmark_slot_events.specs.Longs.{IsLong, is_linked, is_long};
-ghost use Rattle.cmark_slot_events.specs.Opens.{events_left, AreOpened};
-ghost use Rattle.cmark_slot_events.specs.Shorts.{GivesNext, IfLong, IfShort, IsAlone, IsNextFirst, LeavesFewer, PassesFirst, PassesShort, StandsFor};
+ghost use Rattle.cmark_slot_events.specs.Opens.{AreOpened};
+ghost use Rattle.cmark_slot_events.specs.Shorts.{GivesNext, IfLong, IfShort, IsAlone, IsNextFirst, PassesFirst, PassesShort, StandsFor};
 ghost use Rattle.cmark_slot_events.specs.Events.{AreLeft, events_of, events_to_come, shown_opened};
 ghost use Rattle.cmark_slots.specs.Slots.{AreSlots, IsSlot};
 ghost use Rattle.cmark_slot_events.specs.declared.leaf_events.Opened.{Opened as OpenedOnes};
@@ -39,10 +40,7 @@ impl<'a> LeafEvents<'a> {
     /// An end of an element takes no memory.
     #[inline(always)]
     pub fn next_short(&mut self, leaf: &LeafText<'a>) -> Result<Next<'a>, AllocError>
-        requires read { IsRead leaf.now }
-        requires slots { AreSlots (text_of leaf.now) (length (text_of leaf.now))
-            self.old.slots.items }
-        requires opened { AreOpened (source_of leaf.now) self.old.walk.opened.items }
+        requires over { IsOver leaf.now self.old }
         ensures slots { self.new.slots ≡ self.old.slots }
         ensures left { AreLeft leaf.now self.old → OnOk result (AreLeft leaf.now self.new) }
         ensures opened { AreOpened (source_of leaf.now) self.new.walk.opened.items }
@@ -54,9 +52,7 @@ impl<'a> LeafEvents<'a> {
             (λ next. GivesNext (source_of leaf.now) self.old.walk.opened.items next
             self.new.walk.opened.items) }
         ensures long { IfOk result (λ next. IfLong next (IsLong self.new)) }
-        ensures fewer { IfOk result (λ next. LeavesFewer self.old next self.new) }
-        ensures most { OnOk result (events_left self.new ≤ events_left self.old) }
-        ensures few { OnOk result (length self.new.slots.items < 18446744073709551616) }
+        ensures fewer { IfOk result (λ next. CountsDown self.old next self.new) }
         ensures events { IfOk result
             (λ next. IsNextFirst (source_of leaf.now) self.old.walk.opened.items next
             self.new.walk.opened.items (events_to_come leaf.now self.old)
@@ -83,13 +79,9 @@ impl<'a> LeafEvents<'a> {
     // Like `next_short` for one slot; `Over` says that the slot has no event.
     #[inline(always)]
     fn give_short(&mut self, leaf: &LeafText<'a>, slot: Slot) -> Result<Next<'a>, AllocError>
-        requires read { IsRead leaf.now }
-        requires slot { IsSlot (text_of leaf.now) (length (text_of leaf.now)) slot }
+        requires slot { IsSlotIn leaf.now slot }
         requires opened { AreOpened (source_of leaf.now) self.old.walk.opened.items }
-        ensures slots { self.new.slots ≡ self.old.slots }
-        ensures texts { self.new.texts ≡ self.old.texts }
-        ensures links { self.new.links ≡ self.old.links }
-        ensures place { self.new.walk.next ≡ self.old.walk.next }
+        ensures keeps { KeepsSlots self.old self.new }
         ensures opened { AreOpened (source_of leaf.now) self.new.walk.opened.items }
         ensures stands { IfOk result (λ next. IfShort next (StandsFor leaf.now slot)) }
         ensures long { IfOk result (λ next. IfLong next (is_long slot.kind ≡ true)) }
@@ -130,10 +122,7 @@ impl<'a> LeafEvents<'a> {
     // The end of the element that began last, if one is open.
     #[inline(always)]
     fn end_short(&mut self) -> Next<'a>
-        ensures slots { self.new.slots ≡ self.old.slots }
-        ensures texts { self.new.texts ≡ self.old.texts }
-        ensures links { self.new.links ≡ self.old.links }
-        ensures place { self.new.walk.next ≡ self.old.walk.next }
+        ensures keeps { KeepsSlots self.old self.new }
         ensures opened { (source : List ℕ) → AreOpened source self.old.walk.opened.items
             → AreOpened source self.new.walk.opened.items }
         ensures gives { (source : List ℕ) → AreOpened source self.old.walk.opened.items

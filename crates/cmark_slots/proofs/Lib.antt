@@ -6,12 +6,15 @@ pub mod Marks
 pub mod Merging
 pub mod Naming
 pub mod Opening
+pub mod PairSpans
+pub mod PairsWritten
 pub mod Placing
 pub mod QuotedSlots
 pub mod Quotes
 pub mod RunPlaces
-pub mod Runs
 pub mod Settling
 pub mod Showing
 pub mod Soundness
+pub mod SpanMarks
+pub mod SpanSlots
 pub mod Steps

@@ -7,7 +7,7 @@ use Rattle.cmark_slots.specs.MarkedSlots.{HaveBytes, HaveTexts, SameBefore}
 use Rattle.cmark_slots.specs.Standing.{HaveSizes, IsPlaced}
 use Rattle.cmark_slots.specs.Slots.{byte_slots}
 use Rattle.cmark_slots.specs.declared.bracket.Bracket.{Bracket}
-use Rattle.cmark_slots.specs.declared.delimiter.PlacedRun.{PlacedRun}
+use Rattle.cmark_emphasis.specs.declared.run.PlacedRun.{PlacedRun}
 use Rattle.cmark_slots.specs.declared.quote.PlacedQuote.{PlacedQuote}
 use Rattle.cmark_slots.specs.declared.slot.Slot.{Slot}
 use Rattle.cmark_slots.specs.declared.slot.SlotKind.TheVariants as kind

@@ -11,7 +11,7 @@ use Rattle.cmark_emphasis.specs.Counts.{IsKnown}
 use Rattle.cmark_slots.specs.Standing.{AreSound, CanSettle, HaveSizes, IsPlain, NamesAs, NamesNoMore, source_end}
 use Rattle.cmark_slots.specs.Cuts.{Hides, cut_at, cut_kind, cut_slot}
 use Rattle.cmark_slots.specs.declared.bracket.Bracket.{Bracket}
-use Rattle.cmark_slots.specs.declared.delimiter.PlacedRun.{PlacedRun}
+use Rattle.cmark_emphasis.specs.declared.run.PlacedRun.{PlacedRun}
 use Rattle.cmark_slots.specs.declared.quote.PlacedQuote.{PlacedQuote}
 use Rattle.cmark_slots.specs.declared.slot.Slot.{Slot}
 use Rattle.cmark_slots.specs.declared.slot.SlotKind.{SlotKind}

@@ -11,7 +11,7 @@ use Rattle.cmark_emphasis.specs.Counts.{IsKnown}
 use Rattle.cmark_slots.specs.Standing.{AreNamed, AreSound, BeginsBefore, EndInOrder, CanSettle, HaveSizes, IsPlaced}
 use Rattle.cmark_slots.specs.Slots.{PushesText, byte_slots}
 use Rattle.cmark_slots.specs.declared.bracket.Bracket.{Bracket}
-use Rattle.cmark_slots.specs.declared.delimiter.PlacedRun.{PlacedRun}
+use Rattle.cmark_emphasis.specs.declared.run.PlacedRun.{PlacedRun}
 use Rattle.cmark_slots.specs.declared.quote.PlacedQuote.{PlacedQuote}
 use Rattle.cmark_slots.specs.declared.slot.Slot.{Slot}
 use Rattle.cmark_slots.specs.declared.slot.SlotKind.TheVariants as kind

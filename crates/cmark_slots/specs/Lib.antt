@@ -2,6 +2,7 @@ pub mod Cuts
 pub mod Doubled
 pub mod Elements
 pub mod MarkedSlots
+pub mod PairSlots
 pub mod QuoteSlots
 pub mod Slots
 pub mod SlotViews

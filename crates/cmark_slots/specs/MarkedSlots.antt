@@ -1,15 +1,10 @@
 -- The slots after quotes have their characters and emphasis its marks.
 use Rattle.std.specs.Prelude.{◌≡◌, ℕ, suc, ◌+◌, ◌<◌, ◌≤◌, max, List, [], ◌∷◌, length, take, drop, set, get_or, All}
-use Rattle.cmark_emphasis.specs.Shown.{shown_kind}
-use Rattle.cmark_emphasis.specs.Slots.{AreBalanced}
-use Rattle.cmark_emphasis.specs.declared.slot.Slot as code_mark
-use Rattle.cmark_emphasis.specs.declared.slot.Slot.TheVariants as mark
-use Rattle.cmark_emphasis.specs.declared.slot.SpanKind as code_kind
 use Rattle.cmark_grammar.specs.Emphasis.{Sibling, Delimiter}
-use Rattle.cmark_inline_model.specs.SlotRows.{Mark, Stays, Begins, Ends, Blank, run_places}
+use Rattle.cmark_inline_model.specs.SlotRows.{run_places}
 use Rattle.cmark_slots.specs.Slots.{byte_slots}
 use Rattle.cmark_slots.specs.Cuts.{Hides}
-use Rattle.cmark_slots.specs.declared.delimiter.PlacedRun.{PlacedRun}
+use Rattle.cmark_emphasis.specs.declared.run.PlacedRun.{PlacedRun}
 use Rattle.cmark_slots.specs.declared.quote.PlacedQuote.{PlacedQuote}
 use Rattle.cmark_slots.specs.declared.slot.Element.{Element}
 use Rattle.cmark_slots.specs.declared.slot.Slot.{Slot}
@@ -74,43 +69,14 @@ pub record Merges (first last : ℕ) (old new : List Slot) : Type 0 where
   pub hides : Hides (first + 1) (last + 1) old between
   pub slots_are : (d : Slot) → new ≡ set between first (whole_to last (get_or old last d).end (get_or old first d))
 
--- ## Marks
+-- ## Bytes
 
-abbrev pub shown_mark : code_mark.Slot → Mark
-shown_mark mark.Single = Stays
-shown_mark (mark.Begin kind) = Begins (shown_kind kind)
-shown_mark (mark.End kind) = Ends (shown_kind kind)
-shown_mark mark.Blank = Blank
-
--- spans began at texts in slots before an index, the last first; no text of these ends after an offset
-abbrev pub AreBegun : List Slot → (below end : ℕ) → List ℕ → Type 0
-AreBegun slots below end [] = Unit {0}
-AreBegun slots below end (first ∷ begun) =
-    (first < below) × ((d : Slot) → (get_or slots first d).kind ≡ kind.Text) × ((d : Slot) → (get_or slots first d).end ≤ end) × AreBegun slots first end begun
-
--- the bytes whose marks are still to be written are texts in slots from an index on, one after the other; no text of these ends before an
--- offset
+-- these slots are texts, from an index on, one after the other; no text of these ends before an offset
 abbrev pub AreAhead : List Slot → (from end : ℕ) → List ℕ → Type 0
 AreAhead slots from end [] = Unit {0}
 AreAhead slots from end (at ∷ places) =
     (e : ℕ) × (from ≤ at) × (at < length slots) × ((d : Slot) → (get_or slots at d).kind ≡ kind.Text) × ((d : Slot) → (get_or slots at d).end ≡ e) × (end ≤ e)
     × AreAhead slots (suc at) e places
-
--- the state between two marks, if spans began at these slots
-pub record AreReady (slots : List Slot) (begun places : List ℕ) (marks : List code_mark.Slot) : Type 0 where
-  pub from : ℕ
-  pub end : ℕ
-  pub following : AreBegun slots from end begun
-  pub ahead : AreAhead slots from end places
-  pub whole : AreWhole slots
-  pub kinds : List code_kind.SpanKind
-  pub balanced : AreBalanced kinds marks
-  pub as_many : length kinds ≡ length begun
-
--- no span began at a slot before an index
-abbrev pub BeganFrom : (low : ℕ) → (begun : List ℕ) → Type 0
-BeganFrom low [] = Unit {0}
-BeganFrom low (first ∷ begun) = (low ≤ first) × BeganFrom low begun
 
 -- the slots before an index are unchanged
 abbrev pub SameBefore : (low : ℕ) → (old new : List Slot) → Type 0

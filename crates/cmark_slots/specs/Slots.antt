@@ -4,7 +4,7 @@ use Rattle.std.specs.List.{sum_by}
 use Rattle.std.specs.Str.{IsCharBoundary}
 use Rattle.cmark_leaf_text.specs.Reads.{IsPart}
 use Rattle.cmark_slots.specs.declared.bracket.Bracket.{Bracket}
-use Rattle.cmark_slots.specs.declared.delimiter.PlacedRun.{PlacedRun}
+use Rattle.cmark_emphasis.specs.declared.run.PlacedRun.{PlacedRun}
 use Rattle.cmark_slots.specs.declared.slot.Element.{Element}
 use Rattle.cmark_slots.specs.declared.slot.Element.TheVariants as element
 use Rattle.cmark_slots.specs.declared.slot.Slot.{Slot}

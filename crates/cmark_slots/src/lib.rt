@@ -4,6 +4,7 @@
 
 pub mod bracket;
 pub mod delimiter;
+mod pair;
 pub mod quote;
 pub mod slot;
 pub mod text;

@@ -59,3 +59,9 @@ may_visit text at runs = (if is_some runs.from then 0 else 2 * length text) + 2 
 abbrev pub end_of : (at : ℕ) → Option CodeSpan → ℕ
 end_of at None = at + 1
 end_of at (Some span) = span.end
+
+-- A code span was looked up at this offset, and the next one is looked up after it. The runs looked at for it were counted in the bound before
+pub record VisitsOn (text : List ℕ) (at : ℕ) (old new : BacktickRuns) : Type 0 where
+  pub grows : old.visited ≤ new.visited
+  pub reached : IsReached at old → IsReached (at + 1) new
+  pub most : IsReached at old → at < length text → new.visited ≤ old.visited + may_visit text at old

@@ -1,5 +1,5 @@
 -- The dollar signs of a text, and which of them close a formula (this profile's own).
-use Rattle.std.specs.Prelude.{◌≡◌, ℕ, suc, ◌+◌, ◌-◌, ◌*◌, ◌<◌, ◌≤◌, Bool, true, false, not, ◌==◌, ◌&&◌, nat_le, nat_lt, if◌then◌else◌, List, [], ◌∷◌, ◌++◌, take, drop, reverse, length, get_or, Option, Some, None}
+use Rattle.std.specs.Prelude.{◌≡◌, ℕ, suc, ◌+◌, ◌-◌, ◌*◌, ◌<◌, ◌≤◌, Bool, true, false, not, ◌==◌, ◌&&◌, nat_le, nat_lt, if◌then◌else◌, List, [], ◌∷◌, ◌++◌, take, drop, reverse, length, get_or, slice_index, Option, Some, None}
 use Rattle.std.specs.List.{prefix_len}
 use Rattle.std.specs.Str.{IsCharBoundary}
 use Rattle.cmark_grammar.specs.Formulas as grammar
@@ -45,6 +45,16 @@ pub record AreListed (text : List ℕ) (dollars : Dollars) : Type 0 where
 abbrev pub AreDollarsOf : (text : List ℕ) → Dollars → Type 0
 AreDollarsOf text dollars = dollars.is_listed ≡ true → AreListed text dollars
 
+-- and it is listed
+pub record HasListed (text : List ℕ) (dollars : Dollars) : Type 0 where
+  pub is : dollars.is_listed ≡ true
+  pub table : AreListed text dollars
+
+-- a dollar sign is at this offset
+pub record IsDollarAt (text : List ℕ) (at : ℕ) : Type 0 where
+  pub within : at < length text
+  pub is : slice_index text at ≡ 36
+
 -- ## The number of dollar signs visited
 
 abbrev pub stands_before : (place : ℕ) → Dollar → Bool
@@ -58,6 +68,13 @@ IsReached text at dollars = dollars.is_listed ≡ true → dollars.reached ≤ p
 -- visited twice to list it and once to find it by its offset. For each byte one closing dollar sign may be visited
 abbrev pub may_visit : (text : List ℕ) → (at : ℕ) → Dollars → ℕ
 may_visit text at dollars = (if dollars.is_listed then length (dollars_in text) - dollars.reached else 3 * length text) + (length text - at)
+
+-- A formula was looked up at this offset, and the next one is looked up after it. The dollar signs visited for it were counted in the bound
+-- before
+pub record VisitsOn (text : List ℕ) (at : ℕ) (old new : Dollars) : Type 0 where
+  pub grows : old.visited ≤ new.visited
+  pub reached : IsReached text at old → IsReached text (at + 1) new
+  pub pays : IsReached text at old → new.visited + may_visit text (at + 1) new ≤ old.visited + may_visit text at old
 
 -- the table is listed: nothing changes if it was; otherwise all dollar signs are visited twice
 pub record Lists (text : List ℕ) (old new : Dollars) : Type 0 where

@@ -3,7 +3,7 @@
 ghost use Rattle.std.specs.Prelude.{◌≡◌, ◌≢◌, ◌≤◌, ◌<◌, ◌+◌, ◌-◌, ◌^◌, ◌==◌, true, false, ℕ, List, None, Some, length, drop, get_or, if◌then◌else◌, IfOk, IfSome, OnErr, OnOk, option_map};
 ghost use Rattle.std.specs.Str.{IsCharBoundary};
 ghost use Rattle.cmark_grammar.specs.CodeSpans.{code_in};
-ghost use Rattle.cmark_span_scan.specs.Backticks.{AreRunsOf, IsListed, IsReached, end_of, entries_for, may_visit, runs_in};
+ghost use Rattle.cmark_span_scan.specs.Backticks.{AreRunsOf, IsListed, IsReached, VisitsOn, end_of, entries_for, may_visit, runs_in};
 ghost use Rattle.cmark_span_scan.specs.Shown.{shown_code, IsCodeAt, ClosesFirst};
 
 use crate::code::{CodeSpan, backticks, code_span};
@@ -44,16 +44,13 @@ impl BacktickRuns {
         requires runs { AreRunsOf text.now self.old }
         requires room { self.old.visited < 2 ^ 127 }
         ensures runs { AreRunsOf text.now self.new }
-        ensures reached { IsReached at self.old → IsReached (at + 1) self.new }
-        ensures most { IsReached at self.old → at < length text.now
-            → self.new.visited ≤ self.old.visited + may_visit text.now at self.old }
+        ensures visits { VisitsOn text.now at self.old self.new }
         ensures pays { IsReached at self.old → at < length text.now
             → IfOk result
             (λ found. self.new.visited + may_visit text.now (end_of at found)
             self.new ≤ self.old.visited + may_visit text.now at self.old) }
         ensures least { IfOk result
             (λ found. IfSome found (λ span. self.old.visited < self.new.visited)) }
-        ensures grows { self.old.visited ≤ self.new.visited }
         ensures value { IfOk result
             (λ found. option_map (shown_code text.now) found ≡ code_in (drop at text.now)) }
         ensures places { IfOk result (λ found. IfSome found (IsCodeAt text.now at)) }

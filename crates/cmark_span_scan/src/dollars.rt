@@ -6,7 +6,7 @@ ghost use Rattle.std.specs.Str.{IsCharBoundary};
 ghost use Rattle.cmark_grammar.specs.Formulas.{is_dollar, is_ink, context_of, closes_formula};
 ghost use Rattle.cmark_grammar.specs.Letters.{first_is};
 ghost use Rattle.cmark_grammar.specs.Tokens.{slice};
-ghost use Rattle.cmark_span_scan.specs.Dollars.{AreDollarsOf, AreLinks, IsFormulaAt, IsReached, Lists, braces_at, closing, dollar_here, dollars_in, formula_at, may_visit, shown_braces, shown_formula, signs_of, stands_before};
+ghost use Rattle.cmark_span_scan.specs.Dollars.{AreDollarsOf, AreLinks, HasListed, IsDollarAt, IsFormulaAt, IsReached, Lists, VisitsOn, braces_at, closing, dollar_here, dollars_in, formula_at, shown_braces, shown_formula, signs_of, stands_before};
 
 use crate::braces::Braces;
 use cmark_scan_bytes::bytes::escapes_next;
@@ -79,18 +79,13 @@ impl Dollars {
     // loop.
     #[inline(never)]
     pub fn formula(&mut self, text: &str, at: usize) -> Result<Option<Formula>, AllocError>
-        requires within { at < length text.now }
-        requires dollar { slice_index text.now at ≡ 36 }
+        requires dollar { IsDollarAt text.now at }
         requires dollars { AreDollarsOf text.now self.old }
         requires room { self.old.visited < 2 ^ 127 }
         ensures dollars { AreDollarsOf text.now self.new }
-        ensures reached { IsReached text.now at self.old → IsReached text.now (at + 1) self.new }
-        ensures pays { IsReached text.now at self.old
-            → self.new.visited + may_visit text.now (at + 1) self.new ≤ self.old.visited + may_visit
-            text.now at self.old }
+        ensures visits { VisitsOn text.now at self.old self.new }
         ensures least { IfOk result
             (λ found. IfSome found (λ formula. self.old.visited < self.new.visited)) }
-        ensures grows { self.old.visited ≤ self.new.visited }
         ensures value { IfOk result
             (λ found. option_map (shown_formula text.now) found ≡ formula_at text.now at) }
         ensures kind { IfOk result
@@ -137,15 +132,12 @@ impl Dollars {
 
     /// The offset of the first later dollar sign that is in the same context of braces as the one at `at` and not escaped, if there is one.
     fn closer(&mut self, text: &str, at: usize) -> Option<usize>
-        requires dollars { AreDollarsOf text.now self.old }
-        requires listed { self.old.is_listed ≡ true }
-        requires within { at < length text.now }
-        requires dollar { slice_index text.now at ≡ 36 }
+        requires listed { HasListed text.now self.old }
+        requires dollar { IsDollarAt text.now at }
         requires room { self.old.visited < 2 ^ 127 + 2 ^ 100 }
         ensures value { result
             ≡ closing (at + 1) (context_of (braces_at text.now at)) (dollars_in text.now) }
-        ensures dollars { AreDollarsOf text.now self.new }
-        ensures listed { self.new.is_listed ≡ true }
+        ensures listed { HasListed text.now self.new }
         ensures reached { self.new.reached ≡ prefix_len (stands_before at) (dollars_in text.now) }
         ensures within { self.new.reached < length (dollars_in text.now) }
         ensures pays { IsReached text.now at self.old
@@ -175,8 +167,7 @@ impl Dollars {
     /// after `at`. Dollar signs are usually looked up in order.
     fn index_of(&self, text: &str, at: usize, first: usize) -> usize
         requires listed { self.now.listed.items ≡ dollars_in text.now }
-        requires within { at < length text.now }
-        requires dollar { slice_index text.now at ≡ 36 }
+        requires dollar { IsDollarAt text.now at }
         requires first { prefix_len (stands_before at) self.now.listed.items
             ≡ first + prefix_len (stands_before at) (drop first self.now.listed.items) }
         requires first_within { first ≤ length self.now.listed.items }
@@ -194,8 +185,7 @@ impl Dollars {
     /// An index for `index_of` to begin at: the dollar sign that was looked up last, if it is not after `at`, and otherwise the first.
     fn first_index(&self, text: &str, at: usize) -> usize
         requires listed { self.now.listed.items ≡ dollars_in text.now }
-        requires within { at < length text.now }
-        requires dollar { slice_index text.now at ≡ 36 }
+        requires dollar { IsDollarAt text.now at }
         ensures value { prefix_len (stands_before at) self.now.listed.items
             ≡ result + prefix_len (stands_before at) (drop result self.now.listed.items) }
         ensures within { result ≤ length self.now.listed.items }

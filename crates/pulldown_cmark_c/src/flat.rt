@@ -84,6 +84,10 @@ fn flat_of<E: EntityLookup>(
     flat_of_rest(alloc, &mut iter)
 }
 
+// The list of records begins with room for this many bytes, so that it does not grow for a short text. It is almost the most for which glibc
+// keeps freed memory in its quickest lists.
+const ROOM: usize = 1_024;
+
 /// The flat records of the events that a walk still has to give.
 fn flat_of_rest<'a, E: EntityLookup>(
     alloc: Global,
@@ -92,7 +96,7 @@ fn flat_of_rest<'a, E: EntityLookup>(
     requires { CanGoRanged E.replacement iter.old }
     ensures { IfOk result (λ output. AreFlatOfRest E.replacement iter.old iter.new output.items) }
 {
-    let mut output = Vec::new(alloc);
+    let mut output = Vec::with_capacity(alloc, ROOM)?;
     loop {
         match iter.next_short()? {
             Next::Short(short, start, end) => append_short(&mut output, short, start, end)?,

@@ -2,117 +2,110 @@
 
 use bitflags::Flags;
 use cmark_emphasis::{
-    Flanking, PairingRoom, Run, Slot, SpanKind, flanking_of, quote_characters, quote_of,
-    slots_of_runs,
+    Flanking, Pair, PlacedRun, Run, SpanKind, flanking_of, innermost, pair_runs, pair_two,
+    quote_characters, quote_of,
 };
 use cmark_text::Options;
 use std::alloc::{AllocError, Global};
 use std::test::Fail;
 
+/// A run of `run_length` bytes, the first of which has the slot `slot`. It either opens or closes.
+fn placed(delimiter: u8, slot: usize, run_length: usize, opens: bool) -> PlacedRun {
+    PlacedRun {
+        slot,
+        run: Run {
+            delimiter,
+            run_length,
+            at: slot,
+            left: run_length,
+            opens,
+            closes: !opens,
+        },
+    }
+}
+
 /// `***a** b*`
-const NESTED: [Run; 3] = [
-    Run {
-        delimiter: b'*',
-        run_length: 3,
-        at: 0,
-        left: 3,
-        opens: true,
-        closes: false,
-    },
-    Run {
-        delimiter: b'*',
-        run_length: 2,
-        at: 4,
-        left: 2,
-        opens: false,
-        closes: true,
-    },
-    Run {
-        delimiter: b'*',
-        run_length: 1,
-        at: 8,
-        left: 1,
-        opens: false,
-        closes: true,
-    },
-];
+fn nested() -> [PlacedRun; 3] {
+    [
+        placed(b'*', 0, 3, true),
+        placed(b'*', 4, 2, false),
+        placed(b'*', 8, 1, false),
+    ]
+}
 
 /// `~~a~.~~`, in which the single tilde makes the double ones inactive (this profile's own).
-const SHUT: [Run; 3] = [
-    Run {
-        delimiter: b'~',
-        run_length: 2,
-        at: 0,
-        left: 2,
-        opens: true,
-        closes: false,
-    },
-    Run {
-        delimiter: b'~',
-        run_length: 1,
-        at: 3,
-        left: 1,
-        opens: false,
-        closes: true,
-    },
-    Run {
-        delimiter: b'~',
-        run_length: 2,
-        at: 5,
-        left: 2,
-        opens: false,
-        closes: true,
-    },
-];
-
-fn nested_slots(alloc: Global, room: &mut PairingRoom) -> Result<Vec<Slot>, AllocError> {
-    let mut slots = Vec::new(alloc);
-    slots_of_runs(9, &NESTED, room, &mut slots, &mut 0)?;
-    Ok(slots)
+fn shut() -> [PlacedRun; 3] {
+    [
+        placed(b'~', 0, 2, true),
+        placed(b'~', 3, 1, false),
+        placed(b'~', 5, 2, false),
+    ]
 }
 
-fn inactive_slots(alloc: Global, room: &mut PairingRoom) -> Result<Vec<Slot>, AllocError> {
-    let mut slots = Vec::new(alloc);
-    slots_of_runs(7, &SHUT, room, &mut slots, &mut 0)?;
-    Ok(slots)
+/// The pairs of some runs, with a stack that others used before.
+fn pairs_of(
+    alloc: Global,
+    runs: &[PlacedRun],
+    stack: &mut Vec<Run>,
+) -> Result<Vec<Pair>, AllocError> {
+    let mut pairs = Vec::new(alloc);
+    pair_runs(runs, stack, &mut pairs, &mut 0)?;
+    Ok(pairs)
 }
 
-/// Whether slots are those of strong emphasis inside emphasis.
-fn are_nested(slots: &[Slot]) -> bool {
-    matches!(
-        slots,
-        [
-            Slot::Begin(SpanKind::Emphasis),
-            Slot::Begin(SpanKind::Strong),
-            Slot::Blank,
-            Slot::Single,
-            Slot::Blank,
-            Slot::End(SpanKind::Strong),
-            Slot::Single,
-            Slot::Single,
-            Slot::End(SpanKind::Emphasis),
-        ]
-    )
+/// Whether these are the two pairs of `nested`: the inner two bytes, and then the outer one.
+fn are_nested(pairs: &[Pair]) -> bool {
+    let [inner, outer] = pairs else {
+        return false;
+    };
+    (inner.delimiter, inner.from, inner.to, inner.count) == (b'*', 3, 4, 2)
+        && (outer.delimiter, outer.from, outer.to, outer.count) == (b'*', 1, 8, 1)
 }
 
 #[test]
 fn strong_inside_emphasis(rt: HostRuntime) -> Result<(), Fail> {
-    let mut room = PairingRoom::new(rt.alloc());
-    let slots = nested_slots(rt.alloc(), &mut room)?;
-    assert!(rt; are_nested(&slots));
+    let mut stack = Vec::new(rt.alloc());
+    let pairs = pairs_of(rt.alloc(), &nested(), &mut stack)?;
+    assert!(rt; are_nested(&pairs));
+    assert!(rt; innermost(b'*', 2) == SpanKind::Strong);
+    assert!(rt; innermost(b'*', 1) == SpanKind::Emphasis);
     Ok(())
 }
 
 #[test]
-fn room_serves_again(rt: HostRuntime) -> Result<(), Fail> {
-    let mut room = PairingRoom::new(rt.alloc());
-    let first = nested_slots(rt.alloc(), &mut room)?;
+fn a_stack_serves_again(rt: HostRuntime) -> Result<(), Fail> {
+    let mut stack = Vec::new(rt.alloc());
+    let first = pairs_of(rt.alloc(), &nested(), &mut stack)?;
     assert!(rt; are_nested(&first));
-    let inactive = inactive_slots(rt.alloc(), &mut room)?;
-    assert_eq!(rt; inactive.len(), 7);
-    assert!(rt; inactive.iter().all(|slot| matches!(slot, Slot::Single)));
-    let again = nested_slots(rt.alloc(), &mut room)?;
+    let inactive = pairs_of(rt.alloc(), &shut(), &mut stack)?;
+    assert!(rt; inactive.is_empty());
+    let again = pairs_of(rt.alloc(), &nested(), &mut stack)?;
     assert!(rt; are_nested(&again));
+    Ok(())
+}
+
+#[test]
+fn two_runs_make_a_pair(rt: HostRuntime) -> Result<(), Fail> {
+    // `**a*`
+    let mut examined = 0;
+    let pair = pair_two(
+        placed(b'*', 0, 2, true),
+        placed(b'*', 3, 1, false),
+        &mut examined,
+    );
+    let Some(pair) = pair else {
+        assert!(rt; false);
+        return Ok(());
+    };
+    assert_eq!(rt; (pair.from, pair.to, pair.count), (2, 3, 1));
+    assert_eq!(rt; examined, 1);
+    // `*a_`
+    let other = pair_two(
+        placed(b'*', 0, 1, true),
+        placed(b'_', 2, 1, false),
+        &mut examined,
+    );
+    assert!(rt; other.is_none());
     Ok(())
 }
 

@@ -31,11 +31,11 @@ returns-clause-definitions g c = λ d derives folded.
     let options = shown_options c.args.options in
     let lookup = g.E.EntityLookup.replacement c.args.entities.now in
     let earlier = document (take c.args.from text) options lookup in
-    let leaves = c.in_ok-tree.ensures.document (references earlier) (footnote_labels earlier) c.requires.defined c.requires.labelled in
+    let leaves = c.in_ok-tree.ensures.document (references earlier) (footnote_labels earlier) c.requires.follows.defined c.requires.follows.labelled in
     ap (λ (r : RefDefs). reference_at r folded) (c.new.ensures.definitions ∙ c.new-walk.ensures.definitions)
     ∙ ap (λ (t : Tables). reference_at t.references folded) c.allocations.view_is
     ∙ leaves.references folded
-    ∙ ap (λ (rs : List Reference). first_with fold folded rs) (sym (tail-references text options lookup c.args.from c.requires.joined))
+    ∙ ap (λ (rs : List Reference). first_with fold folded rs) (sym (tail-references text options lookup c.args.from c.requires.follows.joined))
     ∙ ap (λ (e : BlockDocument). first_with fold folded (references e)) (sym (document-only text options lookup d derives))
 
 pub returns-clause-footnotes : goal.returns-clause-footnotes
@@ -44,11 +44,11 @@ returns-clause-footnotes g c = λ d derives folded.
     let options = shown_options c.args.options in
     let lookup = g.E.EntityLookup.replacement c.args.entities.now in
     let earlier = document (take c.args.from text) options lookup in
-    let leaves = c.in_ok-tree.ensures.document (references earlier) (footnote_labels earlier) c.requires.defined c.requires.labelled in
+    let leaves = c.in_ok-tree.ensures.document (references earlier) (footnote_labels earlier) c.requires.follows.defined c.requires.follows.labelled in
     ap (λ (f : FootnoteDefs). footnote f folded) (c.new.ensures.footnotes ∙ c.replace-footnotes.ensures.value)
     ∙ ap (λ (t : Tables). footnote t.footnotes folded) c.allocations.view_is
     ∙ leaves.footnotes folded
-    ∙ ap (λ (ls : List (List ℕ)). unused_if (has_label folded ls)) (sym (tail-footnotes text options lookup c.args.from c.requires.joined))
+    ∙ ap (λ (ls : List (List ℕ)). unused_if (has_label folded ls)) (sym (tail-footnotes text options lookup c.args.from c.requires.follows.joined))
     ∙ ap (λ (e : BlockDocument). unused_if (has_label folded (footnote_labels e))) (sym (document-only text options lookup d derives))
 
 pub returns-clause-reads : goal.returns-clause-reads
@@ -58,12 +58,12 @@ returns-clause-reads g c =
     let options = shown_options c.args.options in
     let replacement = g.E.EntityLookup.replacement in
     let lookup = replacement c.args.entities.now in
-    let h = c.requires.joined in
+    let h = c.requires.follows.joined in
     let earlier = document (take from text) options lookup in
     let d = document text options lookup in
     let rest = document_after text options lookup from in
     let left = segments rest in
-    let leaves = c.in_ok-tree.ensures.document (references earlier) (footnote_labels earlier) c.requires.defined c.requires.labelled in
+    let leaves = c.in_ok-tree.ensures.document (references earlier) (footnote_labels earlier) c.requires.follows.defined c.requires.follows.labelled in
     let drawing = (pass_after text options lookup from (references earlier) (footnote_labels earlier)).drawing.here in
     let shown = ap (λ (t : Tables). shown_forest text t.texts leaves.forest) c.allocations.view_is in
     let drawn =
@@ -71,12 +71,12 @@ returns-clause-reads g c =
     (drawing-edges drawing rest leaves.settles _ (tail-edges text options lookup from h c.utf8.text)) in
     let remains = subst (Remains c.new-walk.result) (ap segments leaves.settles ∙ whole-segments rest (tail-whole text options lookup from h)) drawn in
     let n = c.new.ensures in
-    let entities = ap replacement n.entities in
+    let entities = ap replacement n.settings.entities in
     let parser : Parser _ _ = record { spans = c.new.result; is_over = false } in
     let placed = rest-placed replacement parser text options lookup from h c.utf8.text in
-    let same = begin-same replacement parser text options lookup n.source n.options entities (returns-clause-definitions g c d (derived text options lookup)) (returns-clause-footnotes g c d (derived text options lookup)) in
+    let same = begin-same replacement parser text options lookup n.source n.settings.options entities (returns-clause-definitions g c d (derived text options lookup)) (returns-clause-footnotes g c d (derived text options lookup)) in
     let begins = n.begins (reader_by text options lookup) left remains c.new-walk.ensures.text (rest-few replacement parser text options lookup from h) (rest-extents replacement parser text options lookup from h) placed same in
-    reads-rest replacement parser text options lookup from c.args.limit refl (begin-reader replacement parser text options lookup n.source n.options entities (returns-clause-definitions g c d (derived text options lookup)) (returns-clause-footnotes g c d (derived text options lookup))) n.expansion_left placed begins.1
+    reads-rest replacement parser text options lookup from c.args.limit refl (begin-reader replacement parser text options lookup n.source n.settings.options entities (returns-clause-definitions g c d (derived text options lookup)) (returns-clause-footnotes g c d (derived text options lookup))) n.settings.expansion_left placed begins.1
     (λ exchanges events m. n.reads (reader_by text options lookup) left exchanges events remains m)
 
 pub returns-clause-goes : goal.returns-clause-goes

@@ -44,14 +44,14 @@ returns-clause-reads g c =
     (drawing-edges drawing rest leaves.settles _ (after-edges text from begins.0 options lookup c.utf8.text begins)) in
     let remains = subst (Remains c.new-walk.result) (ap segments leaves.settles ∙ whole-segments rest (after-whole text from begins.0 options lookup)) drawn in
     let n = c.new.ensures in
-    let entities = ap replacement n.entities in
+    let entities = ap replacement n.settings.entities in
     let parser : Parser _ _ = record { spans = c.new.result; is_over = false } in
     let placed = undefined-placed replacement parser text options lookup from c.utf8.text begins in
     let none = (n.definitions ∙ c.new-walk.ensures.definitions) ∙ ap (λ (t : Tables). t.references) c.allocations.view_is ∙ empty.0 in
     let unlabelled = (n.footnotes ∙ c.replace-footnotes.ensures.value) ∙ ap (λ (t : Tables). t.footnotes) c.allocations.view_is ∙ empty.1 in
-    let same = undefined-same replacement parser text options lookup from n.source n.options entities none unlabelled in
+    let same = undefined-same replacement parser text options lookup from n.source n.settings.options entities none unlabelled in
     let starts = n.begins (undefined_reader text options lookup) left remains c.new-walk.ensures.text (undefined-few replacement parser text options lookup from begins.0) (after-extents text from begins.0 options lookup) placed same in
-    reads-undefined replacement parser text options lookup from c.args.limit refl (undefined-reader replacement parser text options lookup from n.source n.options entities none unlabelled) n.expansion_left placed starts.1
+    reads-undefined replacement parser text options lookup from c.args.limit refl (undefined-reader replacement parser text options lookup from n.source n.settings.options entities none unlabelled) n.settings.expansion_left placed starts.1
     (λ exchanges events m. n.reads (undefined_reader text options lookup) left exchanges events remains m)
 
 pub returns-clause-goes : goal.returns-clause-goes

@@ -23,8 +23,8 @@ loop-output-preserved g c =
     let kept = long_kept says-nothing replacement first.parser iter.parser mid.parser c.loop-output.output.items c.loop-output.invariant.0 h in
     (event_more says-nothing replacement first.parser mid.parser new.parser c.in_ok-given-in-Long.given c.loop-output.output.items c.append_given.new.out.items kept c.in_ok-given-in-Long.ensures.gives c.in_ok-append_given-in-Long.ensures, c.in_ok-given-in-Long.ensures.ready)
 
-pub loop-output-preserved-in-Continue-branch-3 : goal.loop-output-preserved-in-Continue-branch-3
-loop-output-preserved-in-Continue-branch-3 g c =
+pub loop-output-preserved-in-Continue-branch-4 : goal.loop-output-preserved-in-Continue-branch-4
+loop-output-preserved-in-Continue-branch-4 g c =
     let replacement = g.E.EntityLookup.replacement in
     let iter = c.loop-output.iter in
     let new = c.next_short.new.self in

@@ -2,7 +2,7 @@ use Rattle.std.proofs.Common.{◌≡◌, ◌<◌, false, length, refl, sym, subs
 use Rattle.std.specs.Prelude.{IfSome}
 use Rattle.cmark_line_rules.specs.Rests.{row_of}
 use Rattle.cmark_blocks.specs.Entered.{BeginsFirst}
-use Rattle.cmark_blocks.specs.declared.state.OpenLeaf.TheVariants as leaf
+use Rattle.cmark_blocks.specs.Runs.{CanBegin}
 use Rattle.cmark_leaf_nodes.specs.TextColumns.{IsRead}
 use Rattle.cmark_blocks.proofs.LineSteps.{begins-start, begins-step, begins-end}
 use Rattle.cmark_blocks.proofs.state.Pass.begin_blocks.Goals as goal
@@ -14,8 +14,8 @@ pub loop-inside-preserved : goal.loop-inside-preserved
 loop-inside-preserved g c = (
   c.begin_first.ensures.good,
   subst (λ t. IsRead t.now c.in-Some.inside) (sym c.begin_first.ensures.text) (subst (λ o. IfSome o (λ i. IsRead c.loop-inside.self.text.now i.0)) c.in-Some.is c.in_ok-inside.ensures.line),
-  subst (λ o. IfSome o (λ i. c.begin_first.new.self.leaf ≡ leaf.Closed)) c.in-Some.is c.in_ok-inside.ensures.leaf,
-  subst (λ o. IfSome o (λ i. c.begin_first.new.self.bare ≡ false)) c.in-Some.is c.in_ok-inside.ensures.bare,
+  (subst (λ o. IfSome o (λ i. CanBegin c.begin_first.new.self)) c.in-Some.is c.in_ok-inside.ensures.can).closed,
+  (subst (λ o. IfSome o (λ i. CanBegin c.begin_first.new.self)) c.in-Some.is c.in_ok-inside.ensures.can).bare,
   c.begin_first.ensures.text ∙ c.loop-inside.invariant.4,
   begins-step g.E.EntityLookup.replacement c.args.line c.args.self.now c.loop-inside.rest c.in-Some.inside c.loop-inside.bare c.in-Some.item c.loop-inside.self c.begin_first.new.self c.loop-inside.invariant.5
       (subst (λ o. BeginsFirst g.E.EntityLookup.replacement c.loop-inside.bare c.loop-inside.rest o c.loop-inside.self c.begin_first.new.self) c.in-Some.is c.in_ok-inside.ensures.runs)

@@ -28,11 +28,11 @@ begin_task-requires-clause-line g c =
     let row = row_of c.args.rest in
     let inside = c.in-Item.inside in
     let read = sym (c.task_marker-task.ensures.task options (sym c.reads_tasklists.ensures)) ∙ ap (option_map is_checked) c.in-Some.is in
-    let is_inside = subst (λ s. Enters row s) c.in-Item.is c.requires.enters options in
+    let is_inside = subst (λ s. Enters row s) c.in-Item.is c.requires.start.enters options in
     let is_after = subst (λ o. IfSome o (IsAfterBox (row_of inside))) c.in-Some.is c.task_marker-task.ensures.following in
     let in_text = subst (λ (s : Row). StandInText text s.columns) (sym is_inside) (without-in_text text (marker_width (shown_start options row (begun.Item c.in-Item.item inside)) row) row c.requires.line.in_text) in
     subst (λ t. IsRead t.now c.in-Some.following) (sym c.in_ok-begin_item-in-Item.ensures.text)
-    (box-read text options inside c.in-Some.following c.in-Some.is_checked read is_after (subst (λ s. IsIn text (inside_of s)) c.in-Item.is c.requires.placed) in_text)
+    (box-read text options inside c.in-Some.following c.in-Some.is_checked read is_after (subst (λ s. IsIn text (inside_of s)) c.in-Item.is c.requires.start.placed) in_text)
 
 pub returns-then-is_some-clause-runs : goal.returns-then-is_some-clause-runs
 returns-then-is_some-clause-runs g c text options lookup m runs =
@@ -70,7 +70,7 @@ returns-in-Some-clause-runs g c text options lookup m runs =
     let checked = c.in-Some.is_checked in
     let read = sym (c.task_marker-task.ensures.task options (ap (λ (o : Options). o.tasklists) (sym runs.options_is) ∙ sym c.reads_tasklists.ensures)) ∙ ap (option_map is_checked) c.in-Some.is in
     let same = ap (shown_start options row) c.in-Item.is ∙ ap (Item item.delimiter item.number item.width) read in
-    let is_inside = subst (λ s. Enters row s) c.in-Item.is c.requires.enters options in
+    let is_inside = subst (λ s. Enters row s) c.in-Item.is c.requires.start.enters options in
     let is_after = subst (λ o. IfSome o (IsAfterBox inside)) c.in-Some.is c.task_marker-task.ensures.following in
     let begun = c.in_ok-begin_task-in-Item.ensures.runs text options lookup _ (c.in_ok-begin_item-in-Item.ensures.runs (Some checked) text options lookup m runs) in (
       ap takes_line same,

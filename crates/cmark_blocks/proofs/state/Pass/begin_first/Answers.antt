@@ -20,19 +20,15 @@ use Rattle.cmark_blocks.specs.Runs.{Runs}
 use Rattle.cmark_blocks.proofs.LineSteps.{start-numbered, start-marked, start-enters, container-begins, container-read, leaf-begins, metadata-begins}
 use Rattle.cmark_blocks.proofs.state.Pass.begin_first.Goals as goal
 
-pub begin_container-requires-clause-number : goal.begin_container-requires-clause-number
-begin_container-requires-clause-number g c = start-numbered (shown_options c.args.self.now.options) (row_of c.args.rest) c.what_opens-opening.result c.in-Nests.start c.what_opens-opening.ensures.opens c.in-Nests.is
-
-pub begin_container-requires-clause-marker : goal.begin_container-requires-clause-marker
-begin_container-requires-clause-marker g c = start-marked (row_of c.args.rest) c.what_opens-opening.result c.in-Nests.start c.in-Nests.is c.what_opens-opening.ensures.marker
-
-pub begin_container-requires-clause-enters : goal.begin_container-requires-clause-enters
-begin_container-requires-clause-enters g c = start-enters (row_of c.args.rest) c.what_opens-opening.result c.in-Nests.start c.in-Nests.is c.what_opens-opening.ensures.inside
-
-pub begin_container-requires-clause-placed : goal.begin_container-requires-clause-placed
-begin_container-requires-clause-placed g c =
+pub begin_container-requires-clause-start : goal.begin_container-requires-clause-start
+begin_container-requires-clause-start g c =
     let text = c.args.self.now.text.now in
-    subst (InsideIsIn text) c.in-Nests.is (c.what_opens-opening.ensures.placed text c.requires.line.placed)
+    record {
+      number = start-numbered (shown_options c.args.self.now.options) (row_of c.args.rest) c.what_opens-opening.result c.in-Nests.start c.what_opens-opening.ensures.opens c.in-Nests.is;
+      marker = start-marked (row_of c.args.rest) c.what_opens-opening.result c.in-Nests.start c.in-Nests.is c.what_opens-opening.ensures.marker;
+      enters = start-enters (row_of c.args.rest) c.what_opens-opening.result c.in-Nests.start c.in-Nests.is c.what_opens-opening.ensures.inside;
+      placed = subst (InsideIsIn text) c.in-Nests.is (c.what_opens-opening.ensures.placed text c.requires.line.placed);
+    }
 
 pub returns-in-Nests-clause-runs : goal.returns-in-Nests-clause-runs
 returns-in-Nests-clause-runs g c =
@@ -84,6 +80,5 @@ returns g c = record {
   line = tt;
   shorter = tt;
   text = c.begin_leaf.ensures.text;
-  leaf = tt;
-  bare = tt;
+  can = tt;
 }

@@ -1,6 +1,7 @@
-use Rattle.std.proofs.Common.{◌≤◌, ◌≡◌, None, List, length, subst, arith}
+use Rattle.std.proofs.Common.{◌≤◌, ◌≡◌, suc, ◌∷◌, None, List, length, subst, arith}
 use Rattle.std.proofs.lemmas.Result.{on_ok_weaker}
-use Rattle.cmark_grammar.specs.TableRows.{table_head}
+use Rattle.cmark_grammar.specs.Openings.{count_rows}
+use Rattle.cmark_grammar.specs.TableRows.{most_filled, table_head}
 use Rattle.cmark_line_rules.specs.Rests.{row_of}
 use Rattle.cmark_block_model.specs.BlockPass.{ahead_in}
 use Rattle.cmark_block_model.specs.OpenBlocks as model
@@ -24,7 +25,7 @@ returns-in-Some-clause-runs g c =
     let head = subst (λ (ms : List model.OpenContainer). IsHead options row (ahead_in text options lookup ms (lines_at text row.line_end)) c.in-Some.columns next (ahead_in text options lookup ms (lines_at text next.line_end)))
     (shows-all cs m.outer c.len.result runs.outer all).0 (c.in-Some.ensures.tells text options lookup m runs) in
     subst (λ p. Runs g.E.EntityLookup.replacement text options lookup p c.begin_table.new.self)
-    (begins-table text options lookup m inside row ahead bare c.in-Some.columns next following head) (begins text options lookup m runs head.many))
+    (begins-table text options lookup m inside row ahead bare c.in-Some.columns next following head) (begins text options lookup m (suc (count_rows options c.in-Some.columns most_filled following)) (next ∷ following) runs head.many))
     c.begin_table.ensures.runs
 
 pub returns-in-None-clause-runs : goal.returns-in-None-clause-runs

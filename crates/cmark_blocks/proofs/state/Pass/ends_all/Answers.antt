@@ -20,5 +20,6 @@ returns-then-is_empty g c text options lookup m runs =
     let none : vec_len outer ≡ 0 = is-zero (vec_len outer) (sym c.is_empty.ensures ∙ c.if-is_empty.true) in
     let empty = none-open outer.items m.outer (omega (arith, none, outer.ok.0)) runs.outer in
     c.ends_leaf.ensures text c.args.self.now.blank_lines.items m.leaf runs.leaf
-    ∙ ap (λ b. ends_leaf b m.leaf r) (c.ends_paragraph-by.ensures text options lookup m runs)
+    ∙ ap (λ o. ends_leaf o c.ends_paragraph-by.result m.leaf r) runs.options_is
+    ∙ ap (λ b. ends_leaf options b m.leaf r) (c.ends_paragraph-by.ensures text options lookup m runs)
     ∙ ap (λ l. ends_outer text options lookup l m.bare m.leaf r next) (sym empty)

@@ -8,8 +8,11 @@ use Rattle.cmark_text.specs.declared.short.Next.{Next}
 use Rattle.cmark_event_walk.specs.Walking.{ComesLong, GivesInLeaf, IsLongIn, KeepsAfterLeaf, LeavesFewer, LeavesLeaf, opened_of, source_of}
 use Rattle.cmark_event_walk.proofs.EndSteps.{closed-keeps, spans-begin}
 use Rattle.cmark_event_walk.proofs.Readings.{closed-passes, passes-none, spanned}
-use Rattle.cmark_event_walk.proofs.Walks.{before-over, closed-at, given-left, spanned-at}
+use Rattle.cmark_event_walk.proofs.Walks.{before-over, closed-at, given-left, over-leaf, spanned-at}
 use Rattle.cmark_event_walk.proofs.span_walk.SpanWalk.next_in_leaf.Goals as goal
+
+pub next_short-requires : goal.next_short-requires
+next_short-requires g c = record { over = over-leaf c.args.self.now c.requires.0 c.requires.1 c.if-not-self.false }
 
 pub returns-then-not-self-clause-given : goal.returns-then-not-self-clause-given
 returns-then-not-self-clause-given g c = λ reader r. passes-none g.F.BrokenLinkCallback.answers g.E.EntityLookup.replacement reader c.args.self.now r
@@ -35,11 +38,10 @@ returns-in-Over-clause-kept g c = λ reader.
     let h = subst (λ (n : Next). IsNextFirst (source_of walk) (opened_of walk) n c.next_short.new.self.walk.opened.items (events_to_come walk.leaf walk.events) (events_to_come walk.leaf c.next_short.new.self)) c.in-Over.is e.events in
     closed-keeps g.E.EntityLookup.replacement reader walk c.next_short.new.self c.if-not-self.false h.0
 
-pub returns-in-Over-clause-most : goal.returns-in-Over-clause-most
-returns-in-Over-clause-most g c = omega (arith, c.in-Ok.ensures.most)
-
-pub returns-in-Over-clause-few : goal.returns-in-Over-clause-few
-returns-in-Over-clause-few g c = λ inside. c.in-Ok.ensures.few
+pub returns-in-Over-clause-fewer : goal.returns-in-Over-clause-fewer
+returns-in-Over-clause-fewer g c =
+    let most = c.in-Ok.ensures.fewer.most in
+    record { fewer = tt; most = omega (arith, most); few = λ inside. c.in-Ok.ensures.fewer.few; slots = c.in-Ok.ensures.slots }
 
 -- the leaf has a next event
 pub returns-clause-stands : goal.returns-clause-stands
@@ -94,15 +96,16 @@ returns-clause-kept g c = λ reader. before-over (λ n. KeepsAfterLeaf g.E.Entit
 pub returns-clause-fewer : goal.returns-clause-fewer
 returns-clause-fewer g c =
     let e = c.in-Ok.ensures in
-    before-over (λ n. LeavesFewer c.args.self.now n (record c.args.self.now { events = c.next_short.new.self })) c.in-Ok.next c.in_default-next.not-Over
-    (λ short start end is. let fewer = subst (λ n. LeavesFewerSpans c.args.self.now.events n c.next_short.new.self) is e.fewer in omega (arith, fewer))
-    (λ is. let most = e.most in omega (arith, most))
-
-pub returns-clause-most : goal.returns-clause-most
-returns-clause-most g c = omega (arith, c.in-Ok.ensures.most)
-
-pub returns-clause-few : goal.returns-clause-few
-returns-clause-few g c = λ inside. c.in-Ok.ensures.few
+    let most = e.fewer.most in
+    record {
+      fewer =
+          before-over (λ n. LeavesFewer c.args.self.now n (record c.args.self.now { events = c.next_short.new.self })) c.in-Ok.next c.in_default-next.not-Over
+          (λ short start end is. let fewer = subst (λ n. LeavesFewerSpans c.args.self.now.events n c.next_short.new.self) is e.fewer.fewer in omega (arith, fewer))
+          (λ is. omega (arith, most));
+      most = omega (arith, most);
+      few = λ inside. e.fewer.few;
+      slots = e.slots;
+    }
 
 -- the walk is in no leaf, and nothing changes
 pub returns-then-not-self-clause-around : goal.returns-then-not-self-clause-around

@@ -58,17 +58,17 @@ returns-in-Short-clause-fewer g c =
     let head = c.loop-span.self in
     let new = c.next_in_leaf.new.self in
     let e = c.in-Ok.ensures in
-    less-since c.args.self.now head new c.loop-span.invariant.lasts (subst (λ (n : Next). LeavesFewer head n new) c.in-Short.is e.fewer) e.few e.slots e.around.budget
+    less-since c.args.self.now head new c.loop-span.invariant.lasts (subst (λ (n : Next). LeavesFewer head n new) c.in-Short.is e.fewer.fewer) e.fewer.few e.fewer.slots e.around.budget
 
 pub returns-in-Long-clause-fewer : goal.returns-in-Long-clause-fewer
 returns-in-Long-clause-fewer g c =
     let e = c.in-Ok.ensures in
-    most-since c.args.self.now c.loop-span.self c.next_in_leaf.new.self c.loop-span.invariant.lasts e.most e.few e.slots e.around.budget
+    most-since c.args.self.now c.loop-span.self c.next_in_leaf.new.self c.loop-span.invariant.lasts e.fewer.most e.fewer.few e.fewer.slots e.around.budget
 
 pub returns-in-Long-met-clause-fewer : goal.returns-in-Long-met-clause-fewer
 returns-in-Long-met-clause-fewer g c =
     let e = c.in-Ok.ensures in
-    most-since c.args.self.now c.loop-span.self c.next_in_leaf.new.self c.loop-span.invariant.lasts e.most e.few e.slots e.around.budget
+    most-since c.args.self.now c.loop-span.self c.next_in_leaf.new.self c.loop-span.invariant.lasts e.fewer.most e.fewer.few e.fewer.slots e.around.budget
 
 pub returns-in-Short-met-clause-stands : goal.returns-in-Short-met-clause-stands
 returns-in-Short-met-clause-stands g c =
@@ -127,7 +127,7 @@ returns-in-Short-met-clause-fewer g c =
     let given = subst (λ (b : Brief). walking.GivesBrief mid.walk b lines.items walk) c.in-Short-met.is m.given in
     let one : Ranged = ranged_short c.in-Short-met.short c.in-Short-met.start c.in-Short-met.end in
     let first = given.gives s.0 s.1.blocks.remains in
-    met-fewer mid walk lines out m.text old head _ s.0 (GivenOf one) first.0 s.1 first.1 c.loop-span.invariant.lasts e.most e.few e.slots e.around.budget refl
+    met-fewer mid walk lines out m.text old head _ s.0 (GivenOf one) first.0 s.1 first.1 c.loop-span.invariant.lasts e.fewer.most e.fewer.few e.fewer.slots e.around.budget refl
 
 pub plain_text-requires : goal.plain_text-requires
 plain_text-requires g c κs =
@@ -201,7 +201,7 @@ returns-in-One-clause-fewer g c =
     let s = e.stands in
     let given = subst (λ (b : Brief). walking.GivesBrief mid.walk b lines.items walk) c.in-Leaf.is m.given in
     let gives = given s.0 s.1.blocks.remains in
-    met-fewer mid walk lines out m.text old head _ s.0 (Content gives.0) gives.1 s.1 gives.2 c.loop-span.invariant.lasts e.most e.few e.slots e.around.budget refl
+    met-fewer mid walk lines out m.text old head _ s.0 (Content gives.0) gives.1 s.1 gives.2 c.loop-span.invariant.lasts e.fewer.most e.fewer.few e.fewer.slots e.around.budget refl
 
 pub returns-in-Several-clause-stands : goal.returns-in-Several-clause-stands
 returns-in-Several-clause-stands g c =
@@ -261,7 +261,7 @@ returns-in-Several-clause-fewer g c =
     let s = e.stands in
     let given = subst (λ (b : Brief). walking.GivesBrief mid.walk b lines.items walk) c.in-Leaf.is m.given in
     let gives = given s.0 s.1.blocks.remains in
-    met-fewer mid walk lines out m.text old head _ s.0 (Content gives.0) gives.1 s.1 gives.2 c.loop-span.invariant.lasts e.most e.few e.slots e.around.budget refl
+    met-fewer mid walk lines out m.text old head _ s.0 (Content gives.0) gives.1 s.1 gives.2 c.loop-span.invariant.lasts e.fewer.most e.fewer.few e.fewer.slots e.around.budget refl
 
 one-not-several : count.One ≡ count.Several → ⊥
 one-not-several e = true≢false (ap is_one e)
@@ -307,8 +307,8 @@ loop-span-preserved g c =
     let before = before-leaf mid walk lines out m.text c.in-Leaf.is_cell _ s.0 gives.0 gives.1 s.1 gives.2 gives.3 gives.4 gives.5 refl in
     record {
       ready = entered.ready;
-      lasts = lasts-leaf mid walk lines out m.text old head new s.0 gives.0 gives.1 s.1 c.loop-span.invariant.lasts e.around.budget (entered.definitions ∙ m.definitions ∙ e.around.definitions)
-          (λ folded. entered.footnotes folded ∙ ap (λ t. is_some (footnote t folded)) e.around.footnotes) e.around.source gives.2 (entered.enters gives.0 gives.1 before) entered.source entered.budget;
+      lasts = lasts-leaf mid walk lines out m.text old head new s.0 gives.0 gives.1 s.1 c.loop-span.invariant.lasts e.around.budget (entered.keeps.definitions ∙ m.definitions ∙ e.around.definitions)
+          (λ folded. entered.keeps.footnotes folded ∙ ap (λ t. is_some (footnote t folded)) e.around.footnotes) e.around.source gives.2 (entered.enters gives.0 gives.1 before) entered.keeps.source entered.budget;
       reads = λ reader r.
           let p = c.loop-span.invariant.reads reader r in
           let none = subst (λ (n : Next). GivesInLeaf g.F.BrokenLinkCallback.answers g.E.EntityLookup.replacement reader head n mid) c.in-Over.is (e.given reader p.read_by) in
@@ -396,71 +396,63 @@ returns-in-Over-met-clause-given g c = λ reader r.
     let gives = given by.left by.stands.blocks.remains in
     ends-on g.F.BrokenLinkCallback.answers g.E.EntityLookup.replacement reader old mid _ q (over-ends g.F.BrokenLinkCallback.answers g.E.EntityLookup.replacement reader mid walk lines out m.text m.definitions by gives.0)
 
-pub returns-in_default-clause-ends : goal.returns-in_default-clause-ends
-returns-in_default-clause-ends g c = (λ reader exchanges events m b. c.in_default.ensures.ends reader exchanges events (c.loop-span.invariant.ends reader exchanges events m b) b)
+pub returns-in_default-clause-refused : goal.returns-in_default-clause-refused
+returns-in_default-clause-refused g c =
+    record {
+      ends = (λ reader exchanges events m b. c.in_default.ensures.ends reader exchanges events (c.loop-span.invariant.ends reader exchanges events m b) b);
+      asked = (asked-same g.F.BrokenLinkCallback.answers c.args.self.now.callback c.loop-span.self.callback c.next_in_leaf.new.self.callback c.loop-span.invariant.asked c.in_default.ensures.around.callback);
+      stops = λ reader r.
+          stops-here g.F.BrokenLinkCallback.answers g.E.EntityLookup.replacement reader c.args.self.now c.loop-span.self c.next_in_leaf.new.self (c.loop-span.invariant.reads reader r) c.in_default.ensures.around.callback;
+    }
 
-pub returns-in_default-next_short-clause-ends : goal.returns-in_default-next_short-clause-ends
-returns-in_default-next_short-clause-ends g c = (λ reader exchanges events m b.
-    let head = c.loop-span.self in
-    let mid = c.next_in_leaf.new.self in
-    let e = c.in-Ok.ensures in
-    let out = subst (λ (n : Next). LeavesLeaf n mid) c.in-Over.is e.outside in
-    let keeps = subst (λ (x : Next). KeepsAfterLeaf g.E.EntityLookup.replacement reader head x mid) c.in-Over.is (e.kept reader) in
-    blocks-begin g.E.EntityLookup.replacement reader mid out c.in_default-next_short.ensures.ends exchanges events (keeps exchanges events (c.loop-span.invariant.ends reader exchanges events m b)) b)
+pub returns-in_default-next_short-clause-refused : goal.returns-in_default-next_short-clause-refused
+returns-in_default-next_short-clause-refused g c =
+    record {
+      ends = (λ reader exchanges events m b.
+          let head = c.loop-span.self in
+          let mid = c.next_in_leaf.new.self in
+          let e = c.in-Ok.ensures in
+          let out = subst (λ (n : Next). LeavesLeaf n mid) c.in-Over.is e.outside in
+          let keeps = subst (λ (x : Next). KeepsAfterLeaf g.E.EntityLookup.replacement reader head x mid) c.in-Over.is (e.kept reader) in
+          blocks-begin g.E.EntityLookup.replacement reader mid out c.in_default-next_short.ensures.ends exchanges events (keeps exchanges events (c.loop-span.invariant.ends reader exchanges events m b)) b);
+      asked = (asked-same g.F.BrokenLinkCallback.answers c.args.self.now.callback c.loop-span.self.callback c.next_in_leaf.new.self.callback c.loop-span.invariant.asked c.in-Ok.ensures.around.callback);
+      stops = λ reader r.
+          stops-here g.F.BrokenLinkCallback.answers g.E.EntityLookup.replacement reader c.args.self.now c.loop-span.self _ (c.loop-span.invariant.reads reader r) c.in-Ok.ensures.around.callback;
+    }
 
-pub returns-in_err-enter_leaf-in-Leaf-clause-ends : goal.returns-in_err-enter_leaf-in-Leaf-clause-ends
-returns-in_err-enter_leaf-in-Leaf-clause-ends g c = on-err c.from_residual.result _ (λ reader exchanges events n b.
-    let head = c.loop-span.self in
-    let mid = c.next_in_leaf.new.self in
-    let e = c.in-Ok.ensures in
-    let out = subst (λ (n : Next). LeavesLeaf n mid) c.in-Over.is e.outside in
-    let keeps = subst (λ (x : Next). KeepsAfterLeaf g.E.EntityLookup.replacement reader head x mid) c.in-Over.is (e.kept reader) in
-    let kept = keeps exchanges events (c.loop-span.invariant.ends reader exchanges events n b) in
-    let by = kept.read_by in
-    let given = subst (λ (b : Brief). walking.GivesBrief mid.walk b c.next_short.new.lines.items c.next_short.new.self) c.in-Leaf.is c.in-Ok-next_short.ensures.given in
-    let met = given by.left by.stands.blocks.remains in
-    text-begins g.E.EntityLookup.replacement reader mid out by met.0 met.1 met.2 (λ empty. c.in_err-enter_leaf-in-Leaf.ensures.lines (met.3.are ∙ ap lines_of empty)) exchanges events kept b)
-
-pub returns-in_default-clause-asked : goal.returns-in_default-clause-asked
-returns-in_default-clause-asked g c =
-    (asked-same g.F.BrokenLinkCallback.answers c.args.self.now.callback c.loop-span.self.callback c.next_in_leaf.new.self.callback c.loop-span.invariant.asked c.in_default.ensures.around.callback)
-
-pub returns-in_default-next_short-clause-asked : goal.returns-in_default-next_short-clause-asked
-returns-in_default-next_short-clause-asked g c =
-    (asked-same g.F.BrokenLinkCallback.answers c.args.self.now.callback c.loop-span.self.callback c.next_in_leaf.new.self.callback c.loop-span.invariant.asked c.in-Ok.ensures.around.callback)
-
-pub returns-in_err-enter_leaf-in-Leaf-clause-asked : goal.returns-in_err-enter_leaf-in-Leaf-clause-asked
-returns-in_err-enter_leaf-in-Leaf-clause-asked g c =
-    on-err c.from_residual.result _
-    (asked-on g.F.BrokenLinkCallback.answers c.args.self.now.callback c.loop-span.self.callback c.next_in_leaf.new.self.callback c.enter_leaf.new.self.callback c.loop-span.invariant.asked c.in-Ok.ensures.around.callback c.in_err-enter_leaf-in-Leaf.ensures.asked)
-
-pub returns-in_default-clause-stops : goal.returns-in_default-clause-stops
-returns-in_default-clause-stops g c = λ reader r.
-    stops-here g.F.BrokenLinkCallback.answers g.E.EntityLookup.replacement reader c.args.self.now c.loop-span.self c.next_in_leaf.new.self (c.loop-span.invariant.reads reader r) c.in_default.ensures.around.callback
-
-pub returns-in_default-next_short-clause-stops : goal.returns-in_default-next_short-clause-stops
-returns-in_default-next_short-clause-stops g c = λ reader r.
-    stops-here g.F.BrokenLinkCallback.answers g.E.EntityLookup.replacement reader c.args.self.now c.loop-span.self _ (c.loop-span.invariant.reads reader r) c.in-Ok.ensures.around.callback
-
-pub returns-in_err-enter_leaf-in-Leaf-clause-stops : goal.returns-in_err-enter_leaf-in-Leaf-clause-stops
-returns-in_err-enter_leaf-in-Leaf-clause-stops g c = λ reader r. on-err c.from_residual.result _
-    (let head = c.loop-span.self in
-    let mid = c.next_in_leaf.new.self in
-    let walk = c.next_short.new.self in
-    let lines = c.next_short.new.lines in
-    let e = c.in-Ok.ensures in
-    let m = c.in-Ok-next_short.ensures in
-    let out = subst (λ (n : Next). LeavesLeaf n mid) c.in-Over.is e.outside in
-    let p = c.loop-span.invariant.reads reader r in
-    let none = subst (λ (n : Next). GivesInLeaf g.F.BrokenLinkCallback.answers g.E.EntityLookup.replacement reader head n mid) c.in-Over.is (e.given reader p.read_by) in
-    let q = passes-on g.F.BrokenLinkCallback.answers g.E.EntityLookup.replacement reader c.args.self.now head mid [] p none in
-    let by = q.read_by in
-    let given = subst (λ (b : Brief). walking.GivesBrief mid.walk b lines.items walk) c.in-Leaf.is m.given in
-    let met = given by.left by.stands.blocks.remains in
-    let here = before-leaf mid walk lines out m.text c.in-Leaf.is_cell _ by.left met.0 met.1 by.stands met.2 met.3 met.4 met.5 refl in
-    let placed : ArePlaced reader (Content met.0 ∷ met.1) = subst (ArePlaced reader) met.2 by.placed in
-    stops-leaf g.F.BrokenLinkCallback.answers g.E.EntityLookup.replacement reader c.args.self.now mid c.enter_leaf.new.self met.0 met.1 out q met.2
-    (c.in_err-enter_leaf-in-Leaf.ensures.stops reader met.0 met.1 here placed.0 (met-same g.F.BrokenLinkCallback.answers g.E.EntityLookup.replacement reader mid walk lines out m.text m.definitions _ by.same)))
+pub returns-in_err-enter_leaf-in-Leaf-clause-refused : goal.returns-in_err-enter_leaf-in-Leaf-clause-refused
+returns-in_err-enter_leaf-in-Leaf-clause-refused g c =
+    on-err c.from_residual.result _ (record {
+      ends = (λ reader exchanges events n b.
+          let head = c.loop-span.self in
+          let mid = c.next_in_leaf.new.self in
+          let e = c.in-Ok.ensures in
+          let out = subst (λ (n : Next). LeavesLeaf n mid) c.in-Over.is e.outside in
+          let keeps = subst (λ (x : Next). KeepsAfterLeaf g.E.EntityLookup.replacement reader head x mid) c.in-Over.is (e.kept reader) in
+          let kept = keeps exchanges events (c.loop-span.invariant.ends reader exchanges events n b) in
+          let by = kept.read_by in
+          let given = subst (λ (b : Brief). walking.GivesBrief mid.walk b c.next_short.new.lines.items c.next_short.new.self) c.in-Leaf.is c.in-Ok-next_short.ensures.given in
+          let met = given by.left by.stands.blocks.remains in
+          text-begins g.E.EntityLookup.replacement reader mid out by met.0 met.1 met.2 (λ empty. c.in_err-enter_leaf-in-Leaf.ensures.lines (met.3.are ∙ ap lines_of empty)) exchanges events kept b);
+      asked = (asked-on g.F.BrokenLinkCallback.answers c.args.self.now.callback c.loop-span.self.callback c.next_in_leaf.new.self.callback c.enter_leaf.new.self.callback c.loop-span.invariant.asked c.in-Ok.ensures.around.callback c.in_err-enter_leaf-in-Leaf.ensures.asked);
+      stops = (λ reader r. (let head = c.loop-span.self in
+          let mid = c.next_in_leaf.new.self in
+          let walk = c.next_short.new.self in
+          let lines = c.next_short.new.lines in
+          let e = c.in-Ok.ensures in
+          let m = c.in-Ok-next_short.ensures in
+          let out = subst (λ (n : Next). LeavesLeaf n mid) c.in-Over.is e.outside in
+          let p = c.loop-span.invariant.reads reader r in
+          let none = subst (λ (n : Next). GivesInLeaf g.F.BrokenLinkCallback.answers g.E.EntityLookup.replacement reader head n mid) c.in-Over.is (e.given reader p.read_by) in
+          let q = passes-on g.F.BrokenLinkCallback.answers g.E.EntityLookup.replacement reader c.args.self.now head mid [] p none in
+          let by = q.read_by in
+          let given = subst (λ (b : Brief). walking.GivesBrief mid.walk b lines.items walk) c.in-Leaf.is m.given in
+          let met = given by.left by.stands.blocks.remains in
+          let here = before-leaf mid walk lines out m.text c.in-Leaf.is_cell _ by.left met.0 met.1 by.stands met.2 met.3 met.4 met.5 refl in
+          let placed : ArePlaced reader (Content met.0 ∷ met.1) = subst (ArePlaced reader) met.2 by.placed in
+          stops-leaf g.F.BrokenLinkCallback.answers g.E.EntityLookup.replacement reader c.args.self.now mid c.enter_leaf.new.self met.0 met.1 out q met.2
+          (c.in_err-enter_leaf-in-Leaf.ensures.stops reader met.0 met.1 here placed.0 (met-same g.F.BrokenLinkCallback.answers g.E.EntityLookup.replacement reader mid walk lines out m.text m.definitions _ by.same))));
+    })
 
 pub returns-in-Long-clause-long : goal.returns-in-Long-clause-long
 returns-in-Long-clause-long g c =

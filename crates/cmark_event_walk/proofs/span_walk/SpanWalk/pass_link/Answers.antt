@@ -1,8 +1,11 @@
 use Rattle.std.proofs.lemmas.Result.{on_err_weaker, on_ok_weaker}
 use Rattle.cmark_event_walk.proofs.EndSteps.{spans-begin}
 use Rattle.cmark_event_walk.proofs.Readings.{on-both, start-passes}
-use Rattle.cmark_event_walk.proofs.Walks.{given-left, link-inside, spanned-at}
+use Rattle.cmark_event_walk.proofs.Walks.{given-left, link-inside, over-leaf, spanned-at}
 use Rattle.cmark_event_walk.proofs.span_walk.SpanWalk.pass_link.Goals as goal
+
+pub pass_link-requires-clause-over : goal.pass_link-requires-clause-over
+pass_link-requires-clause-over g c = over-leaf c.args.self.now c.requires.stands.0 c.requires.stands.1 (link-inside c.args.self.now c.requires.ahead)
 
 pub returns-clause-stands : goal.returns-clause-stands
 returns-clause-stands g c =

@@ -5,10 +5,13 @@ use Rattle.cmark_text.specs.Ranged.{shown_ranged}
 use Rattle.cmark_event_walk.specs.Walking.{IsLongIn}
 use Rattle.cmark_event_walk.proofs.EndSteps.{blocks-begin, spans-begin}
 use Rattle.cmark_event_walk.proofs.Readings.{event-passes, long-gives}
-use Rattle.cmark_event_walk.proofs.Walks.{following-at, given-left, spanned-at}
+use Rattle.cmark_event_walk.proofs.Walks.{following-at, given-left, over-leaf, spanned-at}
 use Rattle.cmark_event_walk.proofs.span_walk.SpanWalk.take_long.Goals as goal
 
 -- in a leaf
+pub take_long-requires-clause-over : goal.take_long-requires-clause-over
+take_long-requires-clause-over g c = over-leaf c.args.self.now c.requires.stands.0 c.requires.stands.1 c.if-self.true
+
 pub take_long-requires-clause-left : goal.take_long-requires-clause-left
 take_long-requires-clause-left g c = given-left c.args.self.now c.requires.stands.0 c.requires.stands.1 c.if-self.true
 
@@ -25,7 +28,7 @@ returns-then-self-clause-stands g c =
 pub returns-then-self-clause-given : goal.returns-then-self-clause-given
 returns-then-self-clause-given g c = λ reader r.
     let e = c.take_long.ensures in
-    long-gives g.F.BrokenLinkCallback.answers g.E.EntityLookup.replacement reader c.take_long.result c.args.self.now c.take_long.new.self r c.if-self.true e.slots e.opened e.left e.follows e.events
+    long-gives g.F.BrokenLinkCallback.answers g.E.EntityLookup.replacement reader c.take_long.result c.args.self.now c.take_long.new.self r c.if-self.true e.slots e.opened e.left e.gives
 
 pub returns-then-self-clause-ends : goal.returns-then-self-clause-ends
 returns-then-self-clause-ends g c = on_err_weaker c.take_long.result (λ begin reader. spans-begin g.E.EntityLookup.replacement reader c.args.self.now c.if-self.true begin) c.take_long.ensures.ends

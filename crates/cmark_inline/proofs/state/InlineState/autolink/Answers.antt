@@ -30,17 +30,17 @@ returns-clause-slots c =
 
 pub returns-clause-others : goal.returns-clause-others
 returns-clause-others c =
-    let table = c.in_ok-add-2.ensures.table ∙ c.in_ok-add.ensures.table ∙ c.in_ok-next.ensures.table in
+    let table = c.in_ok-add-2.ensures.table ∙ c.in_ok-add.ensures.table ∙ ap (λ (s : InlineState). s.links) c.in_ok-next.ensures.others in
     c.in_ok-add-2.ensures.others
     ∙ ap (λ (s : InlineState). record s { slots = c.add-2.new.self.slots }) (c.in_ok-add.ensures.others ∙ ap (λ (s : InlineState). record s { slots = c.add.new.self.slots }) c.in_ok-next.ensures.others)
     ∙ ap (λ links. record c.args.self.now { slots = c.add-2.new.self.slots; links = links }) (sym table)
 
 pub returns-clause-link : goal.returns-clause-link
 returns-clause-link c =
-    let value = c.in_ok-dest_url.ensures.value ∙ ap (λ (t : List ℕ). slice t (c.args.here.at + 1) (c.args.end - 1)) (sym c.requires.same) in (
+    let value = c.in_ok-dest_url.ensures.value ∙ ap (λ (t : List ℕ). slice t (c.args.here.at + 1) (c.args.end - 1)) (sym c.requires.text.same) in (
       _,
       record { form = c.address_type.ensures ∙ ap address_type c.range.ensures.value; destination = value; title = refl; id = refl },
-      ap (λ v. v.items) (c.in_ok-add-2.ensures.table ∙ c.in_ok-add.ensures.table ∙ c.in_ok-next.ensures.table) ∙ c.in_ok-push.ensures.items,
+      ap (λ v. v.items) (c.in_ok-add-2.ensures.table ∙ c.in_ok-add.ensures.table ∙ ap (λ (s : InlineState). s.links) c.in_ok-next.ensures.others) ∙ c.in_ok-push.ensures.items,
     )
 
 pub returns-clause-moves : goal.returns-clause-moves
@@ -51,8 +51,13 @@ add-requires-clause-slot c =
     let inside = c.requires.inside in
     record { part = inside; before = omega arith; content = tt }
 
-pub put-requires-clause-slot : goal.put-requires-clause-slot
-put-requires-clause-slot c = record { part = c.requires.whole; before = omega arith; content = tt }
+pub put-requires-clause-next : goal.put-requires-clause-next
+put-requires-clause-next c = record {
+  ordered = search rules;
+  is = (record { part = c.requires.whole; before = omega arith; content = tt });
+  further = search rules;
+  kind = search rules;
+}
 
 pub add-requires-2-clause-slot : goal.add-requires-2-clause-slot
 add-requires-2-clause-slot c =

@@ -62,7 +62,7 @@ returns-clause-token c = λ o l is.
 
 pub returns-in-Some-clause-reads_on : goal.returns-in-Some-clause-reads_on
 returns-in-Some-clause-reads_on c = record {
-  expansion_left = c.put_onto_words.ensures.expansion_left;
+  expansion_left = search rules;
   steps = search rules;
   keeps = IfOk-weaker c.put_onto_words.result _ _ (λ _ slots. keeps-puts c.args.self.now c.put_onto_words.new.self c.put_onto_words.ensures.others c.args.here.pending c.args.here.at _ slots ((refl, refl, refl), λ i. refl)) c.put_onto_words.ensures.slots;
   moves = c.put_onto_words.ensures.moves;
@@ -78,7 +78,7 @@ returns-then-not-is_escape-clause-reads_on c = record {
 
 pub returns-then-is_lone_backtick-clause-reads_on : goal.returns-then-is_lone_backtick-clause-reads_on
 returns-then-is_lone_backtick-clause-reads_on c = record {
-  expansion_left = c.put.ensures.expansion_left;
+  expansion_left = search rules;
   steps = search rules;
   keeps = IfOk-weaker c.put.result _ _ (λ _ slots. keeps-puts c.args.self.now c.put.new.self c.put.ensures.others c.args.here.pending c.args.here.at _ slots ((refl, refl, refl), λ i. refl)) c.put.ensures.slots;
   moves = c.put.ensures.moves;

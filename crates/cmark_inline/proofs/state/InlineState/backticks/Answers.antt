@@ -22,7 +22,7 @@ returns-clause-token c = λ o l cell is. ok-by-three c.put-2.result _ _ _ _ c.pu
 
 pub returns-in-Some-clause-reads_on : goal.returns-in-Some-clause-reads_on
 returns-in-Some-clause-reads_on c = record {
-  expansion_left = c.put.ensures.expansion_left;
+  expansion_left = search rules;
   steps = search rules;
   keeps = IfOk-weaker c.put.result _ _ (λ _ slots. keeps-puts c.args.self.now c.put.new.self c.put.ensures.others c.args.here.pending c.args.here.at _ slots ((refl, refl, refl), λ i. refl)) c.put.ensures.slots;
   moves = c.put.ensures.moves;
@@ -30,7 +30,7 @@ returns-in-Some-clause-reads_on c = record {
 
 pub returns-clause-reads_on : goal.returns-clause-reads_on
 returns-clause-reads_on c = record {
-  expansion_left = c.put-2.ensures.expansion_left;
+  expansion_left = search rules;
   steps = search rules;
   keeps = IfOk-weaker c.put-2.result _ _ (λ _ slots. keeps-puts c.args.self.now c.put-2.new.self c.put-2.ensures.others c.args.here.pending c.text_start-start.result _ slots ((refl, refl, refl), λ i. refl)) c.put-2.ensures.slots;
   moves = c.put-2.ensures.moves;

@@ -35,7 +35,7 @@ returns-then-not-starts_with-clause-reads_on c = record {
 
 pub returns-clause-reads_on : goal.returns-clause-reads_on
 returns-clause-reads_on c = record {
-  expansion_left = c.put.ensures.expansion_left;
+  expansion_left = search rules;
   steps = search rules;
   keeps = IfOk-weaker c.put.result _ _ (λ _ slots. keeps-puts c.args.self.now c.put.new.self c.put.ensures.others c.args.here.pending c.args.here.at _ slots ((refl, refl, refl), λ i. refl)) c.put.ensures.slots;
   moves = c.put.ensures.moves;

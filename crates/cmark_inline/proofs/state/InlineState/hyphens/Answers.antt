@@ -35,13 +35,17 @@ returns-then-size-lt2-clause-reads_on c = record {
 
 pub returns-clause-reads_on : goal.returns-clause-reads_on
 returns-clause-reads_on c = record {
-  expansion_left = c.put.ensures.expansion_left;
+  expansion_left = search rules;
   steps = search rules;
   keeps = IfOk-weaker c.put.result _ _ (λ _ slots. keeps-owned c.args.self.now (record c.args.self.now { texts = c.push.new.self }) c.put.new.self c.args.here.pending c.args.here.at _ slots c.in_ok-owned.owned c.in_ok-push.ensures.items c.put.ensures.others refl (ap Some (let q : c.len.result ≡ length c.args.self.now.texts.items = search rules in q)) refl refl (λ i. refl)) c.put.ensures.slots;
   moves = c.put.ensures.moves;
 }
 
-pub put-requires-clause-slot : goal.put-requires-clause-slot
-put-requires-clause-slot c =
-    let edge = c.run_end-end.ensures.boundary in
-    record { part = record { some = c.run_end-end.ensures.further; within = edge.0; starts = c.requires.byte.cursor.at; ends = edge }; before = omega arith; content = tt }
+pub put-requires-clause-next : goal.put-requires-clause-next
+put-requires-clause-next c = record {
+  ordered = search rules;
+  is = (let edge = c.run_end-end.ensures.boundary in
+      record { part = record { some = c.run_end-end.ensures.further; within = edge.0; starts = c.requires.byte.cursor.at; ends = edge }; before = omega arith; content = tt });
+  further = search rules;
+  kind = search rules;
+}

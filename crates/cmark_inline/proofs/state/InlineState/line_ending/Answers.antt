@@ -27,7 +27,7 @@ returns-in_default-clause-reads_on c = record {
 
 pub returns-clause-reads_on : goal.returns-clause-reads_on
 returns-clause-reads_on c = record {
-  expansion_left = c.put_onto_words.ensures.expansion_left;
+  expansion_left = search rules;
   steps = search rules;
   keeps = IfOk-weaker c.put_onto_words.result _ _ (λ _ slots. keeps-puts c.args.self.now c.put_onto_words.new.self c.put_onto_words.ensures.others c.args.here.pending c.before_blanks-text_end.result c.break_slot-slot.result slots (subst (λ (s : Slot). StandsAlone s.kind) (sym c.break_slot-slot.ensures) (break-alone c.ends_with_two_spaces-is_hard.result))) c.put_onto_words.ensures.slots;
   moves = c.put_onto_words.ensures.moves;

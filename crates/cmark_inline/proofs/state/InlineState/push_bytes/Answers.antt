@@ -30,10 +30,7 @@ loop-at-preserved c =
       before = (let q : at + 1 ≤ c.args.end = omega (arith, lt) in q);
       place = after text at c.utf8.text within small;
       slots = slots-push text at (at + 1) ss ts slot i.slots (let q : at ≤ at + 1 = omega arith in q) (byte-slot text at i.place c.utf8.text within small) e;
-      brackets = i.brackets;
       links = (λ from h. no-new ss ts slot refl e from (i.links from h));
-      expansion_left = i.expansion_left;
-      delimiters = i.delimiters;
       bytes = push-byte c.args.self.now.slots.items ss ts c.args.start at b i.bytes e;
       others = ap (λ (s : InlineState). record s { slots = c.push_slot.new.slots }) i.others;
       size = (let q : length ts ≡ length c.args.self.now.slots.items + (at + 1 - c.args.start) = omega (arith, l, m, z, b) in q);

@@ -9,10 +9,7 @@ invariant-loop-at l = record {
   before : l.at ≤ l.end;
   place : IsCharBoundary l.text l.at;
   slots : AreSlots l.text l.at l.self.slots.items;
-  brackets : l.self.brackets ≡ l.initial.self.brackets;
   links : NoNewLink l.initial.self.slots.items l.self.slots.items;
-  expansion_left : l.self.expansion_left ≡ l.initial.self.expansion_left;
-  delimiters : l.self.delimiters ≡ l.initial.self.delimiters;
   bytes : l.self.slots.items ≡ l.initial.self.slots.items ++ byte_slots l.start (l.at - l.start);
   others : l.self ≡ record l.initial.self { slots = l.self.slots };
   size : length l.self.slots.items ≡ length l.initial.self.slots.items + (l.at - l.start);

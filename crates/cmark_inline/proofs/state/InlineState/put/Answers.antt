@@ -10,7 +10,7 @@ add-requires-clause-stands c =
     let flushed : InlineState = c.flush.new.self in
     let s = c.in_ok-flush.ensures.stands in
     let few = s.few in
-    let lt = c.requires.ordered in
+    let lt = c.requires.next.ordered in
     let le : c.args.text_end ≤ end = omega (arith, lt) in
     record {
       slots = slots-on text c.args.text_end end flushed.slots.items s.slots le;
@@ -25,8 +25,8 @@ add-requires-clause-stands c =
 
 pub returns-clause-moves : goal.returns-clause-moves
 returns-clause-moves c =
-    let edge = c.requires.slot.part.ends in
-    record { stands = c.in_ok-add.ensures.stands; cursor = record { pending = edge; at = edge; ordered = omega arith }; further = c.requires.further }
+    let edge = c.requires.next.is.part.ends in
+    record { stands = c.in_ok-add.ensures.stands; cursor = record { pending = edge; at = edge; ordered = omega arith }; further = c.requires.next.further }
 
 pub returns-clause-others : goal.returns-clause-others
 returns-clause-others c = c.add.ensures.others ∙ ap (λ (s : InlineState). record s { slots = c.add.new.self.slots }) c.flush.ensures.others

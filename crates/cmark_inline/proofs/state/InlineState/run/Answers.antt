@@ -66,10 +66,10 @@ returns-clause-token c = λ l cell is delimiter.
       slots = c.in_ok-push_bytes.ensures.bytes;
       placed =
           c.in_ok-push.ensures.placed
-          ∙ ap (λ (d : Delimiters). d.placed.items ++ (record { slot = c.len-first.result; run = run } ∷ [])) (c.in_ok-push_bytes.ensures.delimiters ∙ ap (λ (s : InlineState). s.delimiters) c.in_ok-flush.ensures.others)
+          ∙ ap (λ (d : Delimiters). d.placed.items ++ (record { slot = c.len-first.result; run = run } ∷ [])) (ap (λ (s : InlineState). s.delimiters) c.push_bytes.ensures.others ∙ ap (λ (s : InlineState). s.delimiters) c.in_ok-flush.ensures.others)
           ∙ ap (λ (n : ℕ). c.args.self.now.delimiters.placed.items ++ (record { slot = n; run = run } ∷ [])) (sym same);
-      examined = c.push.ensures.examined ∙ ap (λ (d : Delimiters). d.examined) (c.in_ok-push_bytes.ensures.delimiters ∙ ap (λ (s : InlineState). s.delimiters) c.in_ok-flush.ensures.others);
-      others = ap (λ (s : InlineState). record s { slots = c.push_bytes.new.self.slots; delimiters = c.push.new.self }) (c.in_ok-push_bytes.ensures.others ∙ ap (λ (s : InlineState). record s { slots = c.push_bytes.new.self.slots }) c.in_ok-flush.ensures.others);
+      examined = c.push.ensures.examined ∙ ap (λ (d : Delimiters). d.examined) (ap (λ (s : InlineState). s.delimiters) c.push_bytes.ensures.others ∙ ap (λ (s : InlineState). s.delimiters) c.in_ok-flush.ensures.others);
+      others = ap (λ (s : InlineState). record s { slots = c.push_bytes.new.self.slots; delimiters = c.push.new.self }) (c.push_bytes.ensures.others ∙ ap (λ (s : InlineState). record s { slots = c.push_bytes.new.self.slots }) c.in_ok-flush.ensures.others);
     })
 
 pub returns-then-not-flanking-2-clause-others : goal.returns-then-not-flanking-2-clause-others
@@ -101,41 +101,41 @@ returns-then-not-flanking-2-clause-reads_on c = record {
 }
 
 pub returns-clause-reads_on : goal.returns-clause-reads_on
-returns-clause-reads_on c = record {
-  expansion_left = search rules;
-  steps = search rules;
-  keeps = (let same : length c.flush.new.self.slots.items ≡ c.len-first.result = search rules in
-      let run : Run = record { delimiter = c.args.delimiter; run_length = c.run_end-end.result - c.args.here.at; at = 0; left = c.run_end-end.result - c.args.here.at; opens = c.flanking_of-flanking.result.opens; closes = c.flanking_of-flanking.result.closes } in
-      let further = c.run_end-end.ensures.further in
-      let some : (c.flanking_of-flanking.result.opens || c.flanking_of-flanking.result.closes) ≡ true = elim c.else-not-flanking.branch [
-        | else-not-flanking-via-then-not-flanking+else-not-flanking-2 w ↦ or_right c.flanking_of-flanking.result.opens c.flanking_of-flanking.result.closes (not-no c.flanking_of-flanking.result.closes w.if-not-flanking-2.false)
-        | else-not-flanking-via-else-not-flanking w ↦ or_left c.flanking_of-flanking.result.opens c.flanking_of-flanking.result.closes (not-no c.flanking_of-flanking.result.opens w.if-not-flanking.false)
-      ] in
-      let known = flanks-known (shown_options c.args.options) c.args.delimiter (c.run_end-end.result - c.args.here.at) c.character_before-before.result c.character_at-after.result (shown_flanking c.flanking_of-flanking.result) c.flanking_of-flanking.ensures some in
-      keeps-run c.args.self.now (record c.push_bytes.new.self { delimiters = c.push.new.self }) c.flush.new.self.slots.items c.args.here.pending c.args.here.at (record { slot = c.len-first.result; run = run }) c.args.text.now
-      c.in_ok-flush.ensures.slots c.in_ok-push_bytes.ensures.bytes
-      (c.in_ok-push.ensures.placed ∙ ap (λ (d : Delimiters). d.placed.items ++ (record { slot = c.len-first.result; run = run } ∷ [])) (c.in_ok-push_bytes.ensures.delimiters ∙ ap (λ (s : InlineState). s.delimiters) c.in_ok-flush.ensures.others))
-      (ap (λ (s : InlineState). record s { slots = c.push_bytes.new.self.slots; delimiters = c.push.new.self }) (c.in_ok-push_bytes.ensures.others ∙ ap (λ (s : InlineState). record s { slots = c.push_bytes.new.self.slots }) c.in_ok-flush.ensures.others))
-      (omega (arith, further)) known (sym same) c.in_ok-flush.ensures.stands.slots);
-  moves = (let s = c.in_ok-flush.ensures.stands in
-      let seen = s.examined in
-      let further = c.run_end-end.ensures.further in
-      let same = ap (λ (d : Delimiters). d.examined) c.in_ok-push_bytes.ensures.delimiters in
-      let count = ap (λ (d : Delimiters). length d.placed.items) c.in_ok-push_bytes.ensures.delimiters in
-      let kept = c.push.ensures.examined in
-      let more = ap length c.in_ok-push.ensures.placed ∙ length_push c.push_bytes.new.self.delimiters.placed.items _ in
-      record {
-        stands = record {
-          slots = search rules;
-          brackets = search rules;
-          few = search rules;
-          free = search rules;
-          doubled = search rules;
-          doubled_free = search rules;
-          runs = search rules;
-          examined = omega (arith, seen, further, same, count, kept, more);
-        };
-        cursor = search rules;
-        further = search rules;
-      });
-}
+returns-clause-reads_on c =
+    let further = c.run_end-end.ensures.further in
+    record {
+      expansion_left = search rules;
+      steps = search rules;
+      keeps = (let same : length c.flush.new.self.slots.items ≡ c.len-first.result = search rules in
+          let run : Run = record { delimiter = c.args.delimiter; run_length = c.run_end-end.result - c.args.here.at; at = 0; left = c.run_end-end.result - c.args.here.at; opens = c.flanking_of-flanking.result.opens; closes = c.flanking_of-flanking.result.closes } in
+          let some : (c.flanking_of-flanking.result.opens || c.flanking_of-flanking.result.closes) ≡ true = elim c.else-not-flanking.branch [
+            | else-not-flanking-via-then-not-flanking+else-not-flanking-2 w ↦ or_right c.flanking_of-flanking.result.opens c.flanking_of-flanking.result.closes (not-no c.flanking_of-flanking.result.closes w.if-not-flanking-2.false)
+            | else-not-flanking-via-else-not-flanking w ↦ or_left c.flanking_of-flanking.result.opens c.flanking_of-flanking.result.closes (not-no c.flanking_of-flanking.result.opens w.if-not-flanking.false)
+          ] in
+          let known = flanks-known (shown_options c.args.options) c.args.delimiter (c.run_end-end.result - c.args.here.at) c.character_before-before.result c.character_at-after.result (shown_flanking c.flanking_of-flanking.result) c.flanking_of-flanking.ensures some in
+          keeps-run c.args.self.now (record c.push_bytes.new.self { delimiters = c.push.new.self }) c.flush.new.self.slots.items c.args.here.pending c.args.here.at (record { slot = c.len-first.result; run = run }) c.args.text.now
+          c.in_ok-flush.ensures.slots c.in_ok-push_bytes.ensures.bytes
+          (c.in_ok-push.ensures.placed ∙ ap (λ (d : Delimiters). d.placed.items ++ (record { slot = c.len-first.result; run = run } ∷ [])) (ap (λ (s : InlineState). s.delimiters) c.push_bytes.ensures.others ∙ ap (λ (s : InlineState). s.delimiters) c.in_ok-flush.ensures.others))
+          (ap (λ (s : InlineState). record s { slots = c.push_bytes.new.self.slots; delimiters = c.push.new.self }) (c.push_bytes.ensures.others ∙ ap (λ (s : InlineState). record s { slots = c.push_bytes.new.self.slots }) c.in_ok-flush.ensures.others))
+          (omega (arith, further)) known (sym same) c.in_ok-flush.ensures.stands.slots);
+      moves = (let s = c.in_ok-flush.ensures.stands in
+          let seen = s.examined in
+          let same = ap (λ (d : Delimiters). d.examined) (ap (λ (s : InlineState). s.delimiters) c.push_bytes.ensures.others) in
+          let count = ap (λ (d : Delimiters). length d.placed.items) (ap (λ (s : InlineState). s.delimiters) c.push_bytes.ensures.others) in
+          let kept = c.push.ensures.examined in
+          let more = ap length c.in_ok-push.ensures.placed ∙ length_push c.push_bytes.new.self.delimiters.placed.items _ in
+          record {
+            stands = record {
+              slots = search rules;
+              brackets = search rules;
+              few = search rules;
+              free = search rules;
+              doubled = search rules;
+              doubled_free = search rules;
+              runs = search rules;
+              examined = omega (arith, seen, further, same, count, kept, more);
+            };
+            cursor = search rules;
+            further = search rules;
+          });
+    }

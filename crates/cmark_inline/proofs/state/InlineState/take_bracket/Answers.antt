@@ -13,8 +13,13 @@ returns-in_err-bracket-clause-stands c = record { slots = c.requires.stands.slot
 pub returns-then-forms-clause-stands : goal.returns-then-forms-clause-stands
 returns-then-forms-clause-stands c = record { slots = c.requires.stands.slots; brackets = c.take.ensures.brackets c.args.text.now c.args.at c.requires.stands.brackets; few = c.requires.stands.few; free = c.take.ensures.free c.args.self.now.slots.items c.requires.stands.free; doubled = c.requires.stands.doubled; doubled_free = c.requires.stands.doubled_free; runs = c.requires.stands.runs; examined = c.requires.stands.examined }
 
-pub returns-then-forms-clause-bracket : goal.returns-then-forms-clause-bracket
-returns-then-forms-clause-bracket c = c.in_ok-bracket.ensures.bracket c.args.text.now c.args.at c.requires.stands.brackets
+pub returns-then-forms-clause-opening : goal.returns-then-forms-clause-opening
+returns-then-forms-clause-opening c = record {
+  bracket = (c.in_ok-bracket.ensures.bracket c.args.text.now c.args.at c.requires.stands.brackets);
+  taken = (let old : InlineState = c.args.self.now in
+      is-taken (length old.texts.items) (length old.links.items) old.slots.items old.delimiters.placed.items old.quotes.placed.items old.brackets.standing.items old.doubled.standing.items c.requires.sound c.in_ok-bracket.bracket c.take.new.self.standing.items (last-nearest old.brackets _ (sym c.take.ensures.value ∙ c.in_ok-bracket.was)) c.take.ensures.others);
+  free = search rules;
+}
 
 pub returns-else-forms-clause-stands : goal.returns-else-forms-clause-stands
 returns-else-forms-clause-stands c = record { slots = c.requires.stands.slots; brackets = c.take.ensures.brackets c.args.text.now c.args.at c.requires.stands.brackets; few = c.requires.stands.few; free = c.take.ensures.free c.args.self.now.slots.items c.requires.stands.free; doubled = c.requires.stands.doubled; doubled_free = c.requires.stands.doubled_free; runs = c.requires.stands.runs; examined = c.requires.stands.examined }
@@ -49,8 +54,3 @@ pub returns-else-forms-clause-sound : goal.returns-else-forms-clause-sound
 returns-else-forms-clause-sound c =
     let old : InlineState = c.args.self.now in
     sound-taken (length old.texts.items) (length old.links.items) old.slots.items old.delimiters.placed.items old.quotes.placed.items old.brackets.standing.items old.doubled.standing.items c.requires.sound c.take.new.self.standing.items c.take.ensures.others
-
-pub returns-then-forms-clause-taken : goal.returns-then-forms-clause-taken
-returns-then-forms-clause-taken c =
-    let old : InlineState = c.args.self.now in
-    is-taken (length old.texts.items) (length old.links.items) old.slots.items old.delimiters.placed.items old.quotes.placed.items old.brackets.standing.items old.doubled.standing.items c.requires.sound c.in_ok-bracket.bracket c.take.new.self.standing.items (last-nearest old.brackets _ (sym c.take.ensures.value ∙ c.in_ok-bracket.was)) c.take.ensures.others

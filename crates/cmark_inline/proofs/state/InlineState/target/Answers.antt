@@ -1,5 +1,5 @@
 use Rattle.std.specs.Prelude.{Option, IfSome, option_map}
-use Rattle.std.proofs.Common.{◌≡◌, ◌+◌, drop, refl, sym, ap, subst, ◌∙◌, arith}
+use Rattle.std.proofs.Common.{rules, ◌≡◌, ◌+◌, drop, refl, sym, ap, subst, ◌∙◌, arith}
 use Rattle.std.proofs.lemmas.Bool.{ne_eqb}
 use Rattle.cmark_grammar.specs.Tokens.{slice}
 use Rattle.cmark_leaf_text.specs.Reads.{IsPart}
@@ -17,7 +17,7 @@ use Rattle.cmark_inline.proofs.state.InlineState.target.Goals as goal
 
 pub returns-in-Some-clause-decides : goal.returns-in-Some-clause-decides
 returns-in-Some-clause-decides g c =
-    inline-decides g.F.BrokenLinkCallback.answers (shown_options c.args.reader.now.options) (g.E.EntityLookup.replacement c.args.reader.now.entities.now) c.args.reader.now.references.now c.args.leaf.now c.args.text.now c.requires.same c.args.bracket c.args.close c.args.self.now
+    inline-decides g.F.BrokenLinkCallback.answers (shown_options c.args.reader.now.options) (g.E.EntityLookup.replacement c.args.reader.now.entities.now) c.args.reader.now.references.now c.args.leaf.now c.args.text.now c.requires.text.same c.args.bracket c.args.close c.args.self.now
     c.in-Some.target c.args.callback.now
     (subst (λ (o : Option Target). IfSome o (IsTarget c.args.text.now (c.args.close + 1))) c.in-Some.is c.in_ok-target.ensures.target).ends.0
     (subst (λ (o : Option Target). IfSome o (λ (t : Target). t.resume ≡ t.end)) c.in-Some.is c.in_ok-target.ensures.resume)
@@ -25,7 +25,7 @@ returns-in-Some-clause-decides g c =
 
 pub returns-in_default-link_reference_at-clause-decides : goal.returns-in_default-link_reference_at-clause-decides
 returns-in_default-link_reference_at-clause-decides g c =
-    none-decides g.F.BrokenLinkCallback.answers (shown_options c.args.reader.now.options) (g.E.EntityLookup.replacement c.args.reader.now.entities.now) c.args.reader.now.references.now c.args.leaf.now c.args.text.now c.requires.same c.args.bracket c.args.close c.args.self.now
+    none-decides g.F.BrokenLinkCallback.answers (shown_options c.args.reader.now.options) (g.E.EntityLookup.replacement c.args.reader.now.entities.now) c.args.reader.now.references.now c.args.leaf.now c.args.text.now c.requires.text.same c.args.bracket c.args.close c.args.self.now
     (ap (option_map (shown_target c.args.text.now)) (sym c.in_default.is) ∙ c.in_ok-target.ensures.value) c.requires.bracket.before c.args.callback.now
     (ap (option_map (shown_link_reference c.args.text.now)) (sym c.in_default-link_reference_at.is) ∙ c.link_reference_at.ensures.value
     ∙ ap (λ z. reference_after (shown_options c.args.reader.now.options) z (slice c.args.text.now c.args.bracket.inside c.args.close) (drop (c.args.close + 1) c.args.text.now)) c.closes_label-closes_label.ensures)
@@ -34,7 +34,7 @@ pub returns-then-self-eq0-clause-decides : goal.returns-then-self-eq0-clause-dec
 returns-then-self-eq0-clause-decides g c =
     let link_reference = subst (λ (o : Option LinkReference). IfSome o (IsLinkReference c.args.text.now c.args.close)) c.in-Some-link_reference_at.is c.link_reference_at.ensures.ends in
     let same = ap (λ (s : InlineState). s.expansion_left) c.remember_label.ensures.others in
-    spent-decides g.F.BrokenLinkCallback.answers (shown_options c.args.reader.now.options) (g.E.EntityLookup.replacement c.args.reader.now.entities.now) c.args.reader.now.references.now c.args.leaf.now c.args.text.now c.requires.same c.args.bracket c.args.close c.args.self.now
+    spent-decides g.F.BrokenLinkCallback.answers (shown_options c.args.reader.now.options) (g.E.EntityLookup.replacement c.args.reader.now.entities.now) c.args.reader.now.references.now c.args.leaf.now c.args.text.now c.requires.text.same c.args.bracket c.args.close c.args.self.now
     (ap (option_map (shown_target c.args.text.now)) (sym c.in_default.is) ∙ c.in_ok-target.ensures.value) c.requires.bracket.before
     c.in-Some-link_reference_at.link_reference link_reference.ends.0 link_reference.resume.0
     (ap (option_map (shown_link_reference c.args.text.now)) (sym c.in-Some-link_reference_at.is) ∙ c.link_reference_at.ensures.value
@@ -46,7 +46,7 @@ returns-clause-decides g c =
     let link_reference = subst (λ (o : Option LinkReference). IfSome o (IsLinkReference c.args.text.now c.args.close)) c.in-Some-link_reference_at.is c.link_reference_at.ensures.ends in
     let same = ap (λ (s : InlineState). s.expansion_left) c.remember_label.ensures.others in
     let some = c.if-self-eq0.false in
-    led-decides g.F.BrokenLinkCallback.answers (shown_options c.args.reader.now.options) (g.E.EntityLookup.replacement c.args.reader.now.entities.now) c.args.reader.now.references.now c.args.leaf.now c.args.text.now c.requires.same c.args.bracket c.args.close c.args.self.now
+    led-decides g.F.BrokenLinkCallback.answers (shown_options c.args.reader.now.options) (g.E.EntityLookup.replacement c.args.reader.now.entities.now) c.args.reader.now.references.now c.args.leaf.now c.args.text.now c.requires.text.same c.args.bracket c.args.close c.args.self.now
     (ap (option_map (shown_target c.args.text.now)) (sym c.in_default.is) ∙ c.in_ok-target.ensures.value) c.requires.bracket.before
     c.in-Some-link_reference_at.link_reference link_reference.ends.0 link_reference.resume.0
     (ap (option_map (shown_link_reference c.args.text.now)) (sym c.in-Some-link_reference_at.is) ∙ c.link_reference_at.ensures.value
@@ -72,7 +72,7 @@ reference-requires g c =
     let before = c.requires.bracket.before in
     let following = link_reference.following in
     let part : IsPart c.args.text.now c.args.bracket.start c.in-Some-link_reference_at.link_reference.end = record { some = omega (arith, opens, before, following); within = link_reference.ends.0; starts = c.requires.bracket.part.starts; ends = link_reference.ends } in
-    λ k. ((refl, tt), (part, (c.requires.read, (c.requires.same, c.requires.ready))))
+    λ k. ((refl, tt), (part, (c.requires.text, c.requires.ready)))
 
 pub returns-in-Some-clause-target : goal.returns-in-Some-clause-target
 returns-in-Some-clause-target g c =
@@ -85,14 +85,26 @@ returns-clause-target g c =
     let link_reference = subst (λ (o : Option LinkReference). IfSome o (IsLinkReference c.args.text.now c.args.close)) c.in-Some-link_reference_at.is c.link_reference_at.ensures.ends in
     led-target c.args.text.now c.args.close c.in-Some-link_reference_at.link_reference c.in_ok-found.found link_reference c.in_ok-found.ensures.target
 
-pub returns-in_err-found-clause-spent : goal.returns-in_err-found-clause-spent
-returns-in_err-found-clause-spent g c = λ none. absurd (c.if-self-eq0.false (ap (λ (s : InlineState). s.expansion_left) c.remember_label.ensures.others ∙ none))
+pub returns-in_err-found-clause-asks : goal.returns-in_err-found-clause-asks
+returns-in_err-found-clause-asks g c = record {
+  ready = search rules;
+  asks = search rules;
+  spent = (λ none. absurd (c.if-self-eq0.false (ap (λ (s : InlineState). s.expansion_left) c.remember_label.ensures.others ∙ none)));
+}
 
-pub returns-clause-spent : goal.returns-clause-spent
-returns-clause-spent g c = λ none. absurd (c.if-self-eq0.false (ap (λ (s : InlineState). s.expansion_left) c.remember_label.ensures.others ∙ none))
+pub returns-clause-asks : goal.returns-clause-asks
+returns-clause-asks g c = record {
+  ready = search rules;
+  asks = search rules;
+  spent = (λ none. absurd (c.if-self-eq0.false (ap (λ (s : InlineState). s.expansion_left) c.remember_label.ensures.others ∙ none)));
+}
 
-pub returns-then-self-eq0-clause-spent : goal.returns-then-self-eq0-clause-spent
-returns-then-self-eq0-clause-spent g c = λ none. (refl, ap (λ (s : InlineState). s.expansion_left) c.remember_label.ensures.others ∙ none)
+pub returns-then-self-eq0-clause-asks : goal.returns-then-self-eq0-clause-asks
+returns-then-self-eq0-clause-asks g c = record {
+  ready = search rules;
+  asks = search rules;
+  spent = (λ none. (refl, ap (λ (s : InlineState). s.expansion_left) c.remember_label.ensures.others ∙ none));
+}
 
 pub returns-then-self-eq0-clause-label : goal.returns-then-self-eq0-clause-label
 returns-then-self-eq0-clause-label g c = λ w.
@@ -114,7 +126,7 @@ returns-in_err-found-clause-stops g c = on-err c.from_residual-in_err-found.resu
     (let link_reference = subst (λ (o : Option LinkReference). IfSome o (IsLinkReference c.args.text.now c.args.close)) c.in-Some-link_reference_at.is c.link_reference_at.ensures.ends in
     let same = ap (λ (s : InlineState). s.expansion_left) c.remember_label.ensures.others in
     let some = c.if-self-eq0.false in
-    led-asks g.F.BrokenLinkCallback.answers (shown_options c.args.reader.now.options) (g.E.EntityLookup.replacement c.args.reader.now.entities.now) c.args.reader.now.references.now c.args.leaf.now c.args.text.now c.requires.same c.args.bracket c.args.close c.args.self.now
+    led-asks g.F.BrokenLinkCallback.answers (shown_options c.args.reader.now.options) (g.E.EntityLookup.replacement c.args.reader.now.entities.now) c.args.reader.now.references.now c.args.leaf.now c.args.text.now c.requires.text.same c.args.bracket c.args.close c.args.self.now
     (ap (option_map (shown_target c.args.text.now)) (sym c.in_default.is) ∙ c.in_ok-target.ensures.value) c.requires.bracket.before
     c.in-Some-link_reference_at.link_reference link_reference.ends.0 link_reference.resume.0
     (ap (option_map (shown_link_reference c.args.text.now)) (sym c.in-Some-link_reference_at.is) ∙ c.link_reference_at.ensures.value

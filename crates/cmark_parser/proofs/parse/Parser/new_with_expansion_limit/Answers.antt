@@ -54,12 +54,12 @@ returns-clause-reads g c =
     (drawn-edges text options lookup c.utf8.text) in
     let remains = subst (Remains c.new-walk.result) (drawn-segments text options lookup) drawn in
     let n = c.new.ensures in
-    let entities = ap replacement n.entities in
+    let entities = ap replacement n.settings.entities in
     let parser : Parser _ _ = record { spans = c.new.result; is_over = false } in
     let placed = begin-placed replacement parser text options lookup c.utf8.text in
-    let same = begin-same replacement parser text options lookup n.source n.options entities (returns-clause-definitions g c d (derived text options lookup)) (returns-clause-footnotes g c d (derived text options lookup)) in
+    let same = begin-same replacement parser text options lookup n.source n.settings.options entities (returns-clause-definitions g c d (derived text options lookup)) (returns-clause-footnotes g c d (derived text options lookup)) in
     let begins = n.begins (reader_by text options lookup) left remains c.new-walk.ensures.text (begin-few text options lookup) (begin-extents text options lookup) placed same in
-    reads-from replacement parser text options lookup c.args.limit refl (begin-reader replacement parser text options lookup n.source n.options entities (returns-clause-definitions g c d (derived text options lookup)) (returns-clause-footnotes g c d (derived text options lookup))) n.expansion_left placed begins.1
+    reads-from replacement parser text options lookup c.args.limit refl (begin-reader replacement parser text options lookup n.source n.settings.options entities (returns-clause-definitions g c d (derived text options lookup)) (returns-clause-footnotes g c d (derived text options lookup))) n.settings.expansion_left placed begins.1
     (λ exchanges events m. n.reads (reader_by text options lookup) left exchanges events remains m)
 
 pub returns-clause-goes : goal.returns-clause-goes

@@ -1,4 +1,5 @@
 use Rattle.std.proofs.Common.{refl, sym, ◌∙◌}
+use Rattle.std.proofs.lemmas.Result.{on_err_weaker}
 use Rattle.cmark_parser.specs.Parsing.{reader_for}
 use Rattle.cmark_parser.proofs.ItemSteps.{comes-long}
 use Rattle.cmark_parser.proofs.ParseSteps.{gives-or-err, gives-over, going, read-by}
@@ -12,16 +13,16 @@ returns-then-is_last-clause-gives g c =
     let replacement = g.E.EntityLookup.replacement in
     let old = c.args.self.now in
     let e = c.next_short-given.ensures in
-    gives-or-err g.F.BrokenLinkCallback.answers replacement old _ c.if-not-self.true e.source e.definitions e.footnotes e.counted c.next_short-given.result (sym c.if-is_last.true ∙ c.is_last.ensures)
-    (e.given (reader_for replacement old) (read-by replacement old c.if-not-self.true c.requires.goes)) e.fewer e.ends (e.stops (reader_for replacement old) (read-by replacement old c.if-not-self.true c.requires.goes))
+    gives-or-err g.F.BrokenLinkCallback.answers replacement old _ c.if-not-self.true e.keeps.source e.keeps.definitions e.keeps.footnotes e.keeps.counted c.next_short-given.result (sym c.if-is_last.true ∙ c.is_last.ensures)
+    (e.given (reader_for replacement old) (read-by replacement old c.if-not-self.true c.requires.goes)) e.fewer (on_err_weaker c.next_short-given.result (λ r. r.ends) e.refused) (on_err_weaker c.next_short-given.result (λ r. r.stops (reader_for replacement old) (read-by replacement old c.if-not-self.true c.requires.goes)) e.refused)
 
 pub returns-else-is_last-clause-gives : goal.returns-else-is_last-clause-gives
 returns-else-is_last-clause-gives g c =
     let replacement = g.E.EntityLookup.replacement in
     let old = c.args.self.now in
     let e = c.next_short-given.ensures in
-    gives-or-err g.F.BrokenLinkCallback.answers replacement old _ c.if-not-self.true e.source e.definitions e.footnotes e.counted c.next_short-given.result (c.if-not-self.true ∙ sym c.if-is_last.false ∙ c.is_last.ensures)
-    (e.given (reader_for replacement old) (read-by replacement old c.if-not-self.true c.requires.goes)) e.fewer e.ends (e.stops (reader_for replacement old) (read-by replacement old c.if-not-self.true c.requires.goes))
+    gives-or-err g.F.BrokenLinkCallback.answers replacement old _ c.if-not-self.true e.keeps.source e.keeps.definitions e.keeps.footnotes e.keeps.counted c.next_short-given.result (c.if-not-self.true ∙ sym c.if-is_last.false ∙ c.is_last.ensures)
+    (e.given (reader_for replacement old) (read-by replacement old c.if-not-self.true c.requires.goes)) e.fewer (on_err_weaker c.next_short-given.result (λ r. r.ends) e.refused) (on_err_weaker c.next_short-given.result (λ r. r.stops (reader_for replacement old) (read-by replacement old c.if-not-self.true c.requires.goes)) e.refused)
 
 pub returns-clause-gives : goal.returns-clause-gives
 returns-clause-gives g c = gives-over g.F.BrokenLinkCallback.answers g.E.EntityLookup.replacement c.args.self.now c.if-not-self.false c.requires.goes.counted

@@ -16,7 +16,7 @@ returns-in-Ok-clause-gives g c =
     let old = c.args.self.now in
     let going = link-going old c.requires.ahead in
     let e = c.in-Ok.ensures in
-    gives-next-start g.F.BrokenLinkCallback.answers replacement old _ going e.source e.definitions e.footnotes e.counted going (e.given (reader_for replacement old) (read-by replacement old going c.requires.goes)) e.fewer
+    gives-next-start g.F.BrokenLinkCallback.answers replacement old _ going e.keeps.source e.keeps.definitions e.keeps.footnotes e.keeps.counted going (e.given (reader_for replacement old) (read-by replacement old going c.requires.goes)) e.fewer
 
 pub returns-in-Err-clause-gives : goal.returns-in-Err-clause-gives
 returns-in-Err-clause-gives g c =
@@ -27,4 +27,4 @@ returns-in-Err-clause-gives g c =
     let going = link-going old c.requires.ahead in
     let e = c.in-Err.ensures in
     gives-error g.F.BrokenLinkCallback.answers replacement old _ c.in-Err.error going refl e.ends
-    (stops-here Says replacement reader old.spans old.spans _ (passes-none Says replacement reader old.spans (read-by replacement old going c.requires.goes)) e.callback) e.source e.definitions e.footnotes e.counted
+    (stops-here Says replacement reader old.spans old.spans _ (passes-none Says replacement reader old.spans (read-by replacement old going c.requires.goes)) e.callback) e.keeps.source e.keeps.definitions e.keeps.footnotes e.keeps.counted

@@ -17,5 +17,5 @@ returns-clause-gives g c =
     let going = c.requires.long.going in
     let read = read-by replacement old going c.requires.goes in
     let e = c.take_long-given.ensures in
-    gives-taken g.F.BrokenLinkCallback.answers replacement old _ c.take_long-given.result going c.is_err-self.ensures.value e.source e.definitions e.footnotes e.counted (e.given reader read) e.lent e.fewer e.ends
+    gives-taken g.F.BrokenLinkCallback.answers replacement old _ c.take_long-given.result going c.is_err-self.ensures.value e.keeps.source e.keeps.definitions e.keeps.footnotes e.keeps.counted (e.given reader read) e.lent e.fewer e.ends
     (stops-here Says replacement reader old.spans old.spans _ (passes-none Says replacement reader old.spans read) e.callback)

@@ -11,15 +11,15 @@ returns-in-Begin-clause-events c = λ following h.
     let s = c.args.self.now in
     let n = c.begin.new.self in
     begin-given c.args.leaf.now s.texts.items s.links.items c.args.slot following s.walk.opened.items c.begin.result n.texts.items n.links.items n.walk.opened.items c.in-Begin.element c.in-Begin.is h
-    (ap (λ v. v.items) c.begin.ensures.texts) c.begin.ensures.links c.begin.ensures.event c.begin.ensures.opens
+    (ap (λ v. v.items) c.begin.ensures.takes.texts) c.begin.ensures.takes.links c.begin.ensures.event c.begin.ensures.opens
 
 pub returns-in-Begin-clause-left : goal.returns-in-Begin-clause-left
 returns-in-Begin-clause-left c = λ following h.
     let s = c.args.self.now in
     let n = c.begin.new.self in
     on-ok c.begin.result _
-    (left-following c.args.leaf.now s.texts.items n.texts.items s.links.items n.links.items c.args.slot following h (keeps-same (text_named c.args.slot.kind) s.texts.items n.texts.items (ap (λ v. v.items) c.begin.ensures.texts))
-    (subst (λ (k : SlotKind). KeepsOthers (link_named k) s.links.items n.links.items) (sym c.in-Begin.is) c.begin.ensures.links))
+    (left-following c.args.leaf.now s.texts.items n.texts.items s.links.items n.links.items c.args.slot following h (keeps-same (text_named c.args.slot.kind) s.texts.items n.texts.items (ap (λ v. v.items) c.begin.ensures.takes.texts))
+    (subst (λ (k : SlotKind). KeepsOthers (link_named k) s.links.items n.links.items) (sym c.in-Begin.is) c.begin.ensures.takes.links))
 
 pub returns-in-SourceHtml-clause-left : goal.returns-in-SourceHtml-clause-left
 returns-in-SourceHtml-clause-left c = λ following h.
@@ -48,7 +48,7 @@ returns-in_default-clause-left c = λ following h.
     (keeps-same (link_named c.args.slot.kind) s.links.items n.links.items (ap (λ v. v.items) c.over_slot.ensures.links)))
 
 pub begin-requires-clause-link : goal.begin-requires-clause-link
-begin-requires-clause-link c = subst (λ (k : SlotKind). IsThere (length c.args.self.now.links.items) (link_named k)) c.in-Begin.is c.requires.link
+begin-requires-clause-link c = subst (λ (k : SlotKind). IsThere (length c.args.self.now.links.items) (link_named k)) c.in-Begin.is c.requires.named.link
 
 pub begin-requires-clause-linked : goal.begin-requires-clause-linked
 begin-requires-clause-linked c = subst (λ (k : SlotKind). is_long k ≡ true) c.in-Begin.is c.requires.long

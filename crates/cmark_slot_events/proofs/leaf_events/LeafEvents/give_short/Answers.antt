@@ -53,5 +53,5 @@ pub returns-in_ok-push-in-Begin-clause-first : goal.returns-in_ok-push-in-Begin-
 returns-in_ok-push-in-Begin-clause-first c = λ texts links following.
     let leaf = c.args.leaf.now in
     let opened = c.args.self.now.walk.opened.items in
-    begin-short-now leaf texts links c.args.slot following opened c.push.new.self.items c.in-Some.tag c.in-Some.end c.in-Begin.element c.range-range.result.start c.range-range.result.end c.requires.read c.requires.slot.part c.in-Begin.is
+    begin-short-now leaf texts links c.args.slot following opened c.push.new.self.items c.in-Some.tag c.in-Some.end c.in-Begin.element c.range-range.result.start c.range-range.result.end c.requires.slot.read c.requires.slot.is.part c.in-Begin.is
     c.in-Some.ensures.value c.in-Some.ensures.span c.in-Some.ensures.end c.range-range.ensures.start c.range-range.ensures.end c.in_ok-push-in-Begin.ensures.items

@@ -14,7 +14,7 @@ use Rattle.cmark_slot_events.proofs.NoEnds.{at-err, here-no-end}
 use Rattle.cmark_slot_events.proofs.leaf_events.LeafEvents.next_short.Goals as goal
 
 pub returns-clause-opened : goal.returns-clause-opened
-returns-clause-opened c = c.end_short.ensures.opened (source_of c.args.leaf.now) (subst (AreOpened (source_of c.args.leaf.now)) (sym c.loop-self.invariant.1) c.requires.opened)
+returns-clause-opened c = c.end_short.ensures.opened (source_of c.args.leaf.now) (subst (AreOpened (source_of c.args.leaf.now)) (sym c.loop-self.invariant.1) c.requires.over.opened)
 
 pub returns-clause-stands : goal.returns-clause-stands
 returns-clause-stands c = any-slot c.end_short.result c.args.leaf.now c.args.self.now.slots.items (c.end_short.new.self.walk.next - 1) c.end_short.ensures.stands
@@ -27,7 +27,7 @@ returns-in-Short-clause-stands c =
     let t = c.loop-self-test.true in
     let n = c.len.ensures in
     let lt : old.walk.next < length old.slots.items = omega (arith, t, n) in
-    stands-at c.args.leaf.now old.slots.items c.args.self.now.slots.items old.walk.next c.give_short.new.self.walk.next c.index-slot.result.now c.in-Short.short (ap (λ v. v.items) i.0) lt c.index-slot.ensures e.place
+    stands-at c.args.leaf.now old.slots.items c.args.self.now.slots.items old.walk.next c.give_short.new.self.walk.next c.index-slot.result.now c.in-Short.short (ap (λ v. v.items) i.0) lt c.index-slot.ensures e.keeps.place
     (subst (λ n. IfShort n (StandsFor c.args.leaf.now c.index-slot.result.now)) c.in-Short.is e.stands)
 
 pub returns-in-Long-clause-long : goal.returns-in-Long-clause-long
@@ -39,7 +39,7 @@ returns-in-Long-clause-long c =
     let n = c.len.ensures in
     let lt : old.walk.next < length old.slots.items = omega (arith, t, n) in
     let long = subst (λ n. IfLong n (is_long c.index-slot.result.now.kind ≡ true)) c.in-Long.is e.long in
-    long-here old new c.index-slot.result.now lt c.index-slot.ensures e.slots e.place long
+    long-here old new c.index-slot.result.now lt c.index-slot.ensures e.keeps.slots e.keeps.place long
 
 pub returns-clause-long : goal.returns-clause-long
 returns-clause-long c = not-long c.end_short.result _ c.end_short.ensures.long
@@ -51,8 +51,8 @@ returns-in-Short-clause-left c = λ left.
     let new : LeafEvents = record c.give_short.new.self { walk = record c.give_short.new.self.walk { next = c.give_short.new.self.walk.next + 1 } } in
     let g = c.give_short.ensures in
     let low = i.2 in
-    let place = g.place in
-    left-later c.args.leaf.now old new (g.texts ∙ i.3) (g.links ∙ i.4) (g.slots ∙ i.0) (let q : old.walk.next ≤ new.walk.next = omega (arith, low, place) in q) left
+    let place = g.keeps.place in
+    left-later c.args.leaf.now old new (g.keeps.texts ∙ i.3) (g.keeps.links ∙ i.4) (g.keeps.slots ∙ i.0) (let q : old.walk.next ≤ new.walk.next = omega (arith, low, place) in q) left
 
 pub returns-in-Long-clause-left : goal.returns-in-Long-clause-left
 returns-in-Long-clause-left c = λ left.
@@ -61,8 +61,8 @@ returns-in-Long-clause-left c = λ left.
     let new : LeafEvents = c.give_short.new.self in
     let g = c.give_short.ensures in
     let low = i.2 in
-    let place = g.place in
-    left-later c.args.leaf.now old new (g.texts ∙ i.3) (g.links ∙ i.4) (g.slots ∙ i.0) (let q : old.walk.next ≤ new.walk.next = omega (arith, low, place) in q) left
+    let place = g.keeps.place in
+    left-later c.args.leaf.now old new (g.keeps.texts ∙ i.3) (g.keeps.links ∙ i.4) (g.keeps.slots ∙ i.0) (let q : old.walk.next ≤ new.walk.next = omega (arith, low, place) in q) left
 
 pub returns-clause-left : goal.returns-clause-left
 returns-clause-left c = λ left.
@@ -71,8 +71,8 @@ returns-clause-left c = λ left.
     let new : LeafEvents = c.end_short.new.self in
     let g = c.end_short.ensures in
     let low = i.2 in
-    let place = g.place in
-    left-later c.args.leaf.now old new (g.texts ∙ i.3) (g.links ∙ i.4) (g.slots ∙ i.0) (let q : old.walk.next ≤ new.walk.next = omega (arith, low, place) in q) left
+    let place = g.keeps.place in
+    left-later c.args.leaf.now old new (g.keeps.texts ∙ i.3) (g.keeps.links ∙ i.4) (g.keeps.slots ∙ i.0) (let q : old.walk.next ≤ new.walk.next = omega (arith, low, place) in q) left
 
 pub returns-in_default-clause-ends : goal.returns-in_default-clause-ends
 returns-in_default-clause-ends c =
@@ -99,6 +99,3 @@ returns-in-Short-clause-events c = grind (arith, common_steps)
 
 pub returns-in-Short-clause-fewer : goal.returns-in-Short-clause-fewer
 returns-in-Short-clause-fewer c = grind (arith, common_steps)
-
-pub returns-in-Short-clause-most : goal.returns-in-Short-clause-most
-returns-in-Short-clause-most c = grind (arith, common_steps)

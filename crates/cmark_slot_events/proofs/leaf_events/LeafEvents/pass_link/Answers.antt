@@ -25,7 +25,7 @@ pub returns-clause-opened : goal.returns-clause-opened
 returns-clause-opened c =
     let source = source_of c.args.leaf.now in
     subst (AreOpened source) (sym c.in_ok-push.ensures.items)
-    (All-push (λ (one : Opened). IsPart source one.start one.end) c.args.self.now.walk.opened.items _ c.requires.opened c.range-range.ensures.part)
+    (All-push (λ (one : Opened). IsPart source one.start one.end) c.args.self.now.walk.opened.items _ c.requires.over.opened c.range-range.ensures.part)
 
 pub returns-clause-fewer : goal.returns-clause-fewer
 returns-clause-fewer c =
@@ -38,4 +38,4 @@ pub returns-clause-events : goal.returns-clause-events
 returns-clause-events c =
     let old = c.args.self.now in
     starts-first c.args.leaf.now old.texts.items old.links.items old.slots.items old.walk.opened.items old.walk.next c.index-slot.result.now c.index-slot.ensures c.requires.ahead c.push.new.self.items c.range-range.result.start c.range-range.result.end
-    c.requires.read (slot-part c.args.leaf.now old.slots.items old.walk.next c.index-slot.result.now (ahead-lies old.links.items old.slots.items old.walk.next c.requires.ahead) c.index-slot.ensures c.requires.slots) c.range-range.ensures.start c.range-range.ensures.end c.in_ok-push.ensures.items
+    c.requires.over.read (slot-part c.args.leaf.now old.slots.items old.walk.next c.index-slot.result.now (ahead-lies old.links.items old.slots.items old.walk.next c.requires.ahead) c.index-slot.ensures c.requires.over.slots) c.range-range.ensures.start c.range-range.ensures.end c.in_ok-push.ensures.items

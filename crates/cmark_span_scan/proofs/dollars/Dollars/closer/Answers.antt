@@ -16,12 +16,12 @@ pub returns-clause-value : goal.returns-clause-value
 returns-clause-value c =
     let text : List ℕ = c.args.text.now in
     let items : List Dollar = dollars_in text in
-    let table : AreListed text c.args.self.now = c.requires.dollars c.requires.listed in
+    let table : AreListed text c.args.self.now = c.requires.listed.table in
     let at : ℕ = c.args.at in
     let index : ℕ = c.index_of-index.result in
     let context : ℕ = context_of (braces_at text at) in
     let index-is : index ≡ prefix_len (stands_before at) items = c.index_of-index.ensures.value ∙ ap (prefix_len (stands_before at)) table.dollars_are in
-    let listed : IsListed items at context none = listed-at 0 false no_braces text at at none (let q : at ≡ 0 + at = omega arith in q) c.requires.within c.requires.dollar in
+    let listed : IsListed items at context none = listed-at 0 false no_braces text at at none (let q : at ≡ 0 + at = omega arith in q) c.requires.dollar.within c.requires.dollar.is in
     let following : closing (at + 1) context items ≡ closing (at + 1) context (drop index items) = closing-following (at + 1) context at items (omega arith) ∙ ap (λ n. closing (at + 1) context (drop n items)) (sym index-is) in
     let entry : get_or c.args.self.now.successors.items index c.index.result.now ≡ get_or c.args.self.now.successors.items index 0 = get_or_default c.args.self.now.successors.items index c.index.result.now 0 (omega (arith, index-is, listed.within, table.links.whole)) in
     c.place.ensures

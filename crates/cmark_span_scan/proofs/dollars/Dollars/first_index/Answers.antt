@@ -21,7 +21,7 @@ returns-clause-reached c = λ le.
     let items : List Dollar = c.args.self.now.listed.items in
     let reached : ℕ = c.args.self.now.reached in
     let none : Dollar = record { place = 0; context = 0; is_escaped = false } in
-    let low : (d : Dollar) → (reached < length items) × ((get_or items reached d).place ≤ c.args.at) = λ d. subst (λ l. (reached < length l) × ((get_or l reached d).place ≤ c.args.at)) (sym c.requires.listed) (reached-low c.args.text.now c.args.at reached d c.requires.within c.requires.dollar le) in
+    let low : (d : Dollar) → (reached < length items) × ((get_or items reached d).place ≤ c.args.at) = λ d. subst (λ l. (reached < length l) × ((get_or l reached d).place ≤ c.args.at)) (sym c.requires.listed) (reached-low c.args.text.now c.args.at reached d c.requires.dollar.within c.requires.dollar.is le) in
     elim c.else-self-len.branch [
       | else-self-len-via-then-self-len+else-index-at w ↦ (let l = (low w.index.result.now).1 in let is = ap (λ (x : Dollar). x.place) w.index.ensures in absurd (omega (arith, l, is, w.if-index-at.false)))
       | else-self-len-via-else-self-len w ↦ (let l = (low none).0 in absurd (omega (arith, l, w.if-self-len.false, c.len.ensures, c.args.self.now.listed.ok.0)))

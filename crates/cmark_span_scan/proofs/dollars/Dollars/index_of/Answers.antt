@@ -11,7 +11,7 @@ pub returns-after-loop-index-clause-within : goal.returns-after-loop-index-claus
 returns-after-loop-index-clause-within c =
     let place : ℕ = c.args.at in
     let d : Dollar = record { place = 0; context = 0; is_escaped = false } in
-    let listed = (listed-at 0 false no_braces c.args.text.now place place d (let q : place ≡ 0 + place = omega arith in q) c.requires.within c.requires.dollar).within in
+    let listed = (listed-at 0 false no_braces c.args.text.now place place d (let q : place ≡ 0 + place = omega arith in q) c.requires.dollar.within c.requires.dollar.is).within in
     let within : prefix_len (stands_before place) c.args.self.now.listed.items < length c.args.self.now.listed.items = subst (λ (l : List Dollar). prefix_len (stands_before place) l < length l) (sym c.requires.listed) listed in
     omega (arith, within, c.loop-index.invariant.before)
 
