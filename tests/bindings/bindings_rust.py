@@ -27,7 +27,7 @@ from programs import BITS, FLAGS, ROOT, lacking
 
 CRATE = ROOT / "bindings" / "rust"
 DEBIAN = pathlib.Path("/usr/share/cargo/registry")
-NEEDED = ["bitflags", "serde", "unicase"]
+NEEDED = ["bitflags", "serde", "serde_derive", "unicase"]
 EXAMPLES = ["outline", "links", "lint", "filter", "follow"]
 # The options of pulldown-cmark, and the flag of the programs for a rule that it always applies.
 OPTIONS = {flag: bits for flag, bits in zip(FLAGS, BITS) if flag not in ("highlight", "email-autolinks")}
@@ -73,7 +73,7 @@ def lack():
             (room / name).parent.mkdir(exist_ok=True)
             (room / name).touch()
         if cargo(["generate-lockfile"], room).returncode:
-            return f"the Rust crate, for lack of the crates {', '.join(NEEDED)}: Debian's librust-{{{','.join(NEEDED)}}}-dev"
+            return f"the Rust crate, for lack of the crates {', '.join(NEEDED)}: Debian's librust-{{{','.join(NEEDED).replace('_', '-')}}}-dev"
     return None
 
 
