@@ -56,13 +56,6 @@ module _ (options : Options) where
   unfolding opens
   opens-lazy r ahead e = rw e refl
 
-  pub opens-whole : (r : Row) (ahead : List Row) → opens options r ahead ≢ Plain → r.lazy ≡ false
-  opens-whole r ahead ne = go r.lazy refl
-    where
-      go : (z : Bool) → r.lazy ≡ z → r.lazy ≡ false
-      go true e = absurd (ne (opens-lazy r ahead e))
-      go false e = e
-
   pub underlines-lazy : (r : Row) → r.lazy ≡ true → underlines r ≡ None
   unfolding underlines
   underlines-lazy r e = rw e refl
@@ -359,9 +352,6 @@ module _ (options : Options) where
   fewer : (k : Container) (r : Row) → indent_of r < marker_width k r → 0 < length r.columns → length (enter k r).columns < length r.columns
   unfolding enter
   fewer k r wide some = let more = marker-within k r in rw (length-drop (width_of k r) r.columns) (omega (arith, wide, more, some))
-
-  pub enter_len : (k : Container) (r : Row) (ahead : List Row) → opens options r ahead ≡ Nests k → length (enter k r).columns < length r.columns
-  enter_len k r ahead e = fewer k r (subst (IsWide r) e (wide_opens r ahead)) (opens-some r ahead k e)
 
   -- the line after the container's own marker is shorter
   pub marker_len : (k : Container) (r : Row) (ahead : List Row) → opens options r ahead ≡ Nests k → length (without (marker_width k r) r).columns < length r.columns

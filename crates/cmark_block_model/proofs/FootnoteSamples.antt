@@ -2,7 +2,7 @@
 use Rattle.std.specs.Prelude.{◌≡◌, ◌∷◌, refl, ℕ, true, false, List, [], codes, Option, Some, None, option_map}
 use Rattle.cmark_grammar.specs.BlockDocument.{BlockList, ListItem, FootnoteDefinition, Paragraph, TightParagraph, Text, Nil, Node, node, outline}
 use Rattle.cmark_grammar.specs.Blocks as grammar
-use Rattle.cmark_grammar.specs.Blocks.{Blocks, ContainerBlock}
+use Rattle.cmark_grammar.specs.Blocks.{ContainerBlock}
 use Rattle.cmark_grammar.specs.Columns.{bytes_of}
 use Rattle.cmark_grammar.specs.Containers.{Container, Footnote, enter, keeps}
 use Rattle.cmark_block_model.specs.BlocksModel.{begin, blocks}

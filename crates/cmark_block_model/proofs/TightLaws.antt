@@ -66,9 +66,6 @@ html_piece : (tight owned : Bool) (bytes : List ℕ) (start end : ℕ) → IsEle
 html_piece tight true bytes start end = tt
 html_piece tight false bytes start end = tt
 
-html_inside : (tight owned : Bool) (bytes : List ℕ) (start end : ℕ) → HasTightParagraphs (tight_within tight (html_kind_of (record { owned = owned; bytes = bytes; start = start; end = end }))) Nil
-html_inside tight owned bytes start end = tt
-
 html_then_tight : (tight : Bool) (ps : List Piece) (after : BlockDocument) → HasTightParagraphs tight after → HasTightParagraphs tight (html_then ps after)
 html_then_tight tight [] after h = h
 html_then_tight tight (p ∷ ps) after h = (html_piece tight p.owned p.bytes p.start p.end, tt, html_then_tight tight ps after h)

@@ -34,14 +34,6 @@ pub pieces-lower : (a b : ℕ) (ps : List Piece) (to : ℕ) → a ≤ b → InPi
 pieces-lower a b [] to le h = let g : b ≤ to = h in omega (arith, le, g)
 pieces-lower a b (p ∷ ps) to le h = let g : b ≤ p.start = h.0 in (omega (arith, le, g), h.1, h.2)
 
-pieces-le : (from : ℕ) (ps : List Piece) (to : ℕ) → InPieces from ps to → from ≤ to
-pieces-le from [] to h = h
-pieces-le from (p ∷ ps) to h =
-    let a : from ≤ p.start = h.0 in
-    let b : p.start ≤ p.end = h.1 in
-    let c : p.end ≤ to = pieces-le p.end ps to h.2 in
-    omega (arith, a, b, c)
-
 texts-order : (from : ℕ) (ps : List Piece) (mid : ℕ) (after : BlockDocument) (to : ℕ) → InPieces from ps mid → InOrder mid after to → InOrder from (texts_then ps after) to
 texts-order from [] mid after to h a = InOrder-lower from mid after to h a
 texts-order from (p ∷ ps) mid after to h a = (h.0, h.1, texts-order p.end ps mid after to h.2 a)

@@ -174,10 +174,6 @@ pub listed-otherwise : (walk : Walk) (is_checked : Bool) (start end : ℕ) → w
 listed-otherwise walk is_checked start end now left r m =
     no-end _ (list-otherwise is_checked start end r.here r.above (subst (λ k. IsStaged k r.here) now r.staged)) (subst MayBeginWithEnd (left-staged walk (stage.Listed is_checked start end) left now r) m)
 
--- before the lines of a leaf that has some
-pub lines-otherwise : (walk : Walk) → walk.stage ≡ stage.Lines → HasText walk → NoEndIsNext walk
-lines-otherwise walk now text left r m = text r.z r.here r.above r.stands (subst MayBeginWithEnd (left-staged walk stage.Lines left now r) m)
-
 some-nodes : (walk : Walk) (to : TreeIndex) (forest : Forest (Placed Item)) (nodes : BlockDocument) → Draws walk.text.now (texts_of walk) forest nodes → Some to ≡ focus_of forest → nodes ≡ document.Nil → ⊥
 some-nodes walk to Nil nodes d e n = let q : Some to ≡ None = e in cc
 some-nodes walk to (Node p f g) document.Nil d e n = d

@@ -2,9 +2,8 @@
 use Rattle.std.proofs.Common.{◌≡◌, ℕ, Bool, List, ◌∷◌, ◌++◌, Some, None, refl, sym, ap, ◌∙◌, subst, append_assoc}
 use Rattle.cmark_tree.specs.declared.tree.Tree.{Tree}
 use Rattle.cmark_tree.specs.declared.tree_index.TreeIndex.{TreeIndex}
-use Rattle.cmark_tree.specs.Forest.{join}
 use Rattle.cmark_tree.specs.Zip.{Zip, past, Sibling}
-use Rattle.cmark_tree.specs.Tree.{Holds, IsAtSibling}
+use Rattle.cmark_tree.specs.Tree.{Holds}
 use Rattle.cmark_text.specs.declared.event.TagEnd.{TagEnd as TextEnd}
 use Rattle.cmark_text.specs.Shown.{shown_end}
 use Rattle.cmark_values.specs.declared.text.CowStr.{CowStr}
@@ -17,7 +16,7 @@ use Rattle.cmark_items.specs.declared.item.Item.{Item}
 use Rattle.cmark_leaf_text.specs.declared.stretch.LeafLine.{LeafLine}
 use Rattle.cmark_block_walk.specs.declared.walk.Walk.{Walk}
 use Rattle.cmark_block_walk.specs.declared.reading.Stage.TheVariants as stage
-use Rattle.cmark_block_walk.specs.Walking.{Drawn, GivesLeaf, Goes, HoldsLines, IsFirst, IsStaged, Remains, leaf_at, left_above, left_after, left_from, leaving, texts_of, tight_below}
+use Rattle.cmark_block_walk.specs.Walking.{Drawn, GivesLeaf, HoldsLines, IsFirst, IsStaged, Remains, leaf_at, left_above, left_after, left_from, leaving, texts_of, tight_below}
 use Rattle.cmark_block_walk.proofs.WalkSteps.{Focus, IsFocusAt, IsItem, at-item, at_range, beyond, left-staged, moved, over-range, passed, remains-before, staged}
 use Rattle.cmark_block_walk.proofs.LeaveSteps.{EndsAs, leaving-none, leaving-some}
 
@@ -42,11 +41,6 @@ meets-leaf walk item ix cell lines at is in-cell now holds left r = (
 )
 
 module _ (walk : Walk) (item : Item) (ix : TreeIndex) (at : IsFocusAt walk ix) (is : IsItem walk.tree ix item) where
-  -- the focus is among its siblings
-  pub leaf-here : Goes walk → IsAtSibling walk.tree ix.ix
-  leaf-here g =
-      let f = at-item walk item ix at is g.1.z g.1.here g.1.above g.1.stands in
-      (g.1.z, g.1.stands.below.holds, record { left = g.1.z.left; place = f.place; inside = f.inner; after = f.later; split = ap (join g.1.z.left) f.right_is; at = f.at })
 
   module _ (t : Tree Item) (next : (z : Zip Item) (s : Sibling z ix.ix) → Holds walk.tree z → Holds t (past z ix.ix s)) (now : walk.stage ≡ stage.Following) where
     -- past the leaf

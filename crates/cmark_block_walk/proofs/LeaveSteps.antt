@@ -6,7 +6,7 @@ use Rattle.cmark_tree.specs.declared.tree_index.TreeIndex.{TreeIndex}
 use Rattle.cmark_tree.specs.Forest.{Forest, Nil, Node}
 use Rattle.cmark_tree.specs.Arena.{first, Placed}
 use Rattle.cmark_tree.specs.Zip.{Level, Zip, siblings, popped, pop_to, past, Sibling}
-use Rattle.cmark_tree.specs.Tree.{entry_at, Holds, HasNode, IsAtSibling, focus_of, parent_of}
+use Rattle.cmark_tree.specs.Tree.{entry_at, Holds, HasNode, focus_of, parent_of}
 use Rattle.cmark_tree.proofs.Steps.{in_right}
 use Rattle.cmark_tree.proofs.Entries.{node_at-within}
 use Rattle.cmark_text.specs.declared.event.TagEnd.{TagEnd as TextEnd}
@@ -151,11 +151,6 @@ module _ (walk : Walk) (ix : TreeIndex) (t : Tree Item) (none : IsNone-at walk) 
 
   abbrev parent-sibling : (z : Zip Item) (here : BlockDocument) (above : List Outer) (b : Following walk ix z here above) → Sibling (over-parent z here above b) ix.ix
   parent-sibling z here above b = record { left = b.level.left; place = b.level.place; inside = siblings z; after = b.level.right; split = refl; at = b.at }
-
-  pub parent-here : Goes walk → IsAtSibling t ix.ix
-  parent-here g =
-      let b = following walk ix g.1.z g.1.here g.1.above g.1.stands none parent in
-      (over-parent g.1.z g.1.here g.1.above b, (at-parent g.1.z g.1.here g.1.above g.1.stands b).holds, parent-sibling g.1.z g.1.here g.1.above b)
 
   module _ (item : Item) (t2 : Tree Item) (is : IsItem t ix item) (next : (z : Zip Item) (s : Sibling z ix.ix) → Holds t z → Holds t2 (past z ix.ix s)) where
     drawn-item : (z : Zip Item) (here : BlockDocument) (above : List Outer) → StandsAt walk z here above → (b : Following walk ix z here above) → Drawn walk.text.now (texts_of walk) item b.parent.node

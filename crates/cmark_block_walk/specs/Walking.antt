@@ -16,7 +16,6 @@ use Rattle.cmark_tree.specs.declared.tree_index.TreeIndex.{TreeIndex}
 use Rattle.cmark_tree.specs.Tree.{Holds, focus_of, entry_at}
 use Rattle.cmark_grammar.specs.TagEnd.{TagEnd, end_of}
 use Rattle.cmark_grammar.specs.Event as event
-use Rattle.cmark_grammar.specs.Event.{Event}
 use Rattle.cmark_grammar.specs.BlockDocument as document
 use Rattle.cmark_grammar.specs.BlockDocument.{BlockKind, BlockNode, BlockDocument, node}
 use Rattle.cmark_grammar.specs.BlockReading as reads

@@ -1,6 +1,6 @@
 //! The reading of an item of a document's tree: an event, or the tag and the end of an element.
 
-ghost use Rattle.std.specs.Prelude.{◌≡◌, ℕ, Bool, true, List, IfOk, option_map, Some};
+ghost use Rattle.std.specs.Prelude.{◌≡◌, Bool, true, List, IfOk, option_map, Some};
 ghost use Rattle.cmark_tree.specs.Zip.{Zip};
 ghost use Rattle.cmark_grammar.specs.BlockDocument.{BlockNode};
 ghost use Rattle.cmark_grammar.specs.BlockReading as reads;

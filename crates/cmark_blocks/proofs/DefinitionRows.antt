@@ -1,6 +1,5 @@
 -- Lines that begin no definition, and the definition that a line begins.
-use Rattle.std.proofs.Common.{◌≡◌, ℕ, suc, ◌<◌, ◌-◌, Bool, true, false, ◌==◌, ◌&&◌, not, List, [], ◌∷◌, length, Option, Some, None, refl, sym, ap, ◌∙◌, arith, true≢false, eqb-true, length-drop}
-use Rattle.std.proofs.lemmas.Option.{same_Some}
+use Rattle.std.proofs.Common.{◌≡◌, ℕ, suc, ◌-◌, Bool, true, false, ◌==◌, ◌&&◌, not, List, [], ◌∷◌, Option, Some, None, refl, sym, ap, ◌∙◌, eqb-true}
 use Rattle.std.specs.Prelude.{if◌then◌else◌, nat_le}
 use Rattle.cmark_grammar.specs.Answers.{Lookup}
 use Rattle.cmark_grammar.specs.Blocks.{place_in}
@@ -10,7 +9,6 @@ use Rattle.cmark_grammar.specs.Letters.{first_is, is_letter}
 use Rattle.cmark_grammar.specs.Openings.{Nests, opens, opens_at, definition_or, text_begun}
 use Rattle.cmark_grammar.specs.Options.{Options}
 use Rattle.cmark_grammar.specs.Places.{Place, Apart, is_after_task, is_after_title}
-use Rattle.cmark_grammar.specs.Columns.{Column, bytes_of, without_indent}
 use Rattle.cmark_grammar.specs.Rows.{Row, indent_of, words_of, without}
 use Rattle.cmark_block_model.specs.BlockPass.{ahead_in, begin_as, begin_in, container_begun, inside_begun, is_item, place_of, place_with, definitions_in}
 use Rattle.cmark_block_model.specs.OpenBlocks as model
@@ -83,29 +81,3 @@ module _ (text : List ℕ) (options : Options) (lookup : Lookup) (r s : Row) (co
       ap (λ o. begin_as text options lookup o (λ k. inside_begun (is_alert k) (container_begun k r m) (begin_in text options lookup columns (place_in k) (enter k r) next (is_item k) (container_begun k r m))) r ahead bare m)
       (opens-definition options m.inner r ahead width is)
       ∙ ap (λ (x : Row). begin_in text options lookup columns Apart x next true (container_begun (ListDefinition width) r m)) (sym inside)
-
--- a definition's marker is there, and its width counts it
-marked-wide : (z : Bool) (r : Row) (width : ℕ) → Some width ≡ (if z then definition_width r else None) → (begins_with 58 (words_of r) ≡ true) × (width ≡ width_with 1 r)
-marked-wide false r width e = absurd (let q : Some width ≡ None = e in cc)
-marked-wide true r width e = go (begins_with 58 (words_of r)) refl e
-  where
-    go : (z : Bool) → begins_with 58 (words_of r) ≡ z → Some width ≡ (if z then Some (width_with 1 r) else None) → (begins_with 58 (words_of r) ≡ true) × (width ≡ width_with 1 r)
-    go true c q = (c, same_Some width (width_with 1 r) q)
-    go false c q = absurd (let n : Some width ≡ None = q in cc)
-
--- words that begin with a byte have columns
-some-columns : (r : Row) → begins_with 58 (words_of r) ≡ true → 0 < length r.columns
-some-columns r e = go r.columns refl
-  where
-    go : (cs : List Column) → r.columns ≡ cs → 0 < length r.columns
-    go (c ∷ cs) is = let n : length r.columns ≡ suc (length cs) = ap length is in omega (arith, n)
-    go [] is = absurd (true≢false (sym e ∙ ap (λ cs. begins_with 58 (bytes_of (without_indent cs))) is))
-
--- after its marker fewer columns are left
-pub definition-shorter : (options : Options) (r s : Row) (width : ℕ) → Some width ≡ definition_marker options r → s ≡ without width r → length s.columns < length r.columns
-definition-shorter options r s width is following =
-    let wide = marked-wide (options.definition_list && (not r.lazy && nat_le (indent_of r) 3)) r width is in
-    let e : width ≡ width_with 1 r = wide.1 in
-    let some = some-columns r wide.0 in
-    let left : length s.columns ≡ length r.columns - width = ap (λ (x : Row). length x.columns) following ∙ length-drop width r.columns in
-    omega (arith, e, some, left)

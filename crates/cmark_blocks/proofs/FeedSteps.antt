@@ -1,5 +1,5 @@
 -- Another line, after the open leaf.
-use Rattle.std.proofs.Common.{◌≡◌, ◌≢◌, ℕ, suc, ◌≤◌, ◌==◌, Bool, true, false, not, ◌&&◌, ◌||◌, if◌then◌else◌, List, [], ◌∷◌, take, drop, length, map, Some, None, refl, sym, ap, subst, ◌∙◌, arith, true≢false}
+use Rattle.std.proofs.Common.{◌≡◌, ◌≢◌, ℕ, ◌≤◌, ◌==◌, Bool, true, false, not, ◌&&◌, ◌||◌, if◌then◌else◌, List, [], ◌∷◌, take, drop, length, map, Some, None, refl, sym, ap, subst, ◌∙◌, arith, true≢false}
 use Rattle.std.proofs.lemmas.List.{drop_all}
 use Rattle.cmark_grammar.specs.Answers.{Lookup}
 use Rattle.cmark_grammar.specs.Containers.{Container}
@@ -73,17 +73,6 @@ module _ (text : List ℕ) (options : Options) (lookup : Lookup) (r : Row) (next
       leaf_fed text options lookup m.leaf r next m ≡ paragraph_line text options lookup before from last r m
   feeds-text before from last under whole on is = feeds-other before from last true under whole (ap not (sym on)) is
 
-  -- after a link reference definition
-  pub feeds-last : m.leaf ≡ model.InDefinition 0 → leaf_fed text options lookup m.leaf r next m ≡ begin text options lookup r next (leaf_closed text options lookup m)
-  feeds-last is = ap (λ l. leaf_fed text options lookup l r next m) is
-
-  pub feeds-left : (left : ℕ) → m.leaf ≡ model.InDefinition (suc left) → leaf_fed text options lookup m.leaf r next m ≡ record m { leaf = model.InDefinition left }
-  feeds-left left is = ap (λ l. leaf_fed text options lookup l r next m) is
-
-  -- after a table's head
-  pub feeds-delimiter : (columns left : ℕ) → m.leaf ≡ model.InTable columns left false → leaf_fed text options lookup m.leaf r next m ≡ record m { leaf = model.InTable columns left true }
-  feeds-delimiter columns left is = ap (λ l. leaf_fed text options lookup l r next m) is
-
   feeds-table : (columns left : ℕ) (is_another : Bool) → m.leaf ≡ model.InTable columns left true → is_row options columns left r ≡ is_another
       → leaf_fed text options lookup m.leaf r next m ≡ (if is_another then table_row text options lookup columns left r m else begin text options lookup r next (leaf_closed text options lookup m))
   feeds-table columns left is_another is row =
@@ -92,14 +81,6 @@ module _ (text : List ℕ) (options : Options) (lookup : Lookup) (r : Row) (next
 
   pub feeds-row : (columns left : ℕ) → m.leaf ≡ model.InTable columns left true → is_row options columns left r ≡ true → leaf_fed text options lookup m.leaf r next m ≡ table_row text options lookup columns left r m
   feeds-row columns left is row = feeds-table columns left true is row
-
-  pub feeds-following_table : (columns left : ℕ) → m.leaf ≡ model.InTable columns left true → is_row options columns left r ≡ false
-      → leaf_fed text options lookup m.leaf r next m ≡ begin text options lookup r next (leaf_closed text options lookup m)
-  feeds-following_table columns left is row = feeds-table columns left false is row
-
-  -- after an alert's tag
-  pub feeds-following : m.leaf ≡ model.AfterTag → leaf_fed text options lookup m.leaf r next m ≡ begin text options lookup r next (leaf_closed text options lookup m)
-  feeds-following is = ap (λ l. leaf_fed text options lookup l r next m) is
 
   -- lazy lines
   pub lazy-paragraph : (before : List Row) (from : ℕ) (last : Row) → m.leaf ≡ model.InParagraph before from last → lazy_fed text options lookup m.leaf r m ≡ paragraph_line text options lookup before from last r m

@@ -47,10 +47,6 @@ module _ (text : List ℕ) (r : Row) where
         (step (lines_drawn text rs (shown_waits text waits) d) (lines.draws d draws)));
   }
 
--- no line was drawn yet
-pub draws-no-line : (text : List ℕ) (b : Builder) (waits : Option Stretch) → DrawsLines text b b [] waits waits
-draws-no-line text b waits = record { left_is = refl; draws = λ d draws. draws }
-
 -- the rows of one line more
 pub rows-more : (lines : List LineRest) (i : ℕ) (line : LineRest) → i < length lines → line ≡ get_or lines i line → map row_of (take i lines) ++ row_of line ∷ [] ≡ map row_of (take (i + 1) lines)
 rows-more lines i line within is =

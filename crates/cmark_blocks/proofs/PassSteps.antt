@@ -1,5 +1,5 @@
 -- The pass over a whole text, and over the rest of one.
-use Rattle.std.proofs.Common.{◌≡◌, ℕ, List, [], ◌∷◌, ◌++◌, false, map, option_map, refl, sym, ap, subst, ◌∙◌}
+use Rattle.std.proofs.Common.{◌≡◌, ℕ, List, [], ◌∷◌, ◌++◌, false, map, refl, sym, ap, subst, ◌∙◌}
 use Rattle.cmark_tree.specs.Building.{Is}
 use Rattle.cmark_block_model.proofs.BlocksSound.{blocks-body}
 use Rattle.cmark_grammar.specs.Answers.{Lookup}

@@ -1,5 +1,5 @@
 -- The pass in another state, after one part of it has changed.
-use Rattle.std.proofs.Common.{◌≡◌, ℕ, Bool, true, false, List, [], ◌∷◌, ◌++◌, Option, Some, None, option_map, refl, ap, subst, ◌∙◌, Vec, String, Global, ◌==◌}
+use Rattle.std.proofs.Common.{◌≡◌, ℕ, Bool, true, false, List, [], ◌∷◌, ◌++◌, Option, Some, None, refl, ap, subst, ◌∙◌, Vec, String, Global, ◌==◌}
 use Rattle.cmark_grammar.specs.Options.{Options}
 use Rattle.cmark_grammar.specs.Answers.{Lookup}
 use Rattle.cmark_references.specs.Definitions.{reference_at}
@@ -12,7 +12,7 @@ use Rattle.cmark_builder.specs.Drawn.{Draws}
 use Rattle.cmark_blocks.specs.declared.siblings.Siblings.{Siblings}
 use Rattle.cmark_blocks.specs.declared.state.Pass.{Pass}
 use Rattle.cmark_blocks.specs.declared.state.OpenContainer.{OpenContainer}
-use Rattle.cmark_blocks.specs.Shown.{shown_list, shown_siblings, ShowsContainer, ShowsContainers, list_of}
+use Rattle.cmark_blocks.specs.Shown.{shown_siblings, ShowsContainer, ShowsContainers, list_of}
 use Rattle.cmark_block_model.specs.BlockPass.{item_begun, list_begun, list_goes_on}
 use Rattle.std.specs.Prelude.{if◌then◌else◌}
 use Rattle.std.proofs.lemmas.Option.{same_Some}

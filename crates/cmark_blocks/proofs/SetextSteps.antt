@@ -1,7 +1,7 @@
 -- The attributes of a setext heading, and the drawing without them.
 use Rattle.std.proofs.Common.{◌≡◌, ℕ, Bool, true, false, List, [], ◌∷◌, ◌++◌, Some, None, refl, sym, ap, ◌∙◌, subst}
-use Rattle.std.specs.Prelude.{if◌then◌else◌, string_bytes}
-use Rattle.cmark_grammar.specs.Attributes.{attributes_of, no_attributes}
+use Rattle.std.specs.Prelude.{if◌then◌else◌}
+use Rattle.cmark_grammar.specs.Attributes.{no_attributes}
 use Rattle.cmark_grammar.specs.SetextAttributes.{attributes_place, texts_if, setext_attributes}
 use Rattle.cmark_block_model.specs.Drawing.{OpenNode, Drawing, cut_at, texts_cut, unbraced}
 use Rattle.cmark_line_rules.specs.declared.line_rest.LineRest.{LineRest}
@@ -31,19 +31,6 @@ last-read text l from last is h = subst (IsLastRead text) is h
 pub none-attributes : (attributes : Bool) (before : List LineRest) (last : LineRest) → FindsIf attributes before last None → no_attributes ≡ setext_attributes attributes (content_columns before last)
 none-attributes false before last e = refl
 none-attributes true before last e = sym (no-setext (content_columns before last) e)
-
-pub none-unbraced : (text : List ℕ) (attributes : Bool) (before : List LineRest) (last : LineRest) (d : Drawing) → FindsIf attributes before last None → d ≡ unbraced text attributes (content_columns before last) d.here d.up
-none-unbraced text attributes before last d e = go d.up attributes e
-  where
-    go : (up : List OpenNode) (attributes : Bool) → FindsIf attributes before last None → record { here = d.here; up = up } ≡ unbraced text attributes (content_columns before last) d.here up
-    go [] attributes e = refl
-    go (v ∷ up) false e = refl
-    go (v ∷ up) true e = sym (ap (λ z. record { here = texts_if z text (attributes_place (content_columns before last)) d.here; up = v ∷ up }) e)
-
--- if attributes were found
-pub found-attributes : (attributes : Bool) (before : List LineRest) (last : LineRest) (found : SetextAttributes) → FindsIf attributes before last (Some found) → attributes_of (string_bytes found.words) ≡ setext_attributes attributes (content_columns before last)
-found-attributes false before last found e = absurd (let q : Some found ≡ None = e in cc)
-found-attributes true before last found h = ap attributes_of h.words
 
 pub found-unbraced : (text : List ℕ) (attributes : Bool) (before : List LineRest) (last : LineRest) (found : SetextAttributes) (d : Drawing) → FindsIf attributes before last (Some found)
     → texts_cut text found.place d ≡ unbraced text attributes (content_columns before last) d.here d.up

@@ -22,10 +22,6 @@ pub cells-some : (z : Bool) (cells columns : ℕ) → Some columns ≡ (if z the
 cells-some true cells columns e = (refl, let q : Some columns ≡ Some cells = e in cc)
 cells-some false cells columns e = absurd (let q : Some columns ≡ None = e in cc)
 
-pub cells-none : (z : Bool) (cells : ℕ) → None ≡ (if z then Some cells else None) → z ≡ false
-cells-none true cells e = absurd (let q : None ≡ Some cells = e in cc)
-cells-none false cells e = refl
-
 module _ (options : Options) (r : Row) (ahead : List Row) where
   by_tests : (tables pipe : Bool) → options.tables ≡ tables → holds_pipe (words_of r) ≡ pipe →
       table_head options r ahead ≡ (if tables && (not r.lazy && pipe) then delimited_ahead (count_cells r) ahead else None)
@@ -36,14 +32,6 @@ module _ (options : Options) (r : Row) (ahead : List Row) where
   -- a line is not a head if tables are not read, or if it contains no pipe that separates cells
   pub unread-head : options.tables ≡ false → table_head options r ahead ≡ None
   unread-head off = by_tests false (holds_pipe (words_of r)) off refl
-
-  pub pipeless-head : holds_pipe (words_of r) ≡ false → table_head options r ahead ≡ None
-  pipeless-head none = by_tests options.tables false refl none ∙ go options.tables (not r.lazy)
-    where
-      go : (a b : Bool) → (if a && (b && false) then delimited_ahead (count_cells r) ahead else None) ≡ None
-      go true true = refl
-      go true false = refl
-      go false b = refl
 
   -- else the next line tells
   pub head-ahead : (columns : ℕ) → options.tables ≡ true → r.lazy ≡ false → holds_pipe (words_of r) ≡ true → count_cells r ≡ columns → table_head options r ahead ≡ delimited_ahead columns ahead
@@ -104,15 +92,6 @@ module _ (options : Options) (r : Row) (ahead : List Row) where
       grouped : (a b c : Bool) → (a && (b && c)) ≡ ((a && b) && c)
       grouped true b c = refl
       grouped false b c = refl
-
-  pub interrupts-never : options.tables ≡ false → table_interrupts options r ahead ≡ false
-  interrupts-never off =
-      interrupts-by (nat_le (indent_of r) 3 && begins_with_pipe (words_of r)) None refl (unread-head options r ahead off)
-      ∙ nothing (nat_le (indent_of r) 3 && begins_with_pipe (words_of r))
-    where
-      nothing : (z : Bool) → (z && false) ≡ false
-      nothing true = refl
-      nothing false = refl
 
 -- a head was found, or the line is not a head
 pub head-in_text : (options : Options) (r : Row) (ahead : List Row) (following : LineRest → List Row) (in_text : Option (ℕ × LineRest)) →

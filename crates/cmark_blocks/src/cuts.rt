@@ -192,7 +192,7 @@ impl CutSearch {
 impl<'a, E: EntityLookup> Pass<'a, E> {
     ghost use Rattle.std.specs.Prelude.{◌≡◌, ◌≤◌, ◌<◌, ◌&&◌, not, true, false, ℕ, List, Option, IfOk, IsCharBoundary, nat_lt, nat_le, length};
     ghost use Rattle.std.specs.List.{list_all};
-    ghost use Rattle.cmark_blocks.specs.Cuts.{ends_paragraph, ends_outer, ends_all, Tells, StartsAt};
+    ghost use Rattle.cmark_blocks.specs.Cuts.{ends_paragraph, ends_all, Tells, StartsAt};
     ghost use Rattle.cmark_grammar.specs.Columns.{bytes_of};
     ghost use Rattle.cmark_grammar.specs.Openings.{opens_at, texts};
     ghost use Rattle.cmark_grammar.specs.Places.{Apart};

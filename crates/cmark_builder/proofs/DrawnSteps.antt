@@ -6,13 +6,13 @@ use Rattle.cmark_values.specs.declared.text.CowStr.{CowStr}
 use Rattle.cmark_values.specs.Shown.{text_bytes}
 use Rattle.cmark_tree.specs.Forest as forest
 use Rattle.cmark_tree.specs.Forest.{Forest, one, join as join_forests}
-use Rattle.cmark_tree.specs.Building.{Opened, Is, IsPlaced, closed}
+use Rattle.cmark_tree.specs.Building.{Opened, Is, closed}
 use Rattle.cmark_grammar.specs.BlockDocument.{BlockKind, BlockNode, BlockDocument, DefinitionListTitle, Nil, Node, node, join}
 use Rattle.cmark_items.specs.declared.item.Item.{Item}
 use Rattle.cmark_items.specs.declared.item.ItemBody.{ItemBody}
 use Rattle.cmark_items.specs.declared.item.ItemBody.TheVariants as body
 use Rattle.cmark_items.specs.ItemNodes.{Shape, Element, Spelt, TextSlice, HtmlSlice, ParagraphOf, TitleOf, NoNode, shape, kind_of, kind_over, ranged, text_at, one_text, shown_inside, shown_element, shown_item, shown_forest, nodes_of}
-use Rattle.cmark_block_model.specs.Drawing.{OpenNode, Drawing, nothing_drawn, drawn, opened, close_as, closed_as, close_at, closed_at, last_or, last_of, before_last, as_kind, start_in, retitled, enclosed, release_as, released}
+use Rattle.cmark_block_model.specs.Drawing.{OpenNode, Drawing, drawn, opened, close_as, closed_as, close_at, closed_at, last_or, last_of, before_last, as_kind, start_in, retitled, enclosed, release_as, released}
 use Rattle.cmark_tree.proofs.Items.{one_inj, none_last}
 use Rattle.cmark_builder.specs.declared.builder.Builder.{Builder}
 use Rattle.cmark_builder.specs.Drawn.{shown_open, open_node, Draws}
@@ -492,10 +492,6 @@ draws-text text old new more d same kept draws = record {
   up_is = subst (λ t. map (shown_open text t) draws.up ≡ map open_node d.up) (sym kept) (up-more text old.allocations.texts more draws.up d.up draws.up_is);
 }
 
--- nothing was drawn yet
-pub draws-nothing : (text : List ℕ) (b : Builder) → Is b.tree forest.Nil [] → Draws text b nothing_drawn
-draws-nothing text b is = record { here = forest.Nil; up = []; is = is; here_is = refl; up_is = refl }
-
 -- the definitions of links are not part of the drawing
 pub draws-same : (text : List ℕ) (old new : Builder) (d : Drawing) → new.tree ≡ old.tree → new.allocations.texts ≡ old.allocations.texts → Draws text old d → Draws text new d
 draws-same text old new d same kept draws = record {
@@ -505,7 +501,3 @@ draws-same text old new d same kept draws = record {
   here_is = subst (λ t. shown_forest text t draws.here ≡ nodes_of d.here) (sym kept) draws.here_is;
   up_is = subst (λ t. map (shown_open text t) draws.up ≡ map open_node d.up) (sym kept) draws.up_is;
 }
-
--- a builder that has drawn something can continue
-pub draws-placed : (text : List ℕ) (b : Builder) (d : Drawing) → Draws text b d → IsPlaced b.tree
-draws-placed text b d draws = (draws.here, draws.up, draws.is)

@@ -5,7 +5,6 @@ ghost use Rattle.cmark_tree.specs.Forest.{Forest, Nil, join, one};
 ghost use Rattle.cmark_tree.specs.Building.{Opened, Is, IsPlaced, closed};
 ghost use Rattle.cmark_tree.specs.Cut.{ending_before, reaching_start};
 ghost use Rattle.cmark_items.specs.Spans.{spans};
-ghost use Rattle.cmark_items.specs.Tables.{with_text};
 ghost use Rattle.cmark_builder.specs.Ended.{ended, item_at, titled, is_paragraph, is_empty_paragraph, IsEmpty};
 ghost use Rattle.cmark_items.specs.declared.item.ItemBody.TheVariants as body;
 

@@ -35,6 +35,3 @@ open-filter stack = ap reverse (filter-map stack) ∙ filter-reverse (map shown_
 pub deactivate_all : (c : Run) (n : ℕ) (stack : List code_run.Run) → deactivates c ≡ true → open_runs (active_runs (length stack) stack) ≡ still_open c (open_runs (active_runs n stack))
 deactivate_all c n stack on =
     rw on (ap open_runs (active_runs-all (length stack) stack (omega arith) ∙ sym (filter-active_runs n stack)) ∙ open-filter (active_runs n stack))
-
-pub inactive_none : (c : Run) (opens : List Run) → deactivates c ≡ false → opens ≡ still_open c opens
-inactive_none c opens off = rw off refl

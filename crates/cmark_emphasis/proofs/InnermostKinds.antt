@@ -1,5 +1,5 @@
 -- The spans of a pair, the innermost taken off.
-use Rattle.std.proofs.Common.{if◌then◌else◌, ◌≡◌, ◌≢◌, ℕ, zero, suc, ◌-◌, ◌<◌, ◌==◌, Bool, true, false, List, [], ◌∷◌, refl, sym, ap, ◌∙◌, arith}
+use Rattle.std.proofs.Common.{if◌then◌else◌, ◌≡◌, ◌≢◌, ℕ, zero, suc, ◌-◌, ◌<◌, ◌==◌, Bool, true, false, [], ◌∷◌, refl, sym, ap, ◌∙◌, arith}
 use Rattle.std.proofs.lemmas.Bool.{eq-eqb, ne_eqb}
 use Rattle.cmark_grammar.specs.Spans.{SpanKind, Caret, span_width}
 use Rattle.cmark_grammar.specs.Emphasis.{emphasis_kinds, tilde_kinds, caret_kinds, equals_kinds, kinds_of}

@@ -437,13 +437,6 @@ pub record IsSeeking (first : Run) (ss : List Standing) (before : ℕ) (bottoms 
   pub is : sought first ss ≡ with_more more (sought closer now)
   pub counted : before + more ≤ examined
 
-pub seeking-first : (first : Run) (ss : List Standing) (before : ℕ) (bottoms : OpenersBottom) (stack : List code_run.Run) → AreStanding bottoms stack ss → IsSeeking first ss before bottoms stack first before
-seeking-first first ss before bottoms stack h = record {
-  now = ss;
-  more = 0;
-  stand = h;
-  is = (let s = sought first ss in ap {B = Seeking} (λ k. record { rest = s.rest; standing = s.standing; least = k }) (let q : s.least ≡ 0 + s.least = omega arith in q));
-  counted = omega arith;
 }
 
 pub seeking-next : (first closer : Run) (ss : List Standing) (before examined later : ℕ) (old new : OpenersBottom) (o r : code_run.Run) (stack front next : List code_run.Run) (i : ℕ) → IsSeeking first ss before old stack closer examined → IsNearest closer old.inactive_below stack i → o ≡ get_or stack i o
@@ -584,13 +577,6 @@ two-least f s = let n = none-least f in let l = ap (λ ss. (sought s (put_open f
     opened true true = seeks (agrees f s) refl
     opened true false = let n = none-least s in omega (arith, n)
     opened false l = let n = none-least s in omega (arith, n)
-
-pub two-few : (f s : Run) → examined_of_two f s ≤ 1
-two-few f s = go ((f.opens && nat_lt 0 f.left) && searches s)
-  where
-    go : (b : Bool) → (if b then 1 else 0) ≤ 1
-    go true = omega arith
-    go false = omega arith
 
 -- ## Bottoms
 

@@ -1,5 +1,5 @@
 -- Searches examine as many runs if the runs are at other places.
-use Rattle.std.proofs.Common.{◌≡◌, ℕ, suc, ◌+◌, Bool, true, false, not, ◌==◌, ◌&&◌, nat_lt, if◌then◌else◌, List, [], ◌∷◌, refl, sym, ap, subst, ◌∙◌, arith}
+use Rattle.std.proofs.Common.{◌≡◌, ℕ, suc, ◌+◌, Bool, true, false, nat_lt, if◌then◌else◌, List, [], ◌∷◌, refl, sym, ap, subst, ◌∙◌, arith}
 use Rattle.std.specs.Prelude.{filter, map}
 use Rattle.cmark_grammar.specs.Emphasis.{Run, agrees, deactivates, paired_count, rest_of_closer, rest_of_opener}
 use Rattle.cmark_emphasis.specs.Counts.{searches}

@@ -32,10 +32,6 @@ noted c bottoms stack class h is closes low none = record { emphasis = each; ina
             (record { within = omega arith; none = λ k d lt. class_misses (shown_run (get_or stack k d)) c closer class is (e ∙ ap (λ n. Some n) same) closes (each_none k d lt) })
         go (inr differs) = subst (NoneBelow closer stack) (sym (get_or-set_other bottoms.heights class other (length stack) 0 differs)) (h.emphasis closer other e)
 
--- all tildes and carets are inactive
-pub all_inactive : (bottoms : OpenersBottom) (stack : List code_run.Run) → AreBottoms bottoms stack → AreBottoms (record { heights = bottoms.heights; inactive_below = length stack }) stack
-all_inactive bottoms stack h = record { emphasis = h.emphasis; inactive_below = omega arith }
-
 -- the stack is cut, and all heights with it
 pub lowered : (old new : OpenersBottom) (stack : List code_run.Run) (height : ℕ) → AreBottoms old stack → ((class : ℕ) → class < 13 → get_or new.heights class 0 ≡ min (get_or old.heights class 0) height) → new.inactive_below ≡ min old.inactive_below height → AreBottoms new (take height stack)
 lowered old new stack height h heights inactive_below = record { emphasis = each; inactive_below = under old.inactive_below new.inactive_below inactive_below h.inactive_below }

@@ -138,9 +138,6 @@ after_within before single double old h =
     subst (λ o. IfSome o (λ i. i < length old)) (sym h.single_is)
     (subst (λ k. IfSome (open_single before) (λ i. i < k)) (sym (ap length h.characters_are ∙ length-so before false)) (single-within before))
 
-closed-is : (q : Quote) (after : List Quote) → is_closed_by (q ∷ after) ≡ closed_from q (is_closed_by after)
-closed-is q after = refl
-
 -- the characters of quotes are those of the first ones, followed by those of the later ones
 split : (before after : List Quote) → so_far before (is_closed_by after) ++ quote_characters before after ≡ quote_characters [] (reverse before ++ after)
 split [] after = refl

@@ -1,6 +1,6 @@
 -- A lower bound of the open runs that searches examine: the runs down to the one that a search takes. A search that takes nothing examines
 -- at least the runs of its delimiter that were added since the last such search.
-use Rattle.std.specs.Prelude.{◌≡◌, ◌⊎◌, ℕ, zero, suc, ◌+◌, ◌<◌, ◌≤◌, Bool, true, false, not, ◌==◌, ◌&&◌, nat_lt, if◌then◌else◌, List, [], ◌∷◌, length, get_or, map, filter, reverse}
+use Rattle.std.specs.Prelude.{◌≡◌, ◌⊎◌, ℕ, zero, suc, ◌+◌, ◌<◌, ◌≤◌, Bool, true, false, not, ◌==◌, ◌&&◌, nat_lt, if◌then◌else◌, List, [], ◌∷◌, get_or, map, filter, reverse}
 use Rattle.cmark_grammar.specs.Emphasis.{Run, agrees, deactivates, is_tilde_or_caret, rest_of_closer, rest_of_opener}
 use Rattle.cmark_emphasis.specs.Bottoms.{bottom_of}
 use Rattle.cmark_emphasis.specs.Counts.{searches}

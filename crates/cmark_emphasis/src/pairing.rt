@@ -10,7 +10,7 @@ ghost use Rattle.cmark_emphasis.specs.Bottoms.{bottom_of};
 ghost use Rattle.cmark_emphasis.specs.Counts.{IsKnown, IsKnownPlaced, examined_of_two, put_back, searches, total_of};
 ghost use Rattle.cmark_emphasis.specs.Least.{AreStanding, HasSought, Standing, least_examined};
 ghost use Rattle.cmark_emphasis.specs.Nearest.{IsNearest, with_opener, with_rest};
-ghost use Rattle.cmark_emphasis.specs.Stack.{Chased, NoneAgree, course_from, run_pairs};
+ghost use Rattle.cmark_emphasis.specs.Stack.{NoneAgree, course_from};
 
 use crate::bottom::OpenersBottom;
 use crate::run::{Pair, PlacedRun, Run};

@@ -22,7 +22,7 @@ use Rattle.cmark_references.specs.Footnotes.{footnote}
 use Rattle.cmark_references.specs.declared.definitions.RefDefs.{RefDefs}
 use Rattle.cmark_references.specs.declared.footnotes.FootnoteDefs.{FootnoteDefs}
 use Rattle.cmark_leaf_text.specs.Reads.{is_cell_of, place_of, source_of, text_of}
-use Rattle.cmark_leaf_text.specs.Stretches.{leaf_bytes, end_in_leaf, place_on}
+use Rattle.cmark_leaf_text.specs.Stretches.{leaf_bytes, place_on}
 use Rattle.cmark_leaf_text.specs.declared.leaf_text.LeafText.{LeafText}
 use Rattle.cmark_leaf_text.specs.declared.stretch.LeafLine.{LeafLine}
 use Rattle.cmark_block_walk.specs.Walking.{lines_of}
@@ -39,10 +39,6 @@ pub line-bytes : (source : List ℕ) (ss : List Stretch) → leaf_bytes source (
 line-bytes source [] = refl
 line-bytes source (s ∷ []) = sym (append-nil (slice source s.start s.end))
 line-bytes source (s ∷ (t ∷ ss)) = ap (λ l. slice source s.start s.end ++ l) (line-bytes source (t ∷ ss))
-
-end-of-line : (s : Stretch) (ss : List Stretch) → end_in_leaf (record { start = s.start; content_end = s.end; line_end = s.end }) (lines_of ss) ≡ s.end
-end-of-line s [] = refl
-end-of-line s (t ∷ ss) = refl
 
 -- a byte of the lines has the place at which the bytes from it on begin
 pub line-place : (from : ℕ) (ss : List Stretch) (size k : ℕ) → InTurn from ss size → k < size_of ss → place_on (lines_of ss) k ≡ place_with (size_of ss - k) ss

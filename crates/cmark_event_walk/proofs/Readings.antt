@@ -21,7 +21,7 @@ use Rattle.cmark_slot_events.specs.LinkStarts.{IsStartFirst}
 use Rattle.cmark_inline.specs.PlainStretches.{StandUpTo}
 use Rattle.cmark_inline.specs.Resolved.{Answered}
 use Rattle.cmark_slot_events.specs.Events.{AreLeft, events_to_come}
-use Rattle.cmark_slot_events.specs.Opens.{AreOpened, Follows}
+use Rattle.cmark_slot_events.specs.Opens.{AreOpened}
 use Rattle.cmark_text.specs.Ranged.{shown_ranged}
 use Rattle.cmark_text.specs.declared.ranged.Ranged.{Ranged as Given}
 use Rattle.cmark_inline.specs.declared.callback.BrokenLink.{BrokenLink}

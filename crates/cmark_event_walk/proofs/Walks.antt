@@ -27,7 +27,7 @@ use Rattle.cmark_block_walk.specs.Walking as walking
 use Rattle.cmark_block_walk.specs.Walking.{AreLinesOf}
 use Rattle.cmark_block_walk.proofs.OneRemainder.{one-remainder}
 use Rattle.cmark_event_walk.specs.declared.span_walk.SpanWalk.{SpanWalk}
-use Rattle.cmark_event_walk.specs.Walking.{BeforeLeaf, BlocksLeft, EntersLeaf, HasSpecialBytes, IsAble, IsCounted, Stands, StandsAt, StandsIn, StandsInLeaf, definitions_of, events_left, footnotes_of, link_in, link_to_come, opened_of, source_of}
+use Rattle.cmark_event_walk.specs.Walking.{BeforeLeaf, BlocksLeft, EntersLeaf, HasSpecialBytes, IsAble, Stands, StandsAt, StandsIn, StandsInLeaf, definitions_of, events_left, footnotes_of, link_in, link_to_come, opened_of, source_of}
 
 none-opened : (source : List ℕ) (opened : List Opened) → opened ≡ [] → AreOpened source opened
 none-opened source opened e = subst (AreOpened source) (sym e) (λ k d lt. absurd (omega (arith, lt)))
@@ -62,9 +62,6 @@ able-leaf old new source one others read able counts extent text live =
     let opened = counts.opened in
     record { counted = omega (arith, counted, found, opened, extent, text); live = live }
 
-able-counted : (inline : InlineState) (source : List ℕ) (left : List Segment) → IsAble inline source left → total inline.steps ≤ 128 * length source
-able-counted inline source left able = let counted = able.counted in omega (arith, counted)
-
 -- this also holds if memory was refused in the leaf
 pub leaf-counted : (old new : InlineState) (source : List ℕ) (one : Leaf) (others : List Segment) (read : LeafText) → IsAble old source (Content one ∷ others) → Counts read old.steps new.steps → extent_of read ≤ extent one → length (text_of read) ≤ extent one
     → total new.steps ≤ 128 * length source
@@ -75,14 +72,6 @@ leaf-counted old new source one others read able counts extent text =
     omega (arith, counted, found, opened, extent, text)
 
 module _ {E F : Type 0} where
-  pub counted-stands : (walk : SpanWalk E F) → Stands walk → IsCounted walk
-  counted-stands walk s = able-counted walk.inline (source_of walk) s.0 s.1.blocks.able
-
-  pub counted-kept : (old new : SpanWalk E F) → new.inline ≡ old.inline → source_of new ≡ source_of old → IsCounted old → IsCounted new
-  counted-kept old new inline source counted =
-      let steps = ap (λ (i : InlineState). total i.steps) inline in
-      let size = ap length source in
-      omega (arith, counted, steps, size)
 
   -- the walk over blocks determines the events and leaves that are left
   pub one-left : (walk : SpanWalk E F) (first second : List Segment) → BlocksLeft walk first → BlocksLeft walk second → first ≡ second

@@ -54,7 +54,7 @@ pub struct SpanWalk<'input, 'e, E, F> {
 }
 
 impl<'input, 'e, E: EntityLookup, F: BrokenLinkCallback<'input> + Drop> SpanWalk<'input, 'e, E, F> {
-    ghost use Rattle.cmark_event_walk.specs.Walking.{BeforeLeaf, ComesLong, CountsDown, KeepsAround, EntersLeaf, Gives, GivesComing, GivesInLeaf, GivesStart, HasSettings, IfLong, IsLong, IsReadBy, KeepsAfterLeaf, KeepsText, LeavesFewerAfter, LeavesLeaf, NoEndIsNext, ReadsLeaf, ReadsSame, Refuses, Remains, Stands, are_lines, callback_of, definitions_of, events_left, expansion_left_of, footnotes_of, link_to_come, options_of, source_of, steps_of};
+    ghost use Rattle.cmark_event_walk.specs.Walking.{BeforeLeaf, ComesLong, CountsDown, KeepsAround, EntersLeaf, Gives, GivesComing, GivesInLeaf, GivesStart, HasSettings, IfLong, IsLong, IsReadBy, KeepsAfterLeaf, KeepsText, LeavesFewerAfter, LeavesLeaf, NoEndIsNext, ReadsLeaf, ReadsSame, Refuses, Remains, Stands, are_lines, callback_of, definitions_of, events_left, expansion_left_of, footnotes_of, link_to_come, source_of, steps_of};
 
     /// Returns a walk over the rest of `walk`, which is a walk over the blocks of `text`. `budget` is more than the number of events and
     /// leaves that `walk` still returns. `entities` maps entity names to their characters. `footnotes` are the footnotes that the text

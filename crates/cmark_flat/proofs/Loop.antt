@@ -45,15 +45,6 @@ nothing_before (Some xs) = refl
 abbrev pub with_classes : {C R : Type 0} → List C → Option (List C × List R) → Option (List C × List R)
 with_classes front read = read >>= λ x. Some (front ++ x.0, x.1)
 
-pub no_class_before : {C R : Type 0} (read : Option (List C × List R)) → with_classes [] read ≡ read
-no_class_before None = refl
-no_class_before (Some x) = refl
-
--- one class more
-pub class_regroup : {C R : Type 0} (front : List C) (c : C) (read : Option (List C × List R)) → with_classes front (read >>= λ others. Some (c ∷ others.0, others.1)) ≡ with_classes (front ++ c ∷ []) read
-class_regroup front c None = refl
-class_regroup front c (Some x) = ap (λ ys. Some (ys, x.1)) (sym (append_assoc front (c ∷ []) x.0))
-
 -- ---- each element of a list
 
 pub each_more : {A B C : Type 0} (f : C → Option B) (view : A → B) (rest : List C) (x : C) (after : List C) (front : List A) (a : A) (total : Option (List B)) → rest ≡ x ∷ after → f x ≡ Some (view a)
@@ -65,9 +56,6 @@ pub each_none : {B C : Type 0} (f : C → Option B) (rest : List C) (x : C) (aft
     → with_front front (each f rest) ≡ total → total ≡ None
 each_none f rest x after front total split h so_far =
     no_more front (f x) (each f after) total h (ap (λ l. with_front front (each f l)) (sym split) ∙ so_far)
-
-pub each_done : {B C : Type 0} (f : C → Option B) (rest : List C) (front : List B) (total : Option (List B)) → rest ≡ [] → with_front front (each f rest) ≡ total → total ≡ Some front
-each_done f rest front total none so_far = is_done front (each f rest) total (ap (each f) none) so_far
 
 -- ---- attributes
 

@@ -1,7 +1,7 @@
 //! The numbers of an event's parts.
 
-ghost use Rattle.std.specs.Prelude.{◌≡◌, length, option_map};
-ghost use Rattle.cmark_flat.specs.Flat.{alignment_number, code_number, end_datum, end_number, event_datum, event_tag, info_text, kind_number, link_number, list_number, metadata_number, quote_number, tag_datum, tag_number, yes_or_no};
+ghost use Rattle.std.specs.Prelude.{◌≡◌, option_map};
+ghost use Rattle.cmark_flat.specs.Flat.{alignment_number, code_number, end_datum, end_number, event_datum, event_tag, kind_number, link_number, list_number, metadata_number, quote_number, tag_datum, tag_number, yes_or_no};
 ghost use Rattle.cmark_grammar.specs.LinkType.{WikiLink};
 ghost use Rattle.cmark_text.specs.Short.{shown_plain};
 ghost use Rattle.cmark_text.specs.Shown.{shown, shown_end, shown_tag};

@@ -1,6 +1,6 @@
 //! The values that the numbers in a record stand for.
 
-ghost use Rattle.std.specs.Prelude.{◌≡◌, option_map};
+ghost use Rattle.std.specs.Prelude.{option_map};
 ghost use Rattle.cmark_flat.specs.Decode.{alignment_of, flag_of, level_of, link_of, metadata_of, plain_end, plain_tag, quote_of};
 ghost use Rattle.cmark_flat.specs.Gives.{Reads};
 ghost use Rattle.cmark_text.specs.Shown.{shown_end, shown_tag};

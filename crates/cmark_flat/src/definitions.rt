@@ -2,7 +2,7 @@
 
 ghost use Rattle.std.specs.Prelude.{option_map};
 ghost use Rattle.cmark_flat.specs.Appended.{AppendsOnOk};
-ghost use Rattle.cmark_flat.specs.Definitions.{definition_parts, definition_records, title_parts};
+ghost use Rattle.cmark_flat.specs.Definitions.{definition_records, title_parts};
 ghost use Rattle.cmark_flat.specs.Records.{spelled};
 
 use crate::numbers::*;

@@ -1,8 +1,7 @@
 //! The contents of further records.
 
-ghost use Rattle.std.specs.Prelude.{◌≡◌, ◌≤◌, length, map, option_map, IfSome};
+ghost use Rattle.std.specs.Prelude.{◌≤◌, length, map, option_map, IfSome};
 ghost use Rattle.cmark_flat.specs.Decode.{attribute_at, attribute_of, attributes_of, classes_at, first_of, heading_parts_of, id_at, linked_of, part_text, value_of};
-ghost use Rattle.cmark_flat.specs.Flat.{alignment_number};
 ghost use Rattle.cmark_flat.specs.Gives.{Gives, Reads};
 ghost use Rattle.cmark_flat.specs.Records.{shown_record};
 ghost use Rattle.cmark_values.specs.Shown.{shown_attribute, shown_attributes, shown_linked, text_bytes};

@@ -3,11 +3,11 @@
 ghost use Rattle.std.specs.Prelude.{◌≡◌, ◌++◌, length, map, option_map};
 ghost use Rattle.std.specs.List.{flat_map};
 ghost use Rattle.cmark_flat.specs.Appended.{AppendsOnOk};
-ghost use Rattle.cmark_flat.specs.Flat.{alignment_number, attribute_parts, class_part, event_parts, event_record, event_text, first_part, id_part, info_text, part, records, tag_parts, tag_text};
+ghost use Rattle.cmark_flat.specs.Flat.{alignment_number, attribute_parts, class_part, event_record, event_text, first_part, id_part, info_text, part, records, tag_parts, tag_text};
 ghost use Rattle.cmark_flat.specs.Numbers.{label_part, title_part};
 ghost use Rattle.cmark_flat.specs.Records.{record_bytes, spelled};
 ghost use Rattle.cmark_text.specs.Shown.{shown, shown_tag};
-ghost use Rattle.cmark_values.specs.Shown.{shown_alignment, shown_attribute, shown_attributes, shown_code_block_kind, text_bytes};
+ghost use Rattle.cmark_values.specs.Shown.{shown_alignment, shown_attribute, shown_code_block_kind, text_bytes};
 
 use crate::codes;
 use crate::numbers::*;

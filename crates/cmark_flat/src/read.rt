@@ -1,8 +1,8 @@
 //! Records from bytes.
 
-ghost use Rattle.std.specs.Prelude.{◌≡◌, ◌<◌, ◌≤◌, length, map, IfSome};
+ghost use Rattle.std.specs.Prelude.{◌<◌, ◌≤◌, length, map, IfSome};
 ghost use Rattle.std.specs.Str.{is_utf8};
-ghost use Rattle.cmark_flat.specs.Decode.{byte_at, record_at, records_of, records_within, some_if, text_at, unused_at, wide_at, zero_at};
+ghost use Rattle.cmark_flat.specs.Decode.{byte_at, record_at, records_of, some_if, text_at, unused_at, wide_at, zero_at};
 ghost use Rattle.cmark_flat.specs.Gives.{Gives, Reads};
 ghost use Rattle.cmark_flat.specs.Records.{shown_record};
 

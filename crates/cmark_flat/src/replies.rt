@@ -1,6 +1,6 @@
 //! Replies to questions from records.
 
-ghost use Rattle.std.specs.Prelude.{◌≡◌, map};
+ghost use Rattle.std.specs.Prelude.{map};
 ghost use Rattle.cmark_flat.specs.Decode.{each, groups};
 ghost use Rattle.cmark_flat.specs.Gives.{Gives, Reads};
 ghost use Rattle.cmark_flat.specs.Questions.{answer_of, decode_replies, reply_of};

@@ -1,22 +1,17 @@
 -- The records of the definitions of a table, one after the other.
-use Rattle.std.proofs.Common.{◌≡◌, ℕ, List, [], ◌∷◌, ◌++◌, map, refl, sym, ap, ◌∙◌, append_assoc}
+use Rattle.std.proofs.Common.{◌≡◌, ℕ, List, ◌∷◌, ◌++◌, sym, ap, ◌∙◌, append_assoc}
 use Rattle.std.specs.List.{flat_map}
 use Rattle.std.proofs.lemmas.Grind.{flat_map-append}
 use Rattle.std.proofs.lemmas.List.Concat.{flat_map-cons}
 use Rattle.cmark_flat.specs.Definitions.{definition_records, flat_definitions}
 use Rattle.cmark_flat.specs.Records.{record_bytes, spelled}
 use Rattle.cmark_grammar.specs.BlockDocument.{Reference}
-use Rattle.cmark_references.specs.Definitions.{definitions, labelled, shown_definition, shown_entry}
+use Rattle.cmark_references.specs.Definitions.{labelled, shown_definition}
 use Rattle.cmark_references.specs.declared.definitions.LinkDef.{LinkDef}
-use Rattle.cmark_references.specs.declared.definitions.RefDefs.{RefDefs}
 
 -- a label with its definition, as in a document
 abbrev pub reference_of : List ℕ × LinkDef → Reference
 reference_of e = labelled e.0 (shown_definition e.1)
-
-pub same_references : (table : RefDefs) → map reference_of (definitions table) ≡ map shown_entry table
-same_references [] = refl
-same_references (e ∷ table) = ap (λ rs. shown_entry e ∷ rs) (same_references table)
 
 cons_is : (r : Reference) (rs : List Reference) → flat_definitions (r ∷ rs) ≡ spelled (definition_records r) ++ flat_definitions rs
 cons_is r rs = ap spelled (flat_map-cons definition_records r rs) ∙ flat_map-append record_bytes (definition_records r) (flat_map definition_records rs)

@@ -1,7 +1,6 @@
 //! The start of a heading with its attributes.
 
 ghost use Rattle.std.specs.Prelude.{◌≡◌, ◌∷◌, [], ◌++◌, codes, map, option_map};
-ghost use Rattle.cmark_grammar.specs.Escapes.{escaped_html};
 ghost use Rattle.cmark_grammar.specs.Html.{fresh_line, digit, heading_attributes, id_attribute, class_attribute, further_classes, other_attribute, other_attributes};
 ghost use Rattle.cmark_text.specs.Appended.{Writes};
 ghost use Rattle.cmark_values.specs.Shown.{shown_attributes, shown_attribute, level_number, text_bytes};

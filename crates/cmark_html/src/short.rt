@@ -1,6 +1,6 @@
 //! The HTML of what is written without an `Event`: events that own nothing, and the start of a link.
 
-ghost use Rattle.std.specs.Prelude.{◌≡◌, true, OnOk, None, codes};
+ghost use Rattle.std.specs.Prelude.{◌≡◌, true, OnOk, None};
 ghost use Rattle.cmark_grammar.specs.Event.{Code, End, Html, Start, Text};
 ghost use Rattle.cmark_grammar.specs.Html.{piece_outside, moved_outside};
 ghost use Rattle.cmark_grammar.specs.Tag as grammar_tag;

@@ -1,11 +1,8 @@
 //! The HTML of events.
 
-ghost use Rattle.std.specs.Prelude.{◌≡◌, true, IfOk, OnOk, None, codes, is_err, is_some, option_map};
-ghost use Rattle.cmark_grammar.specs.Escapes.{escaped_body_text, escaped_html};
+ghost use Rattle.std.specs.Prelude.{◌≡◌, true, IfOk, OnOk, None, is_err, is_some, option_map};
 ghost use Rattle.cmark_grammar.specs.Event.{End, SoftBreak, Start, Text};
 ghost use Rattle.cmark_grammar.specs.Html.{piece, piece_outside, moved, moved_outside, metadata_after, table_after, table_after_start, names_after, names_after_start, names_after_inside, opened_by, opened_image, last_piece, line_start_after, line_start_after_html, ends_in_line_feed, task_list_marker};
-ghost use Rattle.cmark_grammar.specs.Tag.{Paragraph};
-ghost use Rattle.cmark_grammar.specs.TagEnd.{Paragraph as ParagraphEnd};
 ghost use Rattle.cmark_text.specs.Appended.{Writes};
 ghost use Rattle.cmark_text.specs.Shown.{shown, shown_tag};
 ghost use Rattle.cmark_html.specs.Writer.{shown_image, shown_names, shown_table, with_names, writing};

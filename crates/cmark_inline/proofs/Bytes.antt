@@ -1,9 +1,7 @@
 -- Bytes at an offset of a text, and runs of them.
-use Rattle.std.proofs.Common.{◌≡◌, ◌⊎◌, inl, inr, ℕ, zero, suc, ◌+◌, ◌-◌, ◌<◌, ◌≤◌, ◌==◌, ◌||◌, Bool, true, false, List, [], ◌∷◌, length, take, drop, get_or, refl, sym, ap, ◌∙◌, arith, cond, length-drop}
+use Rattle.std.proofs.Common.{◌≡◌, ℕ, zero, suc, ◌+◌, ◌-◌, ◌<◌, ◌≤◌, ◌==◌, ◌||◌, Bool, true, false, List, [], ◌∷◌, length, take, drop, get_or, refl, sym, ap, ◌∙◌, arith, cond, length-drop}
 use Rattle.std.specs.List.{prefix_len, take_while}
 use Rattle.std.specs.Prelude.{reverse}
-use Rattle.std.specs.Char.{is_ascii_punctuation}
-use Rattle.std.specs.Int.{is_in_range}
 use Rattle.std.proofs.Math.Seq.{drop-cons, take-suc}
 use Rattle.std.proofs.lemmas.Bool.{eq-eqb}
 use Rattle.std.proofs.lemmas.List.{length-take-le, reverse-append, get_or-drop}
@@ -11,7 +9,6 @@ use Rattle.std.proofs.lemmas.List.Sums.{take_while-cons}
 use Rattle.cmark_grammar.specs.Columns.{is_blank_byte}
 use Rattle.cmark_grammar.specs.Letters.{first_is}
 use Rattle.cmark_grammar.specs.LinkDefinitions.{after_leading_blanks}
-use Rattle.cmark_grammar.specs.Tokens.{is_punctuation}
 
 -- a run with one byte more
 pub prefix-more : (p : ℕ → Bool) (bs : List ℕ) (k : ℕ) → k < length bs → p (get_or bs k 0) ≡ true → prefix_len p (drop k bs) ≡ 1 + prefix_len p (drop (k + 1) bs)
@@ -78,9 +75,6 @@ or-assoc : (x y z : Bool) → ((x || y) || z) ≡ (x || (y || z))
 or-assoc true y z = refl
 or-assoc false y z = refl
 
-pub punctuation-same : (b : ℕ) → is_ascii_punctuation b ≡ is_punctuation b
-punctuation-same b = or-assoc (is_in_range 33 47 b) (is_in_range 58 64 b) (is_in_range 91 96 b || is_in_range 123 126 b)
-
 -- a run of bytes that pass a test, up to a byte that does not
 pub prefix-run : (p : ℕ → Bool) (bs : List ℕ) (n : ℕ) → n ≤ length bs → ((k : ℕ) → k < n → p (get_or bs k 0) ≡ true) → (n < length bs → p (get_or bs n 0) ≡ false) → prefix_len p bs ≡ n
 prefix-run p [] zero le all stop = refl
@@ -103,7 +97,3 @@ run-size text bytes at end delimiter same lt le all stop =
     (let q : end ≡ at + prefix_len (λ b. b == delimiter) (drop at bytes) = omega (arith, i, lt) in q)
     ∙ ap (λ m. at + prefix_len (λ b. b == m) (drop at bytes)) (sym first)
     ∙ ap (λ bs. at + prefix_len (λ b. b == get_or bs at 0) (drop at bs)) same
-
-pub blank-of : (b : ℕ) → (b ≡ 32) ⊎ (b ≡ 9) → is_blank_byte b ≡ true
-blank-of b (inl e) = ap is_blank_byte e
-blank-of b (inr e) = ap is_blank_byte e

@@ -4,7 +4,7 @@ use Rattle.cmark_values.specs.declared.text.CowStr.{CowStr}
 use Rattle.cmark_inline.specs.Hiding.{WritesReference}
 use Rattle.cmark_inline.specs.declared.state.InlineState.{InlineState}
 use Rattle.std.specs.Prelude.{IfSome, Option, Some, None, is_some, option_map, drop, if◌then◌else◌, not, ◌&&◌, ◌||◌}
-use Rattle.std.proofs.Common.{◌≡◌, ℕ, ◌+◌, ◌≤◌, ◌<◌, ◌==◌, Bool, true, false, true≢false, List, [], ◌∷◌, ◌++◌, refl, sym, ap, subst, ◌∙◌, arith}
+use Rattle.std.proofs.Common.{◌≡◌, ℕ, ◌+◌, ◌<◌, ◌==◌, Bool, true, false, true≢false, List, [], ◌∷◌, ◌++◌, refl, sym, ap, subst, ◌∙◌, arith}
 use Rattle.cmark_grammar.specs.BracketDecisions as decisions
 use Rattle.cmark_grammar.specs.InlineHtml.{takes_lines}
 use Rattle.cmark_grammar.specs.Lines.{is_content}
@@ -16,7 +16,7 @@ use Rattle.cmark_references.specs.Footnotes.{Counts}
 use Rattle.cmark_references.specs.declared.footnotes.FootnoteDefs.{FootnoteDefs}
 use Rattle.cmark_leaf_text.specs.Reads.{IsPart}
 use Rattle.cmark_inline.specs.Footnoted.{CountsOf, KeepsLabel, as_label, fits_footnote, footnote_after, footnote_label, footnote_of, labels, no_leaf, reference_start, unless_footnote}
-use Rattle.cmark_slots.specs.Slots.{IsBracket, IsSlot}
+use Rattle.cmark_slots.specs.Slots.{IsBracket}
 use Rattle.cmark_slots.specs.declared.bracket.Bracket.{Bracket}
 use Rattle.cmark_slots.specs.declared.slot.SlotKind.TheVariants as kind
 
@@ -89,14 +89,3 @@ reference-part text close bracket b p = go bracket.is_image refl
     go : (z : Bool) → bracket.is_image ≡ z → IsPart text (if z then bracket.start + 1 else bracket.start) (close + 1)
     go true image = record { some = (let lt = before in let q : bracket.start + 1 < close + 1 = omega (arith, lt) in q); within = p.within; starts = b.mark image; ends = p.ends }
     go false image = record { some = (let lt = before in let q : bracket.start < close + 1 = omega (arith, lt) in q); within = p.within; starts = b.part.starts; ends = p.ends }
-
-pub mark-slot : (text : List ℕ) (at : ℕ) (bracket : Bracket) → IsBracket text at bracket → bracket.is_image ≡ true → IsSlot text at (record { kind = kind.Text; start = bracket.start; end = bracket.start + 1 })
-mark-slot text at bracket h image =
-    let edge = h.mark image in
-    let some = h.part.some in
-    let before = h.before in
-    record {
-      part = record { some = (let q : bracket.start < bracket.start + 1 = omega arith in q); within = edge.0; starts = h.part.starts; ends = edge };
-      before = (let q : bracket.start + 1 ≤ at = omega (arith, some, before) in q);
-      content = tt;
-    }

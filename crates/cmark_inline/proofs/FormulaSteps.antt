@@ -13,7 +13,6 @@ use Rattle.cmark_grammar.specs.Tokens.{slice}
 use Rattle.cmark_span_scan.specs.Dollars.{IsFormulaAt, braces_at, formula_at, shown_formula}
 use Rattle.cmark_span_scan.specs.declared.dollars.Formula.{Formula}
 use Rattle.cmark_values.specs.declared.text.CowStr.{CowStr}
-use Rattle.cmark_slots.specs.Slots.{IsContent}
 use Rattle.cmark_inline.specs.Tokens.{whole, reading, begins_at, Says, Puts, Appends}
 use Rattle.cmark_slots.specs.declared.slot.SlotKind.{SlotKind}
 use Rattle.cmark_slots.specs.declared.slot.SlotKind.TheVariants as kind
@@ -29,10 +28,6 @@ kind_by false = InlineMath
 
 abbrev pub slot_kind_by : (is_display : Bool) → (from to : ℕ) → SlotKind
 slot_kind_by is_display from to = if is_display then kind.DisplayMath from to else kind.InlineMath from to
-
-pub content-by : (text : List ℕ) (is_display : Bool) (at : ℕ) (formula : Formula) → IsFormulaAt text at formula → IsContent text (slot_kind_by is_display formula.content_start formula.content_end)
-content-by text true at formula places = (places.starts, places.stops)
-content-by text false at formula places = (places.starts, places.stops)
 
 module _ (o : Options) (l : Lookup) (cell : Bool) (text : List ℕ) (at : ℕ) (lt : at < length text) (is : get_or text at 0 ≡ 36) (math : o.math ≡ true) where
   abbrev r : Reader

@@ -18,7 +18,6 @@ use Rattle.cmark_slots.specs.SlotViews.{bytes_or_none, item_slot, shown_slot, sh
 use Rattle.cmark_slots.specs.Standing.{AreNamed}
 use Rattle.cmark_slots.specs.Cuts.{Hides, hidden}
 use Rattle.cmark_slots.specs.declared.bracket.Bracket.{Bracket}
-use Rattle.cmark_references.specs.declared.link.Link.{Link}
 use Rattle.cmark_slots.specs.declared.slot.Slot.{Slot}
 use Rattle.cmark_inline.specs.declared.state.InlineState.{InlineState}
 use Rattle.cmark_slots.proofs.Longer.{get-last, shown-longer}
@@ -57,10 +56,6 @@ hides-following (s ∷ front) rest [] h = absurd (let n = h.size in omega (arith
 hides-following (s ∷ front) rest (x ∷ new) h =
     let first : x ≡ s = h.before 0 no-slot (omega arith) in
     ap (λ y. y ∷ new) first ∙ ap (λ l. s ∷ l) (hides-following front rest new (hides-tail (length front) (length (front ++ rest)) s x (front ++ rest) new h))
-
-pub hidden-seen : (leaf : LeafText) (texts : List CowStr) (links : List Link) (slots : List Slot) → seen (shown_slots leaf texts links (map hidden slots)) ≡ []
-hidden-seen leaf texts links [] = refl
-hidden-seen leaf texts links (s ∷ slots) = hidden-seen leaf texts links slots
 
 -- the slots before one, this slot, and the slots after it
 pub cut-at-slot : (slots : List Slot) (at : ℕ) → at < length slots → take at slots ++ (get_or slots at no-slot ∷ drop (suc at) slots) ≡ slots

@@ -6,7 +6,6 @@ use Rattle.cmark_emphasis.specs.Least.{least_examined}
 use Rattle.cmark_emphasis.specs.Shown.{shown_run}
 use Rattle.cmark_grammar.specs.BracketStates.{Result, StaysText, Forms, State}
 use Rattle.cmark_grammar.specs.Emphasis as emphasis
-use Rattle.cmark_grammar.specs.Emphasis.{Run}
 use Rattle.cmark_grammar.specs.InlineHtml.{after_markup}
 use Rattle.cmark_grammar.specs.Items.{Bracket, Item}
 use Rattle.cmark_grammar.specs.Options.{Options}

@@ -47,9 +47,6 @@ module _ (o : Options) (l : Lookup) (cell : Bool) (text : List ℕ) where
   pub reaches-one : (start to : ℕ) → start < to → begins_at o l cell text start ≡ item_at Plain start to → Reaches start to
   reaches-one start to lt t = record { ends = to ∷ []; texts = (lt, t, refl) }
 
-  pub reaches-join : (start mid to : ℕ) → Reaches start mid → Reaches mid to → Reaches start to
-  reaches-join start mid to h k = record { ends = h.ends ++ k.ends; texts = texts-join start h.ends mid k.ends to h.texts k.texts }
-
   -- a literal item begins at each offset
   pub reaches-all : (n start to : ℕ) → to - start ≤ n → start ≤ to → ((k : ℕ) → start ≤ k → k < to → StandsForItself o l cell text k to) → Reaches start to
   reaches-all zero start to few le all = reaches-none start to (omega (arith, few, le))

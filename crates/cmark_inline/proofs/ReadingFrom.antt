@@ -15,7 +15,7 @@ use Rattle.cmark_inline_model.specs.BracketPass.{Pass, formed_by, outcome_by, pa
 use Rattle.cmark_inline_model.specs.LeafModel.{leaf_after, leaf_end, leaf_events, leaf_parts}
 use Rattle.cmark_inline_model.specs.PartLists.{Cut, cut_at}
 use Rattle.cmark_inline_model.specs.PlannedAnswers.{AreByPlan}
-use Rattle.cmark_inline_model.specs.Progress.{IsRecorded, Keeps}
+use Rattle.cmark_inline_model.specs.Progress.{IsRecorded}
 use Rattle.cmark_inline_model.proofs.BracketQuestions.{Adds, comes-adds, reads-next}
 use Rattle.cmark_inline_model.proofs.BracketsEnd.{run-ends}
 use Rattle.cmark_inline_model.proofs.BracketsOne.{reads-reach}

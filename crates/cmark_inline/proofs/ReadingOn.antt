@@ -32,10 +32,6 @@ module _ (text : List ℕ) (at : ℕ) (le : at ≤ length text) where
   here-is : length text - length (rest_by false) ≡ at
   here-is = let e = ap length (from-is no_options (λ name. None) false text at) in let d = length-drop at text in let q : length text - length (from r (whole false text) at) ≡ at = omega (arith, e, d, le) in q
 
-  -- no later line begins there
-  pub read-on-start : at ≡ 0 → read_on text at ≡ at
-  read-on-start e = ap (λ z. length text - length (rest_by z)) (start-is e) ∙ here-is
-
   pub read-on-content : 0 < at → not (is_content (get_or text (at - 1) 0)) ≡ false → read_on text at ≡ at
   read-on-content some e = ap (λ z. length text - length (rest_by z)) (begins-is some ∙ e) ∙ here-is
 

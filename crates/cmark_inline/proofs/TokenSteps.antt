@@ -212,26 +212,6 @@ module _ (text : List ℕ) (at : ℕ) (lt : at < length text) where
       let m : Option (List ℕ) = and_then (after_if (λ c. c == 92) (drop at text)) after_ending in
       ap (option_map hard_break) (break-end text at found m hard_break (λ x. refl) (e ∙ line-at-slash b))
 
-  pub no-break-at-ending : (get_or text at 0 ≡ 10) ⊎ (get_or text at 0 ≡ 13) → None ≡ line_break_in (drop at text) → ⊥
-  no-break-at-ending ends e = go ends
-    where
-      feed : (bs : List ℕ) → line_break_in (10 ∷ bs) ≡ Some (blank_break [] bs)
-      feed bs =
-          ap (λ x. option_map (blank_break x) (after_ending (after_leading_blanks (10 ∷ bs)))) (blanks-are (10 ∷ bs) 0 (omega arith) (λ k h. absurd (omega (arith, h))) refl)
-          ∙ ap (λ x. option_map (blank_break []) (after_ending x)) (following-are (10 ∷ bs) 0 (omega arith) (λ k h. absurd (omega (arith, h))) refl)
-
-      return : (bs : List ℕ) → line_break_in (13 ∷ bs) ≡ option_map (blank_break []) (after_ending (13 ∷ bs))
-      return bs =
-          ap (λ x. option_map (blank_break x) (after_ending (after_leading_blanks (13 ∷ bs)))) (blanks-are (13 ∷ bs) 0 (omega arith) (λ k h. absurd (omega (arith, h))) refl)
-          ∙ ap (λ x. option_map (blank_break []) (after_ending x)) (following-are (13 ∷ bs) 0 (omega arith) (λ k h. absurd (omega (arith, h))) refl)
-
-      none : {A : Type 0} (x : A) → None ≡ Some x → ⊥
-      none x q = let z : ⊥ = cc in z
-
-      go : (get_or text at 0 ≡ 10) ⊎ (get_or text at 0 ≡ 13) → ⊥
-      go (inl b) = none _ (e ∙ ap line_break_in (drop-cons text at 0 lt ∙ ap (λ x. x ∷ drop (suc at) text) b) ∙ feed (drop (suc at) text))
-      go (inr b) = none _ (e ∙ ap line_break_in (drop-cons text at 0 lt ∙ ap (λ x. x ∷ drop (suc at) text) b) ∙ return (drop (suc at) text))
-
 -- ## Escapes
 tick-first : (bs : List ℕ) → first_is is_punctuation bs ≡ false → first_is is_backtick bs ≡ false
 tick-first [] e = refl

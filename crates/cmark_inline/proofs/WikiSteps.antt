@@ -141,10 +141,6 @@ module _ (leaf : LeafText) (doubled : Bracket) (close : ℕ) (wikilink : Wikilin
       shows : (o : Option ℕ) → o ≡ Some at → (place : Option ℕ) → place ≡ Some (wiki_start leaf doubled + part.end) → ShowsFrom leaf place o
       shows o e place f = subst (ShowsFrom leaf place) (sym e) (subst (λ (p : Option ℕ). ShowsFrom leaf p (Some at)) (sym f) first)
 
-  -- the name is empty
-  pub no-name : (part : Part) → written ≡ wiki_text leaf doubled close → Some part ≡ cut_at 0 (piped_name_in written) → length part.bytes ≡ 0 → length (name_in (wiki_text leaf doubled close)) ≡ 0
-  no-name part same found none = ap (λ bs. length (name_in bs)) (sym same) ∙ ap length ((first-name 0 written part found).0) ∙ none
-
 pub two-brackets : (text : List ℕ) (close : ℕ) → IsUtf8 text → IsPart text close (close + 1) → close + 1 < length text → get_or text (close + 1) 0 ≡ 93 → IsPart text close (close + 2)
 two-brackets text close u part within byte =
     let edge = after text (close + 1) u within (let q : get_or text (close + 1) 0 < 128 = omega (arith, byte) in q) in

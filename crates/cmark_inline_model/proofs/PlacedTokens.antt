@@ -155,10 +155,6 @@ module _ (reader : Reader) (leaf : Leaf) (text : List ℕ) (place : ℕ → ℕ)
       item_is kind (place k) (place_of reader leaf rest) (place_of reader leaf rest) k (suc j) (suc j) refl (end ∙ h.places.next j lt byte ∙ ap (λ i. suc (place i)) (let q : j ≡ suc j - 1 = omega arith in q)) end
       ∙ ap (λ i. placed place (item_at kind k i)) (sym own)
 
-  found_is : (kind : List ℕ → ItemKind) (k : ℕ) (l : List ℕ) (found : Option Parsed) → drop k text ≡ l → ParsedAfter l found → (f : Parsed) → found ≡ Some f
-      → item_at (kind f.bytes) (place k) (place_of reader leaf f.following) ≡ placed place (item_at (kind f.bytes) k (place_of one alone f.following))
-  found_is kind k l found d b f e = rest_is (kind f.bytes) k l f.following d (subst (ParsedAfter l) e b)
-
   -- one of two tokens, by the condition
   either : (b : Bool) (x y x0 y0 : Token) → (b ≡ true → x ≡ placed place x0) → (b ≡ false → y ≡ placed place y0) → (if b then x else y) ≡ placed place (if b then x0 else y0)
   either true x y x0 y0 p q = p refl

@@ -10,7 +10,7 @@ use Rattle.cmark_grammar.specs.BracketReading.{Reads}
 use Rattle.cmark_grammar.specs.BracketStates.{State, moved}
 use Rattle.cmark_grammar.specs.Columns.{is_blank_byte}
 use Rattle.cmark_grammar.specs.Emphasis.{IsEmphasis}
-use Rattle.cmark_grammar.specs.Event.{Ranged, Text}
+use Rattle.cmark_grammar.specs.Event.{Text}
 use Rattle.cmark_grammar.specs.InlineReading.{inline_events}
 use Rattle.cmark_grammar.specs.InlineTokens.{item_at, from, begins, is_plain, break_or, goes_on, line_begins, longest, place_of, read_on, size_to, token}
 use Rattle.cmark_grammar.specs.Items.{Plain, Item, Token, Stands, Ends, SoftBreak, HardBreak}

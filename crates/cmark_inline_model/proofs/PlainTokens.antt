@@ -45,9 +45,6 @@ module _ (reader : Reader) (leaf : Leaf) where
   when true x y h k = h
   when false x y h k = k
 
-  item_shaped : (kind : ItemKind) (start end : ℕ) → Shaped (item_at kind start end)
-  item_shaped kind start end e = refl
-
   break_shaped : (at : ℕ) (found : Option LineBreak) (other : Token) → Shaped other → Shaped (break_or reader leaf at found other)
   break_shaped at None other h = h
   break_shaped at (Some found) other h = by found.is_hard

@@ -11,11 +11,10 @@ use Rattle.cmark_grammar.specs.Quotes.{Quote, quote_characters}
 use Rattle.cmark_grammar.specs.Siblings.{Inline, Nil, Single, Around, append, item, item_then, text_then, footnote_then, tag_by, wiki_tag, name_text, display_from, quote_then, quotes_of, quote_as, with_characters, with_quotes, run_then, runs_from, dressed_all}
 use Rattle.cmark_inline_model.specs.SiblingsModel.{dress, siblings_of}
 use Rattle.cmark_grammar.specs.Spans.{Spans}
-use Rattle.cmark_grammar.specs.Tag.{Tag}
 use Rattle.cmark_inline_model.proofs.EmphasisOne.{one}
 use Rattle.cmark_inline_model.specs.PartLists.{join, Cut, cut_at}
 use Rattle.cmark_inline_model.specs.RowParts.{run_before, runs_in, bytes_in, counted, BracketPlace, text_slot, LaysParts, IsRow, CutsRow}
-use Rattle.cmark_inline_model.specs.SlotRows.{Slot, ItemSlot, BeginSlot, EndSlot, NothingSlot, seen, slots_of, run_slots, run_places, LaysItem, LaysOut, character_slot, quoted, marked, marks_by, marks_of, StandAfter}
+use Rattle.cmark_inline_model.specs.SlotRows.{Slot, ItemSlot, BeginSlot, EndSlot, NothingSlot, slots_of, run_slots, run_places, LaysItem, LaysOut, character_slot, quoted, marked, marks_by, marks_of, StandAfter}
 use Rattle.cmark_inline_model.proofs.PartCuts.{join_assoc, openings-join, cut-is, Cuts, cuts}
 use Rattle.cmark_inline_model.proofs.SlotLaws.{pairs-write, marks-make}
 use Rattle.cmark_inline_model.proofs.SlotQuotes.{quotes-written}
@@ -402,8 +401,6 @@ module _ (options : Options) where
       }
 
   -- ## A construct that brackets form: an element around the slots of the siblings inside it
-  element-laid : (at : ℕ) (tag : Tag) (start end : ℕ) (inside : Inline) (own : List Slot) → seen own ≡ slots_of inside → LaysOut at (Around tag start end inside Nil) (BeginSlot tag start end ∷ (own ++ (EndSlot ∷ []))) [] []
-  element-laid at tag start end inside own e = (own, [], e, refl, (refl, refl, refl))
 
   -- it replaces the slots after the bracket at which the row was cut
   pub formed-row : (nearer : ℕ) (bs : List BracketPlace) (parts piece : Parts) (slots more : List Slot) (bytes quotes : List ℕ) (runs : List Run) (quoted : List Quote) (c : CutsRow options nearer bs parts slots bytes quotes runs quoted) → openings piece ≡ 0

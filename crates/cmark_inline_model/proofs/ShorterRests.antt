@@ -12,7 +12,7 @@ use Rattle.cmark_grammar.specs.Destinations.{link_destination_in}
 use Rattle.cmark_grammar.specs.Formulas.{is_dollar, is_ink, Braces, context_of, after_byte, closes_formula, formula_to, inline_in, display_in}
 use Rattle.cmark_grammar.specs.InlineHtml.{after_comment, declaration_in, cdata_in, opened_in, after_opened, after_markup}
 use Rattle.cmark_grammar.specs.Letters.{is_letter, first_is, starts, after_while, after_if, after_start_of, after_first_of, and_then}
-use Rattle.cmark_grammar.specs.LineBreaks.{LineBreak, hard_break, blank_break, backslash_break_in, blank_break_in, ends_with_two_spaces}
+use Rattle.cmark_grammar.specs.LineBreaks.{LineBreak, hard_break, backslash_break_in}
 use Rattle.cmark_grammar.specs.LinkDefinitions.{Parsed, put, is_label, label_if, label_in, escapes_next, up_to, ends_bare, bare_in, depth_after, title_in, after_leading_blanks, after_next_line, after_separator}
 use Rattle.cmark_grammar.specs.LinkTails.{LinkTail, closed_tail, with_title, title_after, tail_inside, link_tail_in, reference_label_in, after_collapsed}
 use Rattle.cmark_grammar.specs.Tags.{is_name_byte, is_attribute_start, is_attribute_byte, is_value_byte, is_space_byte, after_line_feed, after_ending, after_tag_name, after_attribute_name, after_bare_value, after_greater, after_open_end, after_closing_tag, without_prefix, on_next_line, after_space, prefix_after, after_quotation_mark, after_value, after_assigned, after_attribute, after_attributes, after_open_tag, after_tag_start, after_tag}
@@ -332,16 +332,6 @@ backslash_break-shorter bs = go (after_if (λ b. b == 92) bs) (if-shorter (λ b.
     go : (o : Option (List ℕ)) → LeavesBelow (length bs) o → BreakBelow (length bs) (option_map hard_break (and_then o after_ending))
     go None h = tt
     go (Some rest) h = ended rest (after_ending rest) h (ending-shorter rest)
-
-pub blank_break-shorter : (bs : List ℕ) → BreakBelow (length bs) (blank_break_in bs)
-blank_break-shorter bs = go (after_ending (after_leading_blanks bs)) (ending-shorter (after_leading_blanks bs))
-  where
-    go : (o : Option (List ℕ)) → LeavesBelow (length (after_leading_blanks bs)) o → BreakBelow (length bs) (option_map (blank_break (take_while is_blank_byte bs)) o)
-    go None h = tt
-    go (Some rest) h =
-        let e = blanks_within bs in
-        either (λ (x : LineBreak). length x.following < length bs) (ends_with_two_spaces (take_while is_blank_byte bs)) (hard_break rest) (record { is_hard = false; before = length (take_while is_blank_byte bs); following = rest })
-        (omega arith) (omega arith)
 
 -- ## Runs of backticks, autolinks, formulas and inline HTML from their first byte on
 

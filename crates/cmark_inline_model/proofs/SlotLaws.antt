@@ -1,7 +1,6 @@
 -- The slots that the marks of a list of siblings' spans make, and the events that are read from slots.
 use Rattle.std.proofs.Common.{◌≡◌, ℕ, zero, suc, ◌+◌, ◌-◌, List, [], ◌∷◌, ◌++◌, length, set, get_or, refl, sym, ap, ◌∙◌, subst, arith, append_assoc, append-nil, length-append, Option, Some, None}
-use Rattle.std.specs.Prelude.{map}
-use Rattle.std.proofs.lemmas.List.{length-set, map-append}
+use Rattle.std.proofs.lemmas.List.{length-set}
 use Rattle.cmark_grammar.specs.Emphasis.{Pair, IsEmphasis, places_taken}
 use Rattle.cmark_inline_model.specs.EmphasisModel.{spans_of}
 use Rattle.cmark_grammar.specs.Event.{Start, End, Ranged}
@@ -9,7 +8,6 @@ use Rattle.cmark_grammar.specs.InlineReading.{event_of, over, inline_events}
 use Rattle.cmark_grammar.specs.Options.{Options}
 use Rattle.cmark_grammar.specs.Quotes.{quote_characters}
 use Rattle.cmark_grammar.specs.Siblings.{Inline, Nil, Single, Around, quotes_of, with_quotes, runs_from, run_bytes, gaps_of, dressed, dressed_all, IsDressed}
-use Rattle.cmark_inline_model.specs.SpanEntries.{entries_of}
 use Rattle.cmark_grammar.specs.Spans as spans
 use Rattle.cmark_grammar.specs.Spans.{SpanKind, Emphasis, Strong, SingleTilde, DoubleTilde, Caret, DoubleEquals, Spans, TakePlaces, span_tag, span_width}
 use Rattle.cmark_grammar.specs.Tag.{Tag}
@@ -145,23 +143,6 @@ pub spans-tight : (siblings : Inline) (pairs : List Pair) (spans : Spans) → Is
 spans-tight siblings pairs spans e = subst (AreTight (λ i. get_or (gaps_of siblings) i Nil ≡ Nil)) (sym (one (runs_from siblings 0) pairs spans e).1) (tight siblings)
 
 -- ## Entries of another kind, as code writes them
-
--- entries that agree about the bytes of each side of a span are the marks of spans
-pub entries-say : (Entry : Type 0) (single : Entry) (opens closes : SpanKind → List Entry) (mark : Entry → Mark) → mark single ≡ Stays → ((k : SpanKind) → map mark (opens k) ≡ opening k)
-    → ((k : SpanKind) → map mark (closes k) ≡ closing k) → (spans : Spans) → map mark (entries_of Entry single opens closes spans) ≡ marks_of spans
-entries-say Entry single opens closes mark s o c spans.Nil = refl
-entries-say Entry single opens closes mark s o c (spans.Single at after) =
-    ap (λ m. m ∷ map mark (entries_of Entry single opens closes after)) s ∙ ap (λ l. Stays ∷ l) (entries-say Entry single opens closes mark s o c after)
-entries-say Entry single opens closes mark s o c (spans.Around span inside after) =
-    let i = entries_of Entry single opens closes inside in
-    let a = entries_of Entry single opens closes after in
-    map-append mark (opens span.kind ++ (i ++ closes span.kind)) a
-    ∙ ap (λ l. l ++ map mark a) (map-append mark (opens span.kind) (i ++ closes span.kind))
-    ∙ ap (λ l. (map mark (opens span.kind) ++ l) ++ map mark a) (map-append mark i (closes span.kind))
-    ∙ ap (λ l. (l ++ (map mark i ++ map mark (closes span.kind))) ++ map mark a) (o span.kind)
-    ∙ ap (λ l. (opening span.kind ++ (l ++ map mark (closes span.kind))) ++ map mark a) (entries-say Entry single opens closes mark s o c inside)
-    ∙ ap (λ l. (opening span.kind ++ (marks_of inside ++ l)) ++ map mark a) (c span.kind)
-    ∙ ap (λ l. (opening span.kind ++ (marks_of inside ++ closing span.kind)) ++ l) (entries-say Entry single opens closes mark s o c after)
 
 -- ## The events of slots
 

@@ -9,7 +9,7 @@ use Rattle.cmark_grammar.specs.Autolinks.{autolink_in}
 use Rattle.cmark_grammar.specs.InlineHtml.{after_markup, takes_lines}
 use Rattle.cmark_grammar.specs.InlineTokens.{item_at, from, place_of, read_on, size_to, source_from, autolink_or, markup_or, tag_or_text, less_than, begins, begins_at, longest, plain_end, token}
 use Rattle.cmark_grammar.specs.Items as items
-use Rattle.cmark_grammar.specs.Items.{ItemKind, Plain, Own, Delimiters, Autolink, Html, OwnedHtml, Item, Bracket, Token, Stands, Opens, Closes, Ends}
+use Rattle.cmark_grammar.specs.Items.{ItemKind, Plain, Own, Delimiters, Autolink, Html, OwnedHtml, Bracket, Token, Stands, Opens, Closes, Ends}
 use Rattle.cmark_grammar.specs.LeafText.{Stretch, Leaf, InTurn, bytes_from, end_of, place_with, size_of}
 use Rattle.cmark_grammar.specs.Letters.{first_is}
 use Rattle.cmark_grammar.specs.Lines.{is_content}

@@ -365,8 +365,3 @@ module _ (Entry : Type 0) (single : Entry) (opening closing : SpanKind → List 
 
   pub pairs-marked : (ts : List Sibling) → StandFrom 0 ts → mark_pairs (pairs_of ts) (stays (places_taken ts)) ≡ entries_of (spans_of ts)
   pairs-marked ts st = (marks ts [] [] 0 refl refl st).0
-
-  pub pairs-within : (ts : List Sibling) → StandFrom 0 ts → AllWithin (places_taken ts) (pairs_of ts)
-  pairs-within ts st =
-      let e : 0 + places_taken ts ≡ places_taken ts = omega arith in
-      subst (λ n. AllWithin n (pairs_of ts)) e (marks ts [] [] 0 refl refl st).1

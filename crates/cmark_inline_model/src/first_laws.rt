@@ -1,6 +1,6 @@
 //! Theorems about the events of one leaf: whether there are any, and how they begin. They are the contract of a function that does nothing.
 
-ghost use Rattle.std.specs.Prelude.{◌≡◌, ◌≢◌, ℕ, List, [], length};
+ghost use Rattle.std.specs.Prelude.{◌≡◌, ◌≢◌, List, [], length};
 ghost use Rattle.cmark_grammar.specs.Event.{Ranged};
 ghost use Rattle.cmark_grammar.specs.LeafReading.{Between, ReadsLeaf};
 ghost use Rattle.cmark_grammar.specs.LeafText.{InTurn, Leaf};

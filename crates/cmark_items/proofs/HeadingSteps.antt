@@ -1,11 +1,11 @@
 -- The words between braces, one after the other.
-use Rattle.std.proofs.Common.{◌≡◌, ℕ, suc, ◌<◌, Bool, true, false, ◌==◌, not, ◌++◌, List, [], ◌∷◌, length, take, drop, Option, Some, None, refl, sym, ap, ◌∙◌, arith, cond, true≢false}
+use Rattle.std.proofs.Common.{◌≡◌, ℕ, suc, ◌<◌, Bool, true, false, ◌==◌, not, List, [], ◌∷◌, length, take, drop, Option, Some, None, refl, sym, ap, ◌∙◌, arith, cond, true≢false}
 use Rattle.std.specs.Char.{is_ascii_whitespace}
 use Rattle.std.specs.List.{take_while}
-use Rattle.std.specs.Prelude.{get_or, if◌then◌else◌}
+use Rattle.std.specs.Prelude.{get_or}
 use Rattle.std.proofs.lemmas.Bool.Decides.{nat_tests}
 use Rattle.std.proofs.lemmas.List.Sums.{take_while-cons}
-use Rattle.cmark_grammar.specs.Attributes.{Attributes, is_no_equals, put_byte, words, value_after, attribute_of, with_word}
+use Rattle.cmark_grammar.specs.Attributes.{is_no_equals, put_byte, words, value_after}
 use Rattle.cmark_items.specs.Headings.{is_in_word, words_after}
 
 -- how much is left
@@ -56,16 +56,3 @@ white-ascii b e = let white : is_ascii_whitespace b ≡ true = not-false (is_asc
 
 pub equals-ascii : (b : ℕ) → is_no_equals b ≡ false → b < 128
 equals-ascii b e = is_byte b 61 (not-false (b == 61) e) (omega arith)
-
--- a word of two bytes or more that begins with neither `#` nor `.` is another attribute
-pub with-other : (a : Attributes) (bs : List ℕ) → (length bs < 2 → ⊥) → (get_or bs 0 0 ≡ 35 → ⊥) → (get_or bs 0 0 ≡ 46 → ⊥) → with_word a bs ≡ record a { others = a.others ++ attribute_of bs ∷ [] }
-with-other a [] l x y = absurd (l (omega arith))
-with-other a (b ∷ []) l x y = absurd (l (omega arith))
-with-other a (b ∷ (c ∷ bs)) l x y = go (b == 35) refl (b == 46) refl
-  where
-    go : (p : Bool) → (b == 35) ≡ p → (q : Bool) → (b == 46) ≡ q → with_word a (b ∷ (c ∷ bs)) ≡ record a { others = a.others ++ attribute_of (b ∷ (c ∷ bs)) ∷ [] }
-    go true e q f = absurd (x (let s : b ≡ 35 = grind (arith, e) in s))
-    go false e true f = absurd (y (let s : b ≡ 46 = grind (arith, f) in s))
-    go false e false f =
-        ap (λ z. if z then record a { id = Some (c ∷ bs) } else if b == 46 then record a { classes = a.classes ++ (c ∷ bs) ∷ [] } else record a { others = a.others ++ attribute_of (b ∷ (c ∷ bs)) ∷ [] }) e
-        ∙ ap (λ z. if z then record a { classes = a.classes ++ (c ∷ bs) ∷ [] } else record a { others = a.others ++ attribute_of (b ∷ (c ∷ bs)) ∷ [] }) f

@@ -1,6 +1,6 @@
 //! The tables that items point into.
 
-ghost use Rattle.std.specs.Prelude.{◌≡◌, ◌<◌, ◌++◌, ◌∷◌, [], length, IfOk, OnOk, OnErr, slice_get, Some, None, List, ℕ};
+ghost use Rattle.std.specs.Prelude.{◌≡◌, ◌<◌, [], length, IfOk, OnOk, OnErr, slice_get, Some, None, List, ℕ};
 ghost use Rattle.cmark_references.specs.Definitions.{definition};
 ghost use Rattle.cmark_references.specs.Footnotes.{footnote};
 ghost use Rattle.cmark_items.specs.Tables.{with_text, with_link, with_alignments, LeavesNoText, LeavesNoLink, without_alignments};

@@ -1,6 +1,6 @@
 //! The attributes of a heading (this profile's own).
 
-ghost use Rattle.std.specs.Prelude.{◌≡◌, ◌<◌, ◌≤◌, ℕ, ◌∷◌, [], ◌++◌, length, take, drop, map, IfOk, OnOk, IfSome, option_map, get_or};
+ghost use Rattle.std.specs.Prelude.{◌≡◌, ◌<◌, ◌≤◌, ◌∷◌, [], ◌++◌, length, take, drop, map, IfOk, OnOk, IfSome, option_map, get_or};
 ghost use Rattle.std.specs.List.{take_while};
 ghost use Rattle.cmark_grammar.specs.Attributes.{is_no_equals, words, value_after, attribute_of, attributes_of, with_word, no_attributes};
 ghost use Rattle.cmark_values.specs.Shown.{text_bytes, shown_attribute};

@@ -194,14 +194,6 @@ unclosed-at (suc k) (b ∷ (c ∷ bs)) l n = go (closes (λ x. x) (c ∷ bs)) re
 pub unclosed : (bs : List ℕ) → length bs ≢ 0 → get_or bs (length bs - 1) 0 ≢ 125 → before_braces (λ b. b) bs ≡ bs
 unclosed bs some n = unclosed-at (length bs - 1) bs (omega (arith, some)) n
 
--- all before the last brace is no brace
-pub closes-end : (k : ℕ) (bs : List ℕ) → suc k ≡ length bs → get_or bs k 0 ≡ 125 → closes (λ b. b) (drop k bs) ≡ true
-closes-end zero [] l e = absurd (omega (arith, l))
-closes-end zero (b ∷ []) l e = ap (λ n. n == 125) e
-closes-end zero (b ∷ (c ∷ bs)) l e = absurd (omega (arith, l))
-closes-end (suc k) [] l e = absurd (omega (arith, l))
-closes-end (suc k) (b ∷ bs) l e = closes-end k bs (omega (arith, l)) e
-
 pub drop-at : (k : ℕ) (bs : List ℕ) → k < length bs → drop k bs ≡ get_or bs k 0 ∷ drop (suc k) bs
 drop-at zero [] l = absurd (omega (arith, l))
 drop-at zero (b ∷ bs) l = refl

@@ -77,16 +77,6 @@ goes-joined text b waits both next some is =
       draws = λ d draws. subst (λ r. Draws text b (drawn (texts_of r.done) d)) (sym is) (subst (Draws text b) (sym (drawn-Nil d)) draws);
     })
 
-pub goes-apart : (text : List ℕ) (old new : Builder) (waits : Option Stretch) (next : Stretch) → next.start ≢ next.end →
-    add_to [] (shown_waits text waits) (shown_stretch text next) ≡ record { done = rest_of (shown_waits text waits); waits = Some (shown_stretch text next) } →
-    ((d : Drawing) → Draws text old d → Draws text new (drawn (texts_of (rest_of (shown_waits text waits))) d)) →
-    Goes text old new waits (Some next) (piece_if text next.start next.end [])
-goes-apart text old new waits next some is step =
-    subst (Goes text old new waits (Some next)) (sym (piece_if-some text next [] some)) (record {
-      left_is = sym (ap (λ r. r.waits) is);
-      draws = λ d draws. subst (λ r. Draws text new (drawn (texts_of r.done) d)) (sym is) (step d draws);
-    })
-
 -- columns that are left of a tab
 pub left-cut : (cs : List Column) → left_columns cs ≡ cut_columns cs
 left-cut [] = refl

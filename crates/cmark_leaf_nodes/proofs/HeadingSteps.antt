@@ -83,9 +83,6 @@ module _ {X : Type 0} (q : X → Bool) where
   less-le : (a b : ℕ) → a < b → nat_lt a b ≡ true
   less-le a b l = grind (arith)
 
-  less-same : (a : ℕ) → nat_lt a a ≡ false
-  less-same a = grind (arith)
-
   less-suc : (a b : ℕ) → nat_lt (suc a) (suc b) ≡ nat_lt a b
   less-suc a b = grind (arith)
 

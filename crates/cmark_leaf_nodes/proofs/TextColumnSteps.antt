@@ -1,12 +1,11 @@
 -- The lines of a text tell its bytes, also without their prefixes.
-use Rattle.std.proofs.Common.{◌≡◌, ℕ, zero, suc, ◌+◌, ◌-◌, ◌≤◌, Bool, true, false, ◌==◌, List, [], ◌∷◌, ◌++◌, length, length-drop, drop, refl, sym, ap, ◌∙◌, subst, arith, append_assoc, drop-drop, Some}
+use Rattle.std.proofs.Common.{◌≡◌, ℕ, zero, suc, ◌+◌, ◌-◌, ◌≤◌, Bool, true, false, ◌==◌, List, [], ◌∷◌, ◌++◌, length, length-drop, drop, refl, sym, ap, ◌∙◌, subst, arith, append_assoc, drop-drop}
 use Rattle.std.specs.Prelude.{if◌then◌else◌}
 use Rattle.cmark_grammar.specs.Columns.{Column, tab, expand, tab_columns, to_tab_stop}
-use Rattle.cmark_grammar.specs.Containers.{Container, keeps, enter, width_of}
+use Rattle.cmark_grammar.specs.Containers.{Container, enter, width_of}
 use Rattle.cmark_grammar.specs.Lines.{lines, content}
 use Rattle.cmark_grammar.specs.Rows.{Row, row_at, without}
 use Rattle.cmark_block_model.proofs.BoundaryLaws.{joined, lines-ended, content-cut}
-use Rattle.cmark_block_model.proofs.RowPlaces.{kept-following}
 use Rattle.cmark_leaf_nodes.specs.TextColumns.{StandInText}
 use Rattle.cmark_leaf_nodes.proofs.ColumnCuts.{drop-in_text}
 
@@ -42,12 +41,6 @@ row-in_text text at line more is =
 -- without columns at the beginning
 pub without-in_text : (text : List ℕ) (n : ℕ) (r : Row) → StandInText text r.columns → StandInText text (without n r).columns
 without-in_text text n r t = drop-in_text text n r.columns t
-
--- after the prefix of a container that keeps the line, or that begins on it
-pub keeps-in_text : (text : List ℕ) (k : Container) (bare : Bool) (r s : Row) → keeps k bare r ≡ Some s → StandInText text r.columns → StandInText text s.columns
-keeps-in_text text k bare r s is t =
-    let w = kept-following k bare r s is in
-    subst (λ x. StandInText text x.columns) w.1.1 (drop-in_text text w.0 r.columns t)
 
 pub enter-in_text : (text : List ℕ) (k : Container) (r : Row) → StandInText text r.columns → StandInText text (enter k r).columns
 unfolding enter

@@ -5,7 +5,6 @@ ghost use Rattle.std.specs.List.{take_while};
 ghost use Rattle.cmark_tree.specs.Building.{IsPlaced};
 ghost use Rattle.cmark_items.specs.Tables.{defined};
 ghost use Rattle.cmark_grammar.specs.Attributes.{before_braces, is_brace};
-ghost use Rattle.cmark_grammar.specs.Columns.{is_blank_byte};
 ghost use Rattle.cmark_grammar.specs.Leaves.{run};
 ghost use Rattle.cmark_grammar.specs.Rows.{words_of};
 ghost use Rattle.cmark_grammar.specs.Tokens.{heading_tokens};

@@ -297,13 +297,6 @@ module _ (source : List ℕ) where
           either (inl h) a b = inl (b ∙ h.0 ∙ ap (λ k. k + 1) (sym a), (let v = h.1 in let q : at + 1 < first + length (joined source (x ∷ ss)) = omega (arith, v, n) in q))
           either (inr h) a b = inr (subst (λ k. IsCharBoundary source (k + 1)) (sym a) h)
 
-  not-below : (a b : ℕ) → b ≤ a → nat_lt a b ≡ false
-  not-below a b g = by (nat_lt a b) refl
-    where
-      by : (z : Bool) → nat_lt a b ≡ z → z ≡ false
-      by true h = let v = ltb-true a b h in absurd (omega (arith, v, g))
-      by false h = refl
-
   place-low : (first from : ℕ) (ss : List Stretch) (at : ℕ) → AreStretches source first from ss → first ≤ at → at < first + length (joined source ss) → from ≤ place_in ss at
   place-low first from [] at all le lt = absurd (omega (arith, le, lt))
   place-low first from (x ∷ ss) at all le lt = go (λ l m. place-low (first + size_of x) x.end ss at all.1 l m) (nat_lt at (x.at + size_of x)) refl

@@ -5,7 +5,7 @@ use Rattle.std.specs.Str.{IsCharBoundary}
 use Rattle.cmark_grammar.specs.Rows.{Row, without, hold, is_blank_line}
 use Rattle.cmark_grammar.specs.BlockQuoteKind.{BlockQuoteKind}
 use Rattle.cmark_grammar.specs.Containers as grammar
-use Rattle.cmark_grammar.specs.Containers.{is_block_quote, block_quote_width, keep_as, keeps, enter, strip_as, strip}
+use Rattle.cmark_grammar.specs.Containers.{is_block_quote, block_quote_width, keep_as, keeps, strip_as, strip}
 use Rattle.cmark_block_model.proofs.RowPlaces.{strip-line_end}
 use Rattle.cmark_block_model.proofs.RowEdges.{strips-good}
 use Rattle.cmark_line_rules.specs.Rests.{row_of, IsIn}

@@ -103,9 +103,6 @@ line_len_le bs =
     let l = length-drop (content_len bs) bs in
     omega arith
 
-content-take : (bs : List ℕ) → content bs ≡ take (content_len bs) bs
-content-take bs = refl
-
 length-content : (bs : List ℕ) → length (content bs) ≡ content_len bs
 length-content bs = length-prefix_len is_content bs
 

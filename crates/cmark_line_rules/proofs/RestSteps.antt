@@ -4,8 +4,8 @@ use Rattle.std.specs.Prelude.{if◌then◌else◌}
 use Rattle.std.specs.Str.{IsCharBoundary}
 use Rattle.cmark_grammar.specs.Columns.{Column, expand, indent, without_indent, bytes_of}
 use Rattle.cmark_grammar.specs.Rows.{Row, without, indent_of, begin_of, start_of}
-use Rattle.cmark_block_model.proofs.RowPlaces.{Runs, Runs-le, drop-Runs, expand-Runs, Lies}
-use Rattle.cmark_block_model.proofs.RowEdges.{GoodRow, IsAsciiColumn, front-less, indent-front, without-good, start-E}
+use Rattle.cmark_block_model.proofs.RowPlaces.{Runs, Runs-le, drop-Runs, expand-Runs}
+use Rattle.cmark_block_model.proofs.RowEdges.{GoodRow, IsAsciiColumn, front-less, indent-front, without-good}
 use Rattle.cmark_scan_lines.specs.LineStart.{columns_taken}
 use Rattle.cmark_line_rules.specs.Rests.{row_of, IsIn}
 use Rattle.cmark_line_rules.specs.declared.line_rest.LineRest.{LineRest}
@@ -30,9 +30,6 @@ start-content_end rest =
 pub content_end-line_end : (rest : LineRest) → (row_of rest).content_end ≤ (row_of rest).line_end
 unfolding row_of
 content_end-line_end rest = rest.ends
-
-pub rest-lies : (from : ℕ) (rest : LineRest) → from ≤ begin_of (row_of rest) → Lies from (row_of rest)
-rest-lies from rest le = (le, rest-runs rest, content_end-line_end rest)
 
 -- it lacks no prefix
 pub whole : (rest : LineRest) → (row_of rest).lazy ≡ false
@@ -63,6 +60,3 @@ in-following text n rest moved is le h =
     in-moved text rest moved (without n (row_of rest)) is refl
     (without-good (IsCharBoundary text) n (row_of rest) h.good (front-less IsAsciiColumn n (indent (row_of rest).columns) (row_of rest).columns le (indent-front (row_of rest).columns)))
     h
-
-pub start-boundary : (text : List ℕ) (rest : LineRest) → IsIn text rest → IsCharBoundary text (start_of (row_of rest))
-start-boundary text rest h = start-E (IsCharBoundary text) (row_of rest) h.good

@@ -2,7 +2,7 @@
 
 ghost use Rattle.std.specs.Prelude.{◌≡◌, ℕ, List, IfSome, option_map};
 ghost use Rattle.cmark_grammar.specs.DefinitionLists.{begins_definition, definition_marker};
-ghost use Rattle.cmark_line_rules.specs.Definitions.{definition_after, width_of, EntersDefinition};
+ghost use Rattle.cmark_line_rules.specs.Definitions.{width_of, EntersDefinition};
 ghost use Rattle.cmark_line_rules.specs.Rests.{row_of, IsIn};
 ghost use Rattle.cmark_values.specs.Shown.{shown_options};
 

@@ -24,7 +24,7 @@ pub struct LineRest<'a> {
 }
 
 impl<'a> LineRest<'a> {
-    ghost use Rattle.std.specs.Prelude.{◌≡◌, ◌<◌, ◌∷◌, ℕ, List, [], None, IfSome, true, false, min};
+    ghost use Rattle.std.specs.Prelude.{◌≡◌, ◌<◌, ◌∷◌, ℕ, List, None, IfSome, true, false, min};
     ghost use Rattle.std.specs.Str.{IsCharBoundary, IsUtf8};
     ghost use Rattle.cmark_grammar.specs.Columns.{bytes_of};
     ghost use Rattle.cmark_grammar.specs.Letters.{is_letter, first_is};

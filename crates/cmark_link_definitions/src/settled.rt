@@ -1,11 +1,9 @@
 //! Whether more text after a text can change the definition at its beginning.
 
-ghost use Rattle.std.specs.Prelude.{◌≡◌, ◌<◌, ◌==◌, not, ◌||◌, true, false, length, IsTrue, option_map, option_copied};
+ghost use Rattle.std.specs.Prelude.{◌≡◌, ◌<◌, ◌==◌, not, ◌||◌, true, false, IsTrue, option_map, option_copied};
 ghost use Rattle.cmark_grammar.specs.Leaves.{is_empty};
-ghost use Rattle.cmark_grammar.specs.Letters.{first_is};
-ghost use Rattle.cmark_grammar.specs.LinkDefinitions.{after_leading_blanks, definition_in};
+ghost use Rattle.cmark_grammar.specs.LinkDefinitions.{after_leading_blanks};
 ghost use Rattle.cmark_link_definitions.specs.Settled.{ends_in, title_ends, end_settles, lacks_colon, label_settles, settles, IsSettled};
-ghost use Rattle.cmark_link_definitions.specs.Shown.{shown_definition};
 ghost use Rattle.cmark_link_scan.specs.Shown.{shown_part};
 
 use crate::definition::scan_definition;

@@ -3,7 +3,7 @@ use Rattle.std.proofs.Common.{◌≡◌, ◌⊎◌, inl, inr, ⊎_elim, ℕ, zer
 use Rattle.std.specs.Prelude.{option_map}
 use Rattle.std.specs.Str.{IsCharBoundary, IsUtf8}
 use Rattle.std.proofs.Math.Seq.{drop-append_seam}
-use Rattle.std.proofs.lemmas.Bool.{ne_eqb, or_cases, and_parts, leb-true}
+use Rattle.std.proofs.lemmas.Bool.{or_cases, and_parts, leb-true}
 use Rattle.std.proofs.lemmas.Str.{IsCharBoundary-end, IsCharBoundary-before_ascii, IsCharBoundary-after_ascii}
 use Rattle.cmark_grammar.specs.Destinations.{link_destination_in}
 use Rattle.cmark_grammar.specs.Leaves.{is_empty}
@@ -182,11 +182,6 @@ cut_value text part following end utf8 c is how =
     let rest : following ≡ c.found.following = is ∙ ap (λ n. drop n text) c.end_is ∙ (destination_ends text c.found utf8 c.is).rest in
     ap (λ l. Some (found_at l following)) c.part_is ∙ ap (λ l. Some (found_at c.found.bytes l)) rest
     ∙ destination_is text c.found c.is (⊎_elim (λ s. inl (ap is_empty (sym c.part_is) ∙ s)) (λ o. inr o) how)
-
--- the same fact for the code's test
-empty_is : (bs : List ℕ) → (length bs == 0) ≡ is_empty bs
-empty_is [] = refl
-empty_is (b ∷ bs) = ne_eqb (suc (length bs)) 0 (λ e. absurd (omega arith))
 
 pub kept_how : (text part : List ℕ) (t : Bool) → t ≡ true → t ≡ (first_is (λ b. b == 60) text || not (is_empty part)) → (is_empty part ≡ false) ⊎ (first_is (λ b. b == 60) text ≡ true)
 kept_how text part t holds is = ⊎_elim (λ o. inr o) (λ n. inl (not_true (is_empty part) n)) (or_cases (first_is (λ b. b == 60) text) (not (is_empty part)) (sym is ∙ holds))

@@ -1,15 +1,14 @@
 -- Texts that are read one by one, and the text that they are joined into.
-use Rattle.std.proofs.Common.{◌≡◌, ◌≢◌, inl, inr, ℕ, ◌==◌, T, Bool, true, false, List, [], ◌∷◌, ◌++◌, length, map, Option, Some, None, option_to_list, Result, Ok, Err, OnErr, refl, sym, ap, subst, ◌∙◌, true≢false}
+use Rattle.std.proofs.Common.{◌≡◌, ◌≢◌, ℕ, ◌==◌, T, true, false, List, [], ◌∷◌, ◌++◌, length, map, Option, Some, None, option_to_list, Result, Ok, Err, OnErr, refl, sym, ap, subst, ◌∙◌, true≢false}
 use Rattle.std.proofs.Math.Facts.{eqb_yes}
 use Rattle.std.proofs.lemmas.List.{map-append, nil_from_length}
 use Rattle.std.proofs.iter.Next.{Yields-more}
 use Rattle.std.specs.declared.ops.Range.{Range}
 use Rattle.std.specs.Iterator.{Yields}
-use Rattle.cmark_merge.specs.Merge.{TextAt, joined}
+use Rattle.cmark_merge.specs.Merge.{joined}
 use Rattle.cmark_values.specs.declared.text.CowStr.{CowStr}
-use Rattle.cmark_values.specs.Shown.{IsBoxed}
 use Rattle.cmark_merge.specs.Reading.{Ahead, Reads}
-use Rattle.cmark_merge.specs.Steps.{IsNoText, Joins, MergesRun, ReadsOne, ReadsRun, ReadsText, ReadsTexts}
+use Rattle.cmark_merge.specs.Steps.{ReadsOne, ReadsRun, ReadsText, ReadsTexts}
 use Rattle.cmark_merge.specs.Streams.{RangedItem, text_at, text_item}
 use Rattle.cmark_merge.proofs.MergeSteps.{joined-then}
 use Rattle.cmark_merge.proofs.ReadSteps.{reads-append, reads-yields}

@@ -2,7 +2,7 @@
 use Rattle.std.proofs.Common.{◌≡◌, ℕ, List, [], ◌∷◌, ◌++◌, map, map-id, Option, Some, None, option_map, Result, Ok, Err, refl, sym, ap, ap₂, ◌∙◌}
 use Rattle.std.proofs.lemmas.List.{map-append}
 use Rattle.cmark_grammar.specs.Event.{Event, Text, Ranged}
-use Rattle.cmark_merge.specs.Merge.{TextAt, event_of, joined, last_end, merge, merge_after, merge_events, merge_ranged, merged_run, ranged_of, run_with, text_between, text_of_event, text_of_ok, text_of_ranged, texts, unless_empty}
+use Rattle.cmark_merge.specs.Merge.{TextAt, event_of, joined, merge, merge_after, merge_events, merge_ranged, merged_run, ranged_of, run_with, text_between, text_of_event, text_of_ok, text_of_ranged, texts, unless_empty}
 
 unless_empty-map : {A B : Type 0} (f : A → B) (text : List ℕ) (x : A) → map f (unless_empty text x) ≡ unless_empty text (f x)
 unless_empty-map f [] x = refl

@@ -1,17 +1,16 @@
 -- The result of a call, from the items that it read.
-use Rattle.std.proofs.Common.{◌≡◌, ◌≢◌, ◌⊎◌, inl, inr, ℕ, ◌&&◌, Bool, true, false, List, [], ◌∷◌, ◌++◌, map, is_some, Option, Some, None, option_map, option_to_list, IfNone, IfSome, MatchBool, Result, Ok, Err, refl, sym, ap, ap₂, subst, ◌∙◌, append_assoc, append-nil}
+use Rattle.std.proofs.Common.{◌≡◌, ◌≢◌, ◌⊎◌, inl, inr, ℕ, true, false, List, [], ◌∷◌, ◌++◌, map, is_some, Option, Some, None, option_map, option_to_list, IfNone, IfSome, MatchBool, Result, Ok, refl, sym, ap, ap₂, subst, ◌∙◌, append_assoc}
 use Rattle.std.proofs.lemmas.List.{map-append}
 use Rattle.std.specs.declared.alloc.AllocError.{AllocError}
 use Rattle.std.specs.declared.ops.Range.{Range}
-use Rattle.std.specs.Iterator.{Yields}
 use Rattle.cmark_grammar.specs.Event.{Ranged}
-use Rattle.cmark_merge.specs.Merge.{TextAt, joined, merge, merge_after, merged_run, ranged_of, text_of_ok, text_of_ranged, unless_empty}
+use Rattle.cmark_merge.specs.Merge.{TextAt, joined, merge_after, merged_run, ranged_of, text_of_ok, text_of_ranged, unless_empty}
 use Rattle.cmark_values.specs.declared.text.CowStr.{CowStr}
-use Rattle.cmark_merge.specs.Merging.{AreSeveral, AreTexts, GivesFirst, HandsOn, IsOwnedItem, Refuses, is_text, last_of, left, merged, shown_item, then_given}
+use Rattle.cmark_merge.specs.Merging.{AreSeveral, AreTexts, GivesFirst, HandsOn, IsOwnedItem, Refuses, last_of, merged, shown_item, then_given}
 use Rattle.cmark_merge.specs.Reading.{Ahead, Reads}
-use Rattle.cmark_merge.specs.Steps.{GivesJoined, IsNoText, Merges, MergesRun, ReadsRun, ReadsText, RefusesRun, Takes}
+use Rattle.cmark_merge.specs.Steps.{GivesJoined, IsNoText, Merges, ReadsRun, ReadsText, RefusesRun, Takes}
 use Rattle.cmark_merge.specs.Streams.{IsOwnedRanged, RangedItem, shown_ranged, text_at, text_item}
-use Rattle.cmark_merge.proofs.MergeSteps.{following-end, following-text, following-texts, merge-other}
+use Rattle.cmark_merge.proofs.MergeSteps.{following-end, following-texts, merge-other}
 use Rattle.cmark_merge.proofs.ReadSteps.{reads-append, reads-open, reads-yields, yields-append}
 
 -- these items merged, also after a run
@@ -81,10 +80,6 @@ split held read items rest e = ap all_merged (sym (append_assoc (option_to_list 
 kept : (held : Option RangedItem) (next : Option RangedItem) (rest : List RangedItem) → held ≡ next → all_merged (option_to_list next ++ rest) ≡ all_merged (option_to_list held ++ rest)
 kept held next rest e = ap (λ o. all_merged (option_to_list o ++ rest)) (sym e)
 
--- None as a list
-nothing-in : {A : Type 0} (o : Option A) → o ≡ None → option_to_list o ≡ []
-nothing-in o e = ap option_to_list e
-
 first-alone : (t : CowStr × Range ℕ) (next : Option RangedItem) → IfSome next IsNoText → HandsOn text_of_ranged shown_ranged IsOwnedRanged (text_item t ∷ option_to_list next) (text_item t)
 first-alone t None h = refl
 first-alone t (Some y) h = subst (λ b. MatchBool b (MatchBool true (IsOwnedItem IsOwnedRanged (text_item t)) (text_item t ≡ y)) (text_item t ≡ text_item t)) (sym h) refl
@@ -118,16 +113,6 @@ module _ {S : Type 0} (steps : S → Option RangedItem → S → Type 0) (old : 
   }
 
 module _ {S : Type 0} (steps : S → Option RangedItem → S → Type 0) (old new : Ahead S RangedItem) where
-  -- the iterator had ended
-  pub gives-none : Takes steps old None new → Gives steps old None new
-  gives-none k =
-      gives-by steps old None new k.read [] k.reads k.items (λ rest over. ap all_merged (over k.ends)) tt (k.ends, k.nothing_held)
-
-  -- an item that is not a text
-  pub gives-other : (x : RangedItem) → Takes steps old (Some x) new → IsNoText x → Gives steps old (Some x) new
-  gives-other x k h =
-      gives-by steps old (Some x) new k.read (x ∷ []) k.reads k.items
-      (λ rest over. merge-other text_of item_of (show x) (map show rest) (no-text x h) ∙ ap (λ l. show x ∷ l) (kept new.held None rest k.nothing_held)) refl tt
 
   module _ (mid : Ahead S RangedItem) (t : CowStr × Range ℕ) (k : Takes steps old (Some (text_item t)) mid) where
     -- the items after a text that was read first

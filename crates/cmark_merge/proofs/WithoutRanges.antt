@@ -1,8 +1,7 @@
 -- The stream of events alone gives the items of the stream with ranges, without their ranges.
-use Rattle.std.proofs.Common.{◌≡◌, ◌⊎◌, inl, inr, ℕ, ◌&&◌, Bool, true, false, List, [], ◌∷◌, ◌++◌, map, is_some, Option, Some, None, option_map, option_to_list, IfNone, IfSome, MatchBool, Result, Ok, Err, refl, sym, ap, ap₂, subst, subst₂, ◌∙◌}
+use Rattle.std.proofs.Common.{◌≡◌, inl, inr, ℕ, ◌&&◌, Bool, true, false, List, [], ◌∷◌, ◌++◌, map, is_some, Option, Some, None, option_map, option_to_list, IfNone, IfSome, MatchBool, Result, Ok, Err, refl, sym, ap, ap₂, subst, subst₂, ◌∙◌}
 use Rattle.std.proofs.lemmas.List.{map-append}
 use Rattle.std.specs.declared.alloc.AllocError.{AllocError}
-use Rattle.std.specs.declared.ops.Range.{Range}
 use Rattle.std.specs.Iterator.{Yields}
 use Rattle.cmark_grammar.specs.Event as grammar
 use Rattle.cmark_grammar.specs.Event.{Ranged}
@@ -10,8 +9,8 @@ use Rattle.cmark_merge.specs.Merge.{event_of, merge, ranged_of, text_between, te
 use Rattle.cmark_text.specs.declared.event.Event.{Event}
 use Rattle.cmark_text.specs.Shown.{shown}
 use Rattle.cmark_merge.specs.declared.stream.DummyOffsets.{DummyOffsets}
-use Rattle.cmark_merge.specs.Merging.{AreSeveral, AreTexts, GivesFirst, GivesMerged, HandsOn, IsOwnedItem, Refuses, is_text, last_of, left, merged, shown_item, then_given}
-use Rattle.cmark_merge.specs.Reading.{Ahead, Reads, ReadsTo}
+use Rattle.cmark_merge.specs.Merging.{AreSeveral, AreTexts, GivesFirst, GivesMerged, HandsOn, IsOwnedItem, Refuses, is_text, last_of, merged, shown_item, then_given}
+use Rattle.cmark_merge.specs.Reading.{Ahead, ReadsTo}
 use Rattle.cmark_merge.specs.Streams.{IsOwnedRanged, IsOwnedText, Item, RangedItem, dummy_steps, shown_ranged, with_range, without_range}
 use Rattle.cmark_merge.proofs.SameMerge.{merge-without, without}
 

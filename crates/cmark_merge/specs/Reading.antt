@@ -1,5 +1,5 @@
 -- How an iterator is read: the items that it gave, up to its None, after which it is not called again.
-use Rattle.std.specs.Prelude.{◌≡◌, ◌+◌, Bool, true, false, List, [], ◌∷◌, Option, None, MatchBool}
+use Rattle.std.specs.Prelude.{◌≡◌, ◌+◌, Bool, true, false, List, [], Option, None, MatchBool}
 use Rattle.std.specs.Iterator.{Count, IsFinite, Yields, count_map, count_unless}
 use Rattle.std.specs.Option.{option_len}
 

@@ -1,10 +1,9 @@
 -- The items that the steps of one call read from the iterator: one item, one text, the texts of a run.
-use Rattle.std.specs.Prelude.{◌≡◌, ◌⊎◌, ◌≢◌, ℕ, true, false, List, [], ◌∷◌, ◌++◌, map, option_to_list, IfNone, IfSome, Option, Some, None, Ok, Err}
+use Rattle.std.specs.Prelude.{◌≡◌, ◌⊎◌, ◌≢◌, ℕ, true, false, List, [], ◌∷◌, ◌++◌, map, option_to_list, IfNone, IfSome, Option, Some, None, Err}
 use Rattle.std.specs.declared.alloc.AllocError.{AllocError}
 use Rattle.std.specs.declared.ops.Range.{Range}
 use Rattle.std.specs.Iterator.{Yields}
 use Rattle.cmark_merge.specs.Merge.{TextAt, joined, text_of_ranged}
-use Rattle.cmark_text.specs.declared.event.Event.TheVariants.{Text}
 use Rattle.cmark_values.specs.declared.text.CowStr.{CowStr}
 use Rattle.cmark_values.specs.Shown.{IsBoxed}
 use Rattle.cmark_merge.specs.Merging.{is_text}

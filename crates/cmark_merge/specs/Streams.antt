@@ -1,5 +1,5 @@
 -- The two streams as readers ahead of their iterators, and the effects of their calls.
-use Rattle.std.specs.Prelude.{◌≡◌, ◌⊎◌, ℕ, false, Bool, List, [], ◌∷◌, ◌++◌, map, string_bytes, option_map, option_to_list, IfSome, Option, Some, None, String, Result, Ok, Err}
+use Rattle.std.specs.Prelude.{◌≡◌, ℕ, string_bytes, option_map, Option, String, Result, Ok, Err}
 use Rattle.std.specs.declared.alloc.AllocError.{AllocError}
 use Rattle.std.specs.declared.ops.Range.{Range}
 use Rattle.cmark_grammar.specs.Event as grammar

@@ -10,14 +10,11 @@ use Rattle.cmark_grammar.specs.Options.{Options}
 use Rattle.cmark_grammar.specs.Questions.{Exchange}
 use Rattle.cmark_grammar.specs.Tag as tag
 use Rattle.cmark_html.proofs.HtmlSteps.{moved_all-joined, pieces_from-joined}
-use Rattle.cmark_html.specs.Parts.{linked}
 use Rattle.cmark_html.specs.Writer.{shown_image}
 use Rattle.cmark_html.specs.declared.state.OpenImage.{OpenImage}
 use Rattle.cmark_inline.specs.Resolved.{Answered}
 use Rattle.cmark_inline.specs.declared.callback.BrokenLink.{BrokenLink}
 use Rattle.cmark_inline_model.proofs.SilentReadings.{reading-silent}
-use Rattle.cmark_references.specs.Links.{shown_link}
-use Rattle.cmark_references.specs.declared.link.Link.{Link}
 use Rattle.cmark_event_walk.specs.Callback.{AnswersIfAny}
 use Rattle.cmark_event_walk.proofs.Readings.{answered-on}
 use Rattle.cmark_text.specs.declared.short.Next.TheVariants as next
@@ -28,11 +25,10 @@ use Rattle.cmark_text.specs.declared.short.Short.TheVariants as short
 use Rattle.cmark_values.specs.declared.text.CowStr.{CowStr}
 use Rattle.cmark_text.specs.Short.{shown_plain, shown_short}
 use Rattle.cmark_text.specs.Shown.{shown}
-use Rattle.cmark_values.specs.Shown.{shown_link_type, text_bytes}
 use Rattle.cmark_text.specs.declared.ranged.Ranged.{Ranged as Item}
 use Rattle.cmark_parser.specs.declared.parse.Parser.{Parser}
-use Rattle.cmark_parser.specs.Parsing.{Asks, CanGo, GivesAs, GivesStart, GivesStep, Passes, ReadsWithin, Remains, callback_of}
-use Rattle.cmark_parser.specs.Rendering.{IsHtmlBy, IsHtmlOfRest, WritesRest, WritesSome, WritesWhole, Written, filtered_of, leads_to, written}
+use Rattle.cmark_parser.specs.Parsing.{Asks, CanGo, GivesAs, GivesStep, Passes, ReadsWithin, Remains, callback_of}
+use Rattle.cmark_parser.specs.Rendering.{IsHtmlBy, IsHtmlOfRest, WritesRest, WritesSome, Written, filtered_of, written}
 use Rattle.cmark_parser.proofs.ParseSteps.{none-answered}
 
 -- a filter that leaves each event as it is does not change the HTML
@@ -151,24 +147,6 @@ module _ {E F : Type 0} (Says : F → BrokenLink → Option (CowStr × CowStr) �
       one-written parser new h.answers.given mid after h.answers.passes h.can
       (bytes ∙ ap (λ i. mid.bytes ++ piece_in i w (shown_short made)) (sym outside) ∙ ap (λ e. mid.bytes ++ piece w e) same)
       (writing ∙ ap (λ i. moved_in i w (shown_short made)) (sym outside) ∙ ap (moved w) same)
-
-  -- the start of a link was written, with the destination that the filter gives it. Its label is not written
-  pub link-written : (parser new : Parser E F) (link : Link) (destination title : List ℕ) (mid after : Written) → GivesStart Says replacement parser (shown_link link) new → mid.writing.image ≡ None
-      → filtered (Start (tag.Link (shown_link link))) ≡ Start (tag.Link (leads_to destination (shown_link link))) → title ≡ text_bytes link.title
-      → after.bytes ≡ mid.bytes ++ piece_outside mid.writing (Start (tag.Link (linked (shown_link_type link.link_type) destination title))) → after.writing ≡ moved_outside mid.writing (Start (tag.Link (linked (shown_link_type link.link_type) destination title)))
-      → WritesWhole Says replacement filtered parser mid new after
-  link-written parser new link destination title mid after h outside leads t bytes writing =
-      let w = mid.writing in
-      let start : Event = Start (tag.Link (leads_to destination (shown_link link))) in
-      let named : List ℕ → Event = λ title. Start (tag.Link (linked (shown_link_type link.link_type) destination title)) in
-      let same : start ≡ filtered h.given.event = sym leads ∙ ap filtered (sym h.is) in
-      let piece_is : piece_outside w (named title) ≡ piece_outside w start = ap (λ x. piece_outside w (named x)) t in
-      record {
-        some = one-written parser new h.given mid after h.passes h.can (bytes ∙ ap (λ l. mid.bytes ++ l) piece_is ∙ ap (λ i. mid.bytes ++ piece_in i w start) (sym outside) ∙ ap (λ e. mid.bytes ++ piece w e) same)
-            (writing ∙ ap (λ i. moved_in i w start) (sym outside) ∙ ap (moved w) same);
-        closed = ap Writing.image writing;
-        fewer = h.fewer;
-      }
 
   -- an event of another kind was not returned yet
   pub long-kept : (parser new : Parser E F) (s : Written) → GivesAs Says replacement parser next.Long new → WritesSome Says replacement filtered parser s new s

@@ -1,7 +1,5 @@
 -- A copy of a table of definitions, entry by entry. `sh`: the data of a definition.
-use Rattle.std.proofs.Common.{◌≡◌, refl, sym, ap, ap₂, ◌∙◌, ℕ, List, ◌∷◌, [], Bool, true, false, Option, Some, None, bytes_eq, if◌then◌else◌, option_map}
-use Rattle.std.specs.Ordering.{is_eq, nat_cmp}
-use Rattle.std.specs.Cmp.Lexicographic.{slice_cmp}
+use Rattle.std.proofs.Common.{◌≡◌, refl, sym, ap, ap₂, ◌∙◌, ℕ, List, ◌∷◌, Bool, true, false, Option, Some, None, bytes_eq, if◌then◌else◌, option_map}
 use Rattle.std.proofs.lemmas.Map.Text.{is_eq-slice_cmp}
 use Rattle.cmark_values.specs.Labelled.{link_key, link_text}
 use Rattle.cmark_values.specs.declared.label.LinkLabel.{LinkLabel}
@@ -33,6 +31,3 @@ copied copy next rest all label made def new h text key same kept folded =
 none_left : {S : Type 0} (found : Option S) → found ≡ first_of found None
 none_left None = refl
 none_left (Some s) = refl
-
-pub all-copied : (copy all : RefDefs) → AreAllOf copy [] all → (folded : List ℕ) → reference_at copy folded ≡ reference_at all folded
-all-copied copy all h folded = none_left (reference_at copy folded) ∙ h folded

@@ -1,5 +1,5 @@
 -- A table of definitions after an entry was put where its label had none. L: its labels; key: their folded form; D: its definitions.
-use Rattle.std.proofs.Common.{◌≡◌, refl, sym, ap, ap₂, subst, ◌∙◌, ℕ, List, [], ◌∷◌, Bool, true, false, Option, Some, None, IsSome, bytes_eq, if◌then◌else◌, is_some, option_map}
+use Rattle.std.proofs.Common.{◌≡◌, refl, sym, ap, ap₂, subst, ◌∙◌, ℕ, List, [], ◌∷◌, Bool, true, false, Option, Some, None, IsSome, bytes_eq, if◌then◌else◌, option_map}
 use Rattle.std.specs.BTreeMap.{BTreeMap, get_by, insert_entry, UpdatesBy}
 use Rattle.std.specs.Map.{keys_of, lookup, lookup_entry}
 use Rattle.std.specs.Option.{unwrap_or}

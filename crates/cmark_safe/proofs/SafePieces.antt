@@ -11,7 +11,7 @@ use Rattle.cmark_grammar.specs.Escapes.{escaped_html, escaped_href}
 use Rattle.cmark_grammar.specs.Event.{Event, Start, End, Text, Code, InlineMath, DisplayMath, Html, InlineHtml, FootnoteReference, SoftBreak, HardBreak, Rule, TaskListMarker}
 use Rattle.cmark_grammar.specs.Html.{Writing, fresh_line, digit, language_start, code_block_start, is_within_word, block_quote_start, list_start, list_end, scheme, title_attribute, id_attribute, heading_attributes, cell_tag, alignment_style, cell_end, footnote_number, footnote_start, footnote_reference, start_piece, end_piece, text_piece, task_list_marker, piece_outside}
 use Rattle.cmark_grammar.specs.Tag as tag
-use Rattle.cmark_grammar.specs.Tag.{Tag, Linked}
+use Rattle.cmark_grammar.specs.Tag.{Tag}
 use Rattle.cmark_grammar.specs.TagEnd as end
 use Rattle.cmark_grammar.specs.TagEnd.{TagEnd}
 use Rattle.cmark_safe.specs.SafeHtml.{is_level, own_prefix, plain_tags, IsAnchor, NoAnchor, Anchor, IsValue, Byte, IsAddress, IsTitle, NoTitle, Title, HeadingStart, HeadingEnd, Plain, LinkStart, OrderedFrom, Language, Footnote, ToFootnote, IsSafe, Nothing, Sign, Tagged}

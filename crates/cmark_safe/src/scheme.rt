@@ -5,7 +5,7 @@ ghost use Rattle.std.specs.List.{list_all, prefix_len};
 ghost use Rattle.std.specs.Str.{str_eq_ignore_ascii_case};
 ghost use Rattle.cmark_grammar.specs.Escapes.{escaped_href};
 ghost use Rattle.cmark_grammar.specs.Labels.{words};
-ghost use Rattle.cmark_safe.specs.Schemes.{is_allowed, is_allowed_scheme, is_before_sign, is_one_of, is_scheme_byte, refused_schemes, unwritten_scheme, usual_schemes};
+ghost use Rattle.cmark_safe.specs.Schemes.{is_allowed, is_allowed_scheme, is_before_sign, is_one_of, is_scheme_byte, unwritten_scheme};
 
 /// The schemes that an address may always have.
 const USUAL_SCHEMES: &[&[u8]; 3] = &[b"http", b"https", b"mailto"];

@@ -1,6 +1,6 @@
 //! Labels of links after their opening bracket (CommonMark 4.7).
 
-ghost use Rattle.std.specs.Prelude.{◌≡◌, ◌<◌, ◌≤◌, ◌&&◌, ◌||◌, ◌++◌, [], Ok, true, false, ℕ, length, List, Option, not, nat_lt, nat_le, IfOk, IfSome, option_map, if◌then◌else◌, string_bytes};
+ghost use Rattle.std.specs.Prelude.{◌≡◌, ◌<◌, ◌≤◌, ◌&&◌, ◌||◌, ◌++◌, [], Ok, true, false, length, Option, not, nat_lt, nat_le, IfOk, IfSome, option_map, if◌then◌else◌, string_bytes};
 ghost use Rattle.std.specs.Char.{is_ascii_whitespace};
 ghost use Rattle.std.specs.Str.{IsUtf8, IsCharBoundary};
 ghost use Rattle.cmark_grammar.specs.LabelsOverLines.{label_prefix, label_over_lines};

@@ -98,12 +98,6 @@ email-is bs size found is e =
     go (b ∷ rest) = by (b == 64) rest
 
 module _ (bs : List ℕ) (size : ℕ) (is : size ≡ prefix_len is_local_byte bs) where
-  pub no-email : None ≡ after_if is_at_sign (drop size bs) → false ≡ is_email bs
-  no-email e = sym (never (nat_le 1 size)) ∙ email-is bs size None is e
-    where
-      never : (z : Bool) → (z && false) ≡ false
-      never true = refl
-      never false = refl
 
   module _ (domain : List ℕ) (e : Some domain ≡ after_if is_at_sign (drop size bs)) where
     pub some-email : 1 ≤ size → is_domain domain ≡ is_email bs

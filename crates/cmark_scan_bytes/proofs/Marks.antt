@@ -1,11 +1,9 @@
 -- Marks of kinds whose closers were sought in vain.
-use Rattle.std.proofs.Common.{◌≡◌, ◌⊎◌, inl, inr, ℕ, zero, suc, ◌+◌, ◌-◌, ◌<◌, ◌≤◌, Bool, true, false, ◌&&◌, ◌==◌, if◌then◌else◌, List, [], ◌∷◌, ◌++◌, length, drop, None, Some, Option, refl, sym, ap, subst, ◌∙◌, arith, true≢false, eqb-true, drop-drop}
+use Rattle.std.proofs.Common.{◌≡◌, ℕ, zero, suc, ◌+◌, ◌-◌, ◌≤◌, Bool, true, false, ◌&&◌, ◌==◌, if◌then◌else◌, List, [], ◌∷◌, length, drop, None, Some, Option, refl, sym, ap, subst, ◌∙◌, arith, true≢false, eqb-true, drop-drop}
 use Rattle.std.specs.Prelude.{codes, is_some, option_map}
 use Rattle.std.specs.Option.{option_or}
-use Rattle.std.proofs.lemmas.Bool.{false_from_ne_true}
-use Rattle.cmark_grammar.specs.InlineHtml.{after_comment}
-use Rattle.cmark_grammar.specs.Letters.{after_first_of, after_start_of, is_letter, starts}
-use Rattle.cmark_scan_bytes.specs.Guards.{AreMarks, AreWithin, OpensWith, closed_by, closer_of, mark_of, marked}
+use Rattle.cmark_grammar.specs.Letters.{after_first_of, is_letter, starts}
+use Rattle.cmark_scan_bytes.specs.Guards.{AreMarks, AreWithin, OpensWith, closed_by, closer_of, marked}
 use Rattle.cmark_scan_bytes.specs.declared.inline_html.HtmlScanGuard.{HtmlScanGuard}
 use Rattle.cmark_scan_bytes.specs.declared.inline_html.MarkupKind.{MarkupKind}
 use Rattle.cmark_scan_bytes.specs.declared.inline_html.MarkupKind.TheVariants as kind
@@ -32,13 +30,6 @@ marks-further bytes guard at later marks le = record {
   declaration = λ lt. none-further (codes ">") bytes at later le (marks.declaration (omega (arith, lt, le)));
   comment = λ lt. none-further (codes "-->") bytes at later le (marks.comment (omega (arith, lt, le)));
 }
-
--- before its mark markup of a kind is not closed
-pub mark-says : (bytes : List ℕ) (guard : HtmlScanGuard) (at : ℕ) → AreMarks bytes at guard → (k : MarkupKind) → at < mark_of guard k → after_first_of (closer_of k) (drop at bytes) ≡ None
-mark-says bytes guard at marks kind.Comment lt = marks.comment lt
-mark-says bytes guard at marks kind.Processing lt = marks.processing lt
-mark-says bytes guard at marks kind.Declaration lt = marks.declaration lt
-mark-says bytes guard at marks kind.Cdata lt = marks.cdata lt
 
 -- ## A closer that was sought in vain
 

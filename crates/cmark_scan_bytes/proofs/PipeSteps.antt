@@ -1,8 +1,8 @@
 -- Literal pipes, one after the other.
-use Rattle.std.proofs.Common.{◌≡◌, ◌≢◌, ℕ, zero, suc, ◌+◌, ◌<◌, ◌≤◌, Bool, true, false, ◌||◌, if◌then◌else◌, List, [], ◌∷◌, ◌++◌, length, take, drop, get_or, Option, None, Some, is_some, true≢false, refl, sym, ap, subst, ◌∙◌, arith, append_assoc, append-nil, length-append, length-drop, length-take-le}
+use Rattle.std.proofs.Common.{◌≡◌, ◌≢◌, ℕ, zero, suc, ◌+◌, ◌<◌, ◌≤◌, Bool, true, false, ◌||◌, if◌then◌else◌, List, [], ◌∷◌, ◌++◌, length, take, drop, get_or, Option, None, Some, is_some, true≢false, refl, sym, ap, subst, ◌∙◌, arith, append_assoc, length-append, length-drop, length-take-le}
 use Rattle.std.specs.Option.{MatchOption}
 use Rattle.std.specs.Str.{IsCharBoundary}
-use Rattle.std.proofs.lemmas.List.{drop-drop, drop_all, drop_more, get_or-drop, take_all, take_more}
+use Rattle.std.proofs.lemmas.List.{drop-drop, drop_more, get_or-drop, take_more}
 use Rattle.memchr.specs.Find.{OccursAt}
 use Rattle.cmark_grammar.specs.Letters.{starts}
 use Rattle.cmark_grammar.specs.Unescaped.{escaped_pipe}
@@ -113,12 +113,6 @@ module _ (text : List ℕ) (at : ℕ) (within : at < length text) where
     same = e ∙ ap (λ l. take at text ++ l) (ap with_literal_pipes here ∙ dropped_pair byte rest (ap (starts escaped_pipe) (sym here) ∙ h))
         ∙ ap (λ l. take at text ++ with_literal_pipes l) (drop-drop 1 (at + 1) text ∙ ap (λ k. drop k text) (let p : at + 1 + 1 ≡ end = omega arith in p));
   }
-
--- no byte is left
-pub all_stay : (text : List ℕ) (at : ℕ) (is_second : Bool) → length text ≤ at → with_literal_pipes text ≡ take at text ++ literal_pipes_from is_second (drop at text) → with_literal_pipes text ≡ text
-all_stay text at is_second past e =
-    e ∙ ap (λ l. take at text ++ literal_pipes_from is_second l) (drop_all at text past) ∙ ap (λ l. l ++ literal_pipes_from is_second []) (take_all at text past)
-    ∙ append-nil text
 
 -- ---- the rest
 

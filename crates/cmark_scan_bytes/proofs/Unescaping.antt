@@ -163,11 +163,6 @@ pipe_found bs n h = found_at bs n h.1 (λ k lt. h.0.before k (omega arith) lt) �
 pub no_pipe : (bs : List ℕ) → FindsNeedle bs escaped_pipe 0 None → with_escaped_pipes bs ≡ bs
 no_pipe bs h = none_at bs (λ k lt. h k (omega arith) lt)
 
--- an escaped pipe begins with a backslash
-pub pipe_byte : (bs : List ℕ) (n : ℕ) → OccursAt bs escaped_pipe n → (n < length bs) × (get_or bs n 0 ≡ 92)
-pipe_byte bs n h = (
-  let f : n + 3 ≤ length bs = h.fits in omega arith,
-  ap (λ k. get_or bs k 0) (let e : n ≡ n + 0 = omega arith in e) ∙ h.reads 0 (omega arith),
 )
 
 -- boundaries after escapes

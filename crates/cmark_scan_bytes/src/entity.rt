@@ -1,9 +1,8 @@
 //! Entities and numeric character references (CommonMark 2.5).
 
 ghost use Rattle.std.specs.Prelude.{◌≡◌, ◌<◌, ◌≤◌, ◌==◌, ◌&&◌, true, nat_lt, nat_le, length, drop, slice_index, EachIndex, encode_utf8, IfSome, option_map};
-ghost use Rattle.std.specs.List.{prefix_len};
 ghost use Rattle.std.specs.Str.{IsUtf8, IsCharBoundary};
-ghost use Rattle.cmark_grammar.specs.Letters.{is_number, first_is, after_if, and_then};
+ghost use Rattle.cmark_grammar.specs.Letters.{first_is, after_if, and_then};
 ghost use Rattle.cmark_grammar.specs.Tokens.{is_hexadecimal, digit_of, value_of, character, decimal_in, hexadecimal_in, numeric_in, named_in, entity_in};
 ghost use Rattle.cmark_scan_bytes.specs.Shown.{Closes, shown_entity};
 

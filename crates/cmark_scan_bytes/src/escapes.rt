@@ -1,6 +1,6 @@
 //! Texts without their escapes and entities (CommonMark 2.4 and 2.5).
 
-ghost use Rattle.std.specs.Prelude.{◌≡◌, ◌<◌, ◌++◌, ◌==◌, true, Ok, length, string_bytes, IfOk, OnOk, IfSome, MatchOption, option_map};
+ghost use Rattle.std.specs.Prelude.{◌≡◌, ◌<◌, ◌++◌, ◌==◌, true, Ok, string_bytes, IfOk, OnOk, IfSome, MatchOption, option_map};
 ghost use Rattle.std.specs.Str.{IsCharBoundary};
 ghost use Rattle.memchr.specs.Find.{FindsNeedle};
 ghost use Rattle.cmark_grammar.specs.Answers.{Lookup};

@@ -1,8 +1,8 @@
 //! Searches for the ends of comments, declarations, CDATA sections and processing instructions (CommonMark 6.6).
 
-ghost use Rattle.std.specs.Prelude.{◌≡◌, ℕ, ◌+◌, ◌-◌, ◌≤◌, length, drop, codes, Some, None, IfSome, MatchOption, option_copied, option_map};
+ghost use Rattle.std.specs.Prelude.{◌≡◌, ℕ, ◌+◌, ◌-◌, ◌≤◌, length, drop, Some, None, IfSome, MatchOption, option_copied, option_map};
 ghost use Rattle.std.specs.Str.{IsUtf8, IsCharBoundary};
-ghost use Rattle.cmark_grammar.specs.InlineHtml.{after_comment, declaration_in, cdata_in, opened_in, find_with, comment_find, processing_find};
+ghost use Rattle.cmark_grammar.specs.InlineHtml.{after_comment, opened_in, find_with, comment_find, processing_find};
 ghost use Rattle.cmark_scan_bytes.specs.Guards.{AreMarks, AreWithin, OpensWith, ReachesWithin, closed_by, guarded, kind_in, mark_of, marked, may_pass};
 ghost use Rattle.cmark_scan_bytes.specs.Shown.{shown_find};
 ghost use Rattle.cmark_scan_bytes.specs.declared.inline_html.MarkupKind.TheVariants as kind;

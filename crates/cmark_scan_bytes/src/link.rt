@@ -1,11 +1,9 @@
 //! Autolinks and the names of wikilinks.
 
-ghost use Rattle.std.specs.Prelude.{◌≡◌, ◌+◌, ◌<◌, ◌≤◌, ◌==◌, suc, length, drop, take, slice_index, IfSome, option_map};
+ghost use Rattle.std.specs.Prelude.{◌≡◌, ◌+◌, ◌<◌, ◌≤◌, suc, length, drop, take, slice_index, IfSome, option_map};
 ghost use Rattle.std.specs.List.{prefix_len};
 ghost use Rattle.std.specs.Str.{IsCharBoundary};
 ghost use Rattle.cmark_grammar.specs.Autolinks.{has_scheme, is_uri_byte, has_address, autolink_in, piped_name_in};
-ghost use Rattle.cmark_grammar.specs.LinkDefinitions.{Parsed};
-ghost use Rattle.cmark_grammar.specs.Letters.{first_is};
 ghost use Rattle.cmark_scan_bytes.specs.Shown.{shown_cut, cut_at};
 
 use crate::bytes::{Class, is_letter};

@@ -1,8 +1,6 @@
 //! Literal pipes in table cells (GFM 4.10).
 
 ghost use Rattle.std.specs.Prelude.{◌≡◌, ◌⊎◌, ◌<◌, ◌≤◌, ◌++◌, length, Ok, string_bytes, IfOk, IsTrue, OnOk, MatchOption};
-ghost use Rattle.std.specs.Str.{IsCharBoundary};
-ghost use Rattle.memchr.specs.Find.{FindsNeedle};
 ghost use Rattle.cmark_grammar.specs.InlineTokens.{without_pipe_escapes};
 ghost use Rattle.cmark_grammar.specs.LabelsOverLines.{with_literal_pipes};
 ghost use Rattle.cmark_grammar.specs.Letters.{starts};

@@ -6,7 +6,7 @@
 ghost use Rattle.std.specs.Prelude.{◌≡◌, ◌-◌, ◌<◌, ◌≤◌, length, true, option_copied, IfSome};
 ghost use Rattle.std.specs.Str.{IsUtf8, IsCharBoundary};
 ghost use Rattle.cmark_grammar.specs.Lines.{is_content};
-ghost use Rattle.cmark_grammar.specs.Tags.{without_prefix, after_space, after_tag_name, after_attribute_name, after_bare_value, after_greater, after_open_end, after_closing_tag, after_quotation_mark, after_value, after_assigned, after_attribute, after_attributes, after_open_tag, after_tag_start, after_tag, no_prefix};
+ghost use Rattle.cmark_grammar.specs.Tags.{without_prefix, after_space, after_tag_name, after_attribute_name, after_bare_value, after_open_end, after_closing_tag, after_quotation_mark, after_value, after_assigned, after_attribute, after_attributes, after_open_tag, after_tag_start, after_tag, no_prefix};
 ghost use Rattle.cmark_scan_bytes.specs.Handled.{AnswersWithin, ForAnswers};
 
 use crate::bytes::{Class, after_ending, is_attribute_start, is_letter, is_space};

@@ -94,17 +94,6 @@ module _ (p : ℕ → Bool) where
   unfolding Following
   drop-prefix column at bs = following column at bs
 
-  -- if no tab passes, the numbers of columns and of bytes that pass are equal
-  pub prefix_len-expand : (column at : ℕ) (bs : List ℕ) → p tab ≡ false → prefix_len (on_byte p) (expand column at bs) ≡ prefix_len p bs
-  prefix_len-expand column at [] no_tab = refl
-  prefix_len-expand column at (b ∷ bs) no_tab = go (shape column at b) (prefix_len-expand (suc column) (suc at) bs no_tab)
-    where
-      go : Shape column at b → prefix_len (on_byte p) (expand (suc column) (suc at) bs) ≡ prefix_len p bs → prefix_len (on_byte p) (expand column at (b ∷ bs)) ≡ prefix_len p (b ∷ bs)
-      go (tabbed is n column' steps far e) ih =
-          ap (prefix_len (on_byte p)) (e bs) ∙ ap (λ t. cond t (1 + prefix_len (on_byte p) (tab_columns at 1 n ++ expand column' (suc at) bs)) 0) no_tab
-          ∙ ap (λ t. cond t (1 + prefix_len p bs) 0) (sym (ap p is ∙ no_tab))
-      go (plain not_tab e) ih = ap (prefix_len (on_byte p)) (e bs) ∙ ap (λ k. cond (p b) (1 + k) 0) ih
-
 -- the text that columns spell
 tab_bytes : (at part n : ℕ) (cs : List Column) → bytes_of (tab_columns at (suc part) n ++ cs) ≡ bytes_of cs
 tab_bytes at part zero cs = refl

@@ -11,26 +11,14 @@ use Rattle.cmark_grammar.specs.Alerts.{is_tag}
 use Rattle.cmark_grammar.specs.HtmlBlocks.{lower, starts}
 use Rattle.std.specs.Prelude.{nat_le}
 use Rattle.std.proofs.Math.Nat.{pow-le-pow_right, pow-suc}
-use Rattle.std.proofs.lemmas.List.{take_more}
-use Rattle.std.proofs.lemmas.List.Sums.{fold-append}
 use Rattle.std.proofs.lemmas.Bool.{leb-true}
-use Rattle.cmark_grammar.specs.Containers.{is_digit, is_delimiter, number_of}
-
-pub number-more : (ds : List ℕ) (n : ℕ) → n < length ds → number_of (take (n + 1) ds) ≡ number_of (take n ds) * 10 + (get_or ds n 0 - 48)
-number-more ds n lt = ap number_of (take_more ds n 0 lt) ∙ fold-append (λ m d. m * 10 + (d - 48)) 0 (take n ds) (get_or ds n 0 ∷ [])
+use Rattle.cmark_grammar.specs.Containers.{is_digit, is_delimiter}
 
 pub digit-least : (b : ℕ) → is_digit b ≡ true → 48 ≤ b
 digit-least b e = go (nat_le 48 b) refl e
   where
     go : (z : Bool) → nat_le 48 b ≡ z → (z && nat_le b 57) ≡ true → 48 ≤ b
     go true f e = leb-true 48 b f
-    go false f e = let q : false ≡ true = e in absurd (cc)
-
-pub digit-most : (b : ℕ) → is_digit b ≡ true → b ≤ 57
-digit-most b e = go (nat_le 48 b) refl e
-  where
-    go : (z : Bool) → nat_le 48 b ≡ z → (z && nat_le b 57) ≡ true → b ≤ 57
-    go true f e = leb-true b 57 e
     go false f e = let q : false ≡ true = e in absurd (cc)
 
 pub below-power : (n i : ℕ) → n < 10 ^ i → i ≤ 8 → n < 100000000

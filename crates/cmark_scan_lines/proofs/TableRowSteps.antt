@@ -5,7 +5,6 @@ use Rattle.std.proofs.lemmas.List.{get_or-drop, length-drop}
 use Rattle.std.specs.Prelude.{if◌then◌else◌, nat_lt, ◌-◌}
 use Rattle.memchr.specs.Find.{IsFirstByte, is_byte}
 use Rattle.cmark_grammar.specs.Lines.{onto}
-use Rattle.cmark_grammar.specs.Leaves.{are_blank}
 use Rattle.cmark_grammar.specs.Alignment as grammar
 use Rattle.cmark_grammar.specs.Tables.{alignment_of, put_first, alignments, cells}
 use Rattle.cmark_grammar.specs.Leaves.{trimmed}
@@ -188,12 +187,6 @@ module _ (bytes : List ℕ) (at : ℕ) (found : parts false bytes ≡ parts_at b
 module _ (bytes : List ℕ) (none : parts false bytes ≡ parts_at bytes None) where
   pub no-pipe : holds_pipe bytes ≡ false
   no-pipe = ap (λ ps. nat_lt 1 (length ps)) none
-
-  pub last-cell : are_blank bytes ≡ false → cells_after bytes ≡ bytes ∷ []
-  last-cell e = ap without_blank_end none ∙ ap (λ z. if z then [] else bytes ∷ []) e
-
-  pub no-cell : are_blank bytes ≡ true → cells_after bytes ≡ []
-  no-cell e = ap without_blank_end none ∙ ap (λ z. if z then [] else bytes ∷ []) e
 
 -- ## The columns of a delimiter row
 

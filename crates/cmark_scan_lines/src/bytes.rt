@@ -1,6 +1,6 @@
 //! Tests and slices of bytes that the scanners of lines share.
 
-ghost use Rattle.std.specs.Prelude.{◌≡◌, ℕ, ◌+◌, ◌<◌, ◌≤◌, ◌==◌, ◌&&◌, ◌||◌, not, length, take, drop, map, IsTrue};
+ghost use Rattle.std.specs.Prelude.{◌≡◌, ◌+◌, ◌<◌, ◌≤◌, ◌==◌, ◌&&◌, ◌||◌, length, take, map, IsTrue};
 ghost use Rattle.cmark_grammar.specs.Leaves.{are_blank, is_parted, run, trimmed};
 ghost use Rattle.cmark_grammar.specs.HtmlBlocks.{lower, is_alphanumeric, starts};
 

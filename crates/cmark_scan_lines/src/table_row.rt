@@ -1,6 +1,6 @@
 //! The rows of a table, cell by cell (GFM 4.10). Lines are passed without their indent and their ending.
 
-ghost use Rattle.std.specs.Prelude.{◌≡◌, ◌≤◌, ◌<◌, ◌+◌, ◌⊎◌, ℕ, suc, List, [], false, length, IfSome, option_map};
+ghost use Rattle.std.specs.Prelude.{◌≡◌, ◌≤◌, ◌<◌, ◌+◌, ◌⊎◌, suc, [], false, length, IfSome, option_map};
 ghost use Rattle.cmark_grammar.specs.TableRows.{parts, cells_of, holds_pipe};
 ghost use Rattle.cmark_grammar.specs.Tables.{without_first_pipe};
 ghost use Rattle.cmark_scan_lines.specs.TableCells.{cells_after, cells_cut, parts_at};

@@ -4,7 +4,7 @@ use Rattle.std.proofs.Common.{◌≡◌, ℕ, zero, suc, ◌+◌, ◌-◌, ◌*�
 use Rattle.std.specs.Int.{bit_at}
 use Rattle.std.specs.List.{position_or_len}
 use Rattle.std.specs.Simd.Lanes.{zip2, mask_l, top, Each1}
-use Rattle.std.proofs.lemmas.Bool.{agree_below_at, and_parts, both_ways, cases_lt, eqb-true, ltb-true, lt-ltb, ne_eqb}
+use Rattle.std.proofs.lemmas.Bool.{agree_below_at, both_ways, cases_lt, eqb-true, lt-ltb, ne_eqb}
 use Rattle.std.proofs.lemmas.List.{get_or_append_left, get_or-drop, get_or-take, length-map, length-take-le, map-id, take-append-le}
 use Rattle.std.proofs.lemmas.List.Sums.{fails_before_first, passes_at_first, position_or_len_is}
 use Rattle.std.proofs.lemmas.Nat.{and_mask, and_le_r}
@@ -113,10 +113,6 @@ module _ (rows : List ℕ) where
     marked-read table same =
         ap (λ (t : List ℕ). mask_l (map (top 7) (zip2 (λ a b. cond (not (eqb a b)) 255 0) (zip2 bit_and (swz_l w8 16 t 0 (zip2 bit_and lanes (replicate 16 15))) (swz_l w8 16 BITS.now 0 (zip2 (λ a b. a / 2 ^ b) lanes (replicate 16 4)))) (replicate 16 0))) % 2 ^ 64) same
         ∙ marked
-
-  -- a byte of the set is ASCII
-  pub ascii-in_rows : (b : ℕ) → in_rows rows b ≡ true → b < 128
-  ascii-in_rows b is = omega (arith, ltb-true (b / 16) 8 (and_parts (nat_lt (b / 16) 8) (bit_at (get_or rows (b % 16) 0) (b / 16) == 1) is).0)
 
 -- ---- the marks of a set that is given by its keys
 

@@ -1,8 +1,8 @@
 -- Slots as slots of the model, whose texts and links are moved out one after the other.
-use Rattle.std.proofs.Common.{◌≡◌, ◌≢◌, ℕ, zero, suc, ◌<◌, ◌+◌, drop, List, [], ◌∷◌, ◌++◌, length, get_or, set, true, Option, Some, None, Result, Ok, Err, refl, sym, ap, subst, ◌∙◌, arith}
-use Rattle.std.specs.Prelude.{All, IfOk, OnOk, map, reverse, slice_get}
+use Rattle.std.proofs.Common.{◌≡◌, ◌≢◌, ℕ, suc, ◌<◌, ◌+◌, drop, List, [], ◌∷◌, ◌++◌, length, get_or, true, Option, Some, None, Result, Ok, Err, refl, sym, ap, subst, ◌∙◌, arith}
+use Rattle.std.specs.Prelude.{All, IfOk, OnOk, map, reverse}
 use Rattle.std.proofs.Math.Seq.{drop-cons}
-use Rattle.std.proofs.lemmas.List.{length-set, reverse-append, map-append}
+use Rattle.std.proofs.lemmas.List.{reverse-append, map-append}
 use Rattle.cmark_grammar.specs.Event as event
 use Rattle.cmark_grammar.specs.Event.{Ranged}
 use Rattle.cmark_grammar.specs.InlineReading.{over}
@@ -32,16 +32,6 @@ keeps-all taken xs = record { size = refl; others = λ i differ. refl }
 
 pub keeps-same : {X : Type 0} (taken : Option ℕ) (old new : List X) → new ≡ old → KeepsOthers taken old new
 keeps-same taken old new e = subst (KeepsOthers taken old) (sym e) (keeps-all taken old)
-
-get-other : {X : Type 0} (xs : List X) (at i : ℕ) (x : X) → i ≢ at → slice_get (set xs at x) i ≡ slice_get xs i
-get-other [] at i x differ = refl
-get-other (y ∷ xs) zero zero x differ = absurd (differ refl)
-get-other (y ∷ xs) zero (suc i) x differ = refl
-get-other (y ∷ xs) (suc at) zero x differ = refl
-get-other (y ∷ xs) (suc at) (suc i) x differ = get-other xs at i x (λ e. differ (ap suc e))
-
-pub keeps-set : {X : Type 0} (xs : List X) (at : ℕ) (x : X) → KeepsOthers (Some at) xs (set xs at x)
-keeps-set xs at x = record { size = length-set xs at x; others = λ i differ. get-other xs at i x (λ e. differ (ap Some (sym e))) }
 
 none-some : (i : ℕ) → None ≢ Some i
 none-some i e = cc

@@ -1,8 +1,7 @@
 -- A short event that is given is the first of those that are still to come.
 use Rattle.std.specs.Prelude.{Some}
-use Rattle.std.proofs.Common.{◌≡◌, ◌<◌, ◌≤◌, ℕ, suc, ◌+◌, ◌-◌, List, [], ◌∷◌, ◌++◌, drop, get_or, length, refl, sym, ap, subst, ◌∙◌, arith}
+use Rattle.std.proofs.Common.{◌≡◌, ◌<◌, ℕ, suc, ◌+◌, ◌-◌, List, [], ◌∷◌, ◌++◌, drop, get_or, length, refl, sym, ap, subst, ◌∙◌, arith}
 use Rattle.std.proofs.Math.Seq.{drop-cons}
-use Rattle.std.proofs.lemmas.List.{drop_all}
 use Rattle.cmark_grammar.specs.Event as event
 use Rattle.cmark_grammar.specs.Event.{Event, Ranged}
 use Rattle.cmark_grammar.specs.InlineReading.{over}
@@ -203,18 +202,6 @@ module _ (leaf : LeafText) (texts texts1 : List CowStr) (links links1 : List Lin
   kept : (l : List Slot) → events_of leaf texts links l opened1 ≡ events_of leaf texts1 links1 l opened1
   kept l = ap (λ (t : List CowStr). events_of leaf t links l opened1) (sym ts) ∙ ap (λ (k : List Link). events_of leaf texts1 k l opened1) (sym ls)
 
-  -- no slot was passed
-  pub events-same : at1 ≡ at → opened1 ≡ opened → events_of leaf texts1 links1 (drop at1 slots1) opened1 ≡ events_of leaf texts links (drop at slots) opened
-  events-same place o = sym (kept (drop at1 slots1)) ∙ ap (λ (l : List Opened). events_of leaf texts links (drop at1 slots1) l) o ∙ ap (λ n. events_of leaf texts links (drop n slots1) opened) place ∙ ap (λ (l : List Slot). events_of leaf texts links (drop at l) opened) same
-
-  pub first-last : (n : Next) → length slots ≤ at → at1 ≡ at → IsNextFirst (source_of leaf) opened n opened1 (shown_opened opened) (shown_opened opened1)
-      → IsNextFirst (source_of leaf) opened n opened1 (events_of leaf texts links (drop at slots) opened) (events_of leaf texts1 links1 (drop at1 slots1) opened1)
-  first-last n le place h =
-      let none = drop_all at slots le in
-      let none1 : drop at1 slots1 ≡ [] = ap (λ k. drop k slots1) place ∙ ap (drop at) same ∙ none in
-      subst (λ (l : List Slot). IsNextFirst (source_of leaf) opened n opened1 (events_of leaf texts links l opened) (events_of leaf texts1 links1 (drop at1 slots1) opened1)) (sym none)
-      (subst (λ (l : List Slot). IsNextFirst (source_of leaf) opened n opened1 (shown_opened opened) (events_of leaf texts1 links1 l opened1)) (sym none1) h)
-
   module _ (slot : Slot) (lt : at < length slots) (is : slot ≡ get_or slots at slot) where
     here-first : (next : ℕ) → next ≡ at + 1 → drop at slots ≡ slot ∷ drop next slots1
     here-first next place =
@@ -233,11 +220,6 @@ module _ (leaf : LeafText) (texts texts1 : List CowStr) (links links1 : List Lin
 
     pub long-some : Passed next.Long → AreSome (events_of leaf texts links (drop at slots) opened)
     long-some h = subst (λ (l : List Slot). AreSome (events_of leaf texts links l opened)) (sym (here-first (at + 1) refl)) (h texts links (drop (at + 1) slots1))
-
--- since a call began, in which nothing was given yet
-pub first-since : (source : List ℕ) (opened0 opened new : List Opened) (n : Next) (before here following : List Ranged) → opened ≡ opened0 → before ≡ here → IsNextFirst source opened n new here following → IsNextFirst source opened0 n new before following
-first-since source opened0 opened new n before here following o e h =
-    subst (λ (l : List Opened). IsNextFirst source l n new before following) o (subst (λ l. IsNextFirst source opened n new l following) (sym e) h)
 
 -- the short event of a slot, by the index after the slot
 pub stands-at : (leaf : LeafText) (slots old : List Slot) (at following : ℕ) (slot : Slot) (s : Short) → slots ≡ old → at < length slots → slot ≡ get_or slots at slot → following ≡ at → StandsFor leaf slot s

@@ -1,5 +1,5 @@
 -- The state of the walk over the slots of a leaf, and what a call keeps of it.
-use Rattle.std.specs.Prelude.{◌≡◌, ◌<◌, ◌≤◌, ℕ, List, ◌∷◌, Option, length}
+use Rattle.std.specs.Prelude.{◌≡◌, ◌<◌, ◌≤◌, ℕ, ◌∷◌, Option, length}
 use Rattle.cmark_leaf_text.specs.Reads.{IsRead, source_of, text_of}
 use Rattle.cmark_leaf_text.specs.declared.leaf_text.LeafText.{LeafText}
 use Rattle.cmark_slots.specs.SlotViews.{IsThere, link_named, text_named}

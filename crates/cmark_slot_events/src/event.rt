@@ -21,8 +21,8 @@ ghost use Rattle.cmark_slot_events.specs.LeafStates.{GivesLong, HasNamed, IsOver
 ghost use Rattle.cmark_slot_events.specs.Longs.{IsLong, is_linked, is_long};
 ghost use Rattle.cmark_references.specs.Links.{shown_link};
 ghost use Rattle.cmark_slot_events.specs.Events.{AreLeft, IsHeldAs, KeepsOthers, event_as, held_in, events_of, events_to_come, shown_opened};
-ghost use Rattle.cmark_slots.specs.SlotViews.{CanBeGiven, IsThere, link_named, link_of, linked_at, shown_element, text_at, text_named};
-ghost use Rattle.cmark_slots.specs.Slots.{AreSlots, IsSlot};
+ghost use Rattle.cmark_slots.specs.SlotViews.{CanBeGiven, IsThere, link_of, linked_at, shown_element, text_at, text_named};
+ghost use Rattle.cmark_slots.specs.Slots.{IsSlot};
 ghost use Rattle.cmark_slots.specs.declared.slot.Slot.{Slot as Slots};
 
 use crate::content::Content;

@@ -18,7 +18,7 @@ ghost use Rattle.cmark_slot_events.specs.Longs.{IsLong, is_linked, is_long};
 ghost use Rattle.cmark_slot_events.specs.Opens.{AreOpened};
 ghost use Rattle.cmark_slot_events.specs.Shorts.{GivesNext, IfLong, IfShort, IsAlone, IsNextFirst, PassesFirst, PassesShort, StandsFor};
 ghost use Rattle.cmark_slot_events.specs.Events.{AreLeft, events_of, events_to_come, shown_opened};
-ghost use Rattle.cmark_slots.specs.Slots.{AreSlots, IsSlot};
+ghost use Rattle.cmark_slots.specs.Slots.{IsSlot};
 ghost use Rattle.cmark_slot_events.specs.declared.leaf_events.Opened.{Opened as OpenedOnes};
 ghost use Rattle.cmark_slots.specs.declared.slot.Slot.{Slot as Slots};
 ghost use Rattle.cmark_leaf_text.specs.declared.leaf_text.LeafText.{LeafText as LeafTexts};

@@ -1,13 +1,12 @@
 -- Slots that become nothing one after the other, and slots that are cut.
 use Rattle.std.specs.Prelude.{◌&&◌}
-use Rattle.std.proofs.Common.{◌≡◌, ℕ, zero, suc, ◌+◌, ◌≤◌, ◌<◌, Bool, true, false, true≢false, List, [], ◌∷◌, length, take, get_or, set, refl, sym, ap, subst, ◌∙◌, arith, nat_lt}
+use Rattle.std.proofs.Common.{◌≡◌, ℕ, zero, suc, ◌+◌, ◌≤◌, ◌<◌, Bool, true, false, true≢false, List, [], ◌∷◌, length, get_or, set, refl, sym, ap, subst, ◌∙◌, arith, nat_lt}
 use Rattle.std.specs.Str.{IsCharBoundary}
 use Rattle.std.proofs.lemmas.Bool.{ltb-true, ltb-false}
-use Rattle.std.proofs.lemmas.List.{get_or-take, get_or_default, get_or-set_same, get_or-set_other, length-set, length-take-le}
-use Rattle.cmark_slots.specs.Slots.{AreFree, HoldNoLink, IsContent, IsSlot, NoNewLink, begins_link}
+use Rattle.std.proofs.lemmas.List.{get_or_default, get_or-set_same, get_or-set_other, length-set}
+use Rattle.cmark_slots.specs.Slots.{HoldNoLink, IsContent, IsSlot, NoNewLink, begins_link}
 use Rattle.cmark_slots.specs.Cuts.{Hides, hidden}
 use Rattle.cmark_slots.specs.Cuts.{cut_at as slots_cut_at, cut_slot}
-use Rattle.cmark_slots.specs.declared.bracket.Bracket.{Bracket}
 use Rattle.cmark_slots.specs.declared.slot.Slot.{Slot}
 use Rattle.cmark_slots.specs.declared.slot.SlotKind.{SlotKind}
 
@@ -36,16 +35,6 @@ hides-more from at old ss ts d0 h le lt e = record {
         ap (λ n. get_or (set ss at (hidden (get_or ss at d0))) n d) q ∙ get_or-set_same ss at (hidden (get_or ss at d0)) d lt ∙ ap hidden (same-there k d q)
 
 -- ## Brackets that are dropped
-pub free-take : (ss : List Slot) (bs cs : List Bracket) (n inactive_below less : ℕ) → AreFree ss bs inactive_below → cs ≡ take n bs → n ≤ length bs → (less < inactive_below → n ≤ less) → AreFree ss cs less
-free-take ss bs cs n inactive_below less h e le small = subst (λ (l : List Bracket). AreFree ss l less) (sym e) (λ i d low lt.
-    let m = length-take-le n bs le in
-    let high : i < n = omega (arith, lt, m) in
-    subst (λ (b : Bracket). HoldNoLink ss b.slot) (sym (get_or-take n bs i d high))
-    (h i d (go i low high (nat_lt less inactive_below) refl) (omega (arith, high, le))))
-  where
-    go : (i : ℕ) → less ≤ i → i < n → (z : Bool) → nat_lt less inactive_below ≡ z → inactive_below ≤ i
-    go i low high true b = let s = small (ltb-true less inactive_below b) in absurd (omega (arith, s, low, high))
-    go i low high false b = let g = ltb-false less inactive_below b in omega (arith, g, low)
 
 -- ## A slot that is cut
 pub cut-there : (text : List ℕ) (place at : ℕ) (slots : List Slot) (d : Slot) → at < length slots → set slots at (cut_slot text place (get_or slots at d)) ≡ slots_cut_at text place at slots

@@ -105,7 +105,3 @@ escapes-part (Err e) written source (inr own) p = tt
 pub lent-or-own : {E : Type 0} (content written : CowStr) (bytes : List ℕ) → (◌≡◌ {A = Result CowStr E} (Ok content) (Ok written)) ⊎ IsBoxed content → IsLentBy bytes written → IsLentBy bytes content ⊎ IsBoxed content
 lent-or-own content written bytes (inl e) lent = inl (subst (IsLentBy bytes) (let z : written ≡ content = cc in z) lent)
 lent-or-own content written bytes (inr own) lent = inr own
-
-pub lent-part : {E : Type 0} (made : Result CowStr E) (leaf : LeafText) (from to : ℕ) → IsRead leaf → IsPart (text_of leaf) from to → IfOk made (IsLentBy (bytes_over leaf from to)) → IfOk made (IsPartIfBorrowed (source_of leaf))
-lent-part (Ok made) leaf from to read part lent = lent-made made (source_of leaf) (place_of leaf from) (place_of leaf (to - 1) + 1) (there leaf from to read part) lent
-lent-part (Err e) leaf from to read part lent = tt

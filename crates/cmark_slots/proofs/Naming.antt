@@ -180,20 +180,6 @@ adds-then at s old mid new a b = λ k d lt. go k d (b k d lt)
     go k d (inl p) = inr (inl p)
     go k d (inr (lt, t)) = then k d t (a k d lt)
 
-pub then-adds : (at : ℕ) (s : Slot) (old mid new : List Slot) → NamesNoMore old mid → AddsOne at s mid new → AddsOne at s old new
-then-adds at s old mid new a b = λ k d lt. go k d (b k d lt)
-  where
-    then : (k : ℕ) (d : Slot) → NamesAs (get_or mid k d) (get_or new k d) → IsPlain (get_or mid k d).kind ⊎ ((k < length old) × NamesAs (get_or old k d) (get_or mid k d))
-        → ((k ≡ at) × NamesAs s (get_or new k d)) ⊎ (IsPlain (get_or new k d).kind ⊎ ((k < length old) × NamesAs (get_or old k d) (get_or new k d)))
-    then k d t (inl p) = inr (inl (as-plain (get_or mid k d) (get_or new k d) p t))
-    then k d t (inr (lt, x)) = inr (inr (lt, as-on (get_or old k d) (get_or mid k d) (get_or new k d) x t))
-
-    go : (k : ℕ) (d : Slot) → ((k ≡ at) × NamesAs s (get_or new k d)) ⊎ (IsPlain (get_or new k d).kind ⊎ ((k < length mid) × NamesAs (get_or mid k d) (get_or new k d)))
-        → ((k ≡ at) × NamesAs s (get_or new k d)) ⊎ (IsPlain (get_or new k d).kind ⊎ ((k < length old) × NamesAs (get_or old k d) (get_or new k d)))
-    go k d (inl x) = inl x
-    go k d (inr (inl p)) = inr (inl p)
-    go k d (inr (inr (lt, t))) = then k d t (a k d lt)
-
 -- ## What all slots name
 
 module _ (old new : List Slot) (h : NamesNoMore old new) where

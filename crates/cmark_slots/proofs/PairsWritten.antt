@@ -15,7 +15,7 @@ use Rattle.cmark_emphasis.proofs.LeastSteps.{one-least}
 use Rattle.cmark_emphasis.proofs.Moved as runs
 use Rattle.cmark_emphasis.proofs.Moved.{AreMoved, AreMovedPairs}
 use Rattle.cmark_emphasis.proofs.MovedLeast.{AreLikeRuns, least-like}
-use Rattle.cmark_grammar.specs.Emphasis.{Pair, Run, Sibling, Delimiter, IsEmphasis, places_taken, runs_of}
+use Rattle.cmark_grammar.specs.Emphasis.{Pair, Run, Sibling, Delimiter, IsEmphasis, runs_of}
 use Rattle.cmark_grammar.specs.Options.{Options}
 use Rattle.cmark_grammar.specs.Spans.{Span, Spans, TakePlaces, span_width}
 use Rattle.cmark_inline_model.proofs.EmphasisOne.{one}
@@ -33,7 +33,7 @@ use Rattle.cmark_slots.specs.SlotViews.{shown_slots}
 use Rattle.cmark_slots.specs.declared.slot.Slot.{Slot}
 use Rattle.cmark_slots.specs.declared.slot.SlotKind.TheVariants as kind
 use Rattle.cmark_slots.proofs.PairSpans.{AreTightAll, IsTight, moved_span, pairs-moved, pairs-open, spans-are, spans_in, wide-enough}
-use Rattle.cmark_slots.proofs.RunPlaces.{all-ahead, have-all, length-places, marks-are, stand-so}
+use Rattle.cmark_slots.proofs.RunPlaces.{all-ahead, length-places, marks-are, stand-so}
 use Rattle.cmark_slots.proofs.Placing.{bytes-in}
 use Rattle.cmark_slots.proofs.SpanSlots.{keeps-same}
 use Rattle.cmark_slots.proofs.SpanMarks.{Ascends, Within, in-turn, in-within, marks-say}

@@ -1,8 +1,7 @@
 -- The marks of spans, written byte after byte, give the slots that the spans give, written one after the other.
-use Rattle.std.proofs.Common.{◌≡◌, ◌⊎◌, inl, inr, ⊎_elim, ℕ, zero, suc, ◌+◌, ◌-◌, ◌<◌, ◌≤◌, List, [], ◌∷◌, ◌++◌, length, drop, get_or, set, Option, Some, None, refl, sym, ap, subst, ◌∙◌, append_assoc, arith}
+use Rattle.std.proofs.Common.{◌≡◌, ◌⊎◌, inl, inr, ⊎_elim, ℕ, zero, suc, ◌+◌, ◌-◌, ◌<◌, ◌≤◌, List, [], ◌∷◌, ◌++◌, length, drop, get_or, set, Option, Some, None, refl, sym, ap, ◌∙◌, append_assoc, arith}
 use Rattle.std.specs.Prelude.{map}
 use Rattle.std.proofs.Math.Seq.{drop-cons}
-use Rattle.std.proofs.lemmas.Bool.{cases_eq}
 use Rattle.std.proofs.lemmas.List.{get_or-set_other, map-append, set_comm}
 use Rattle.cmark_grammar.specs.Options.{Options}
 use Rattle.cmark_grammar.specs.Spans.{Span, SpanKind, Emphasis, Strong, SingleTilde, DoubleTilde, Caret, DoubleEquals, span_tag, span_width, Spans, Nil, Single, Around, TakePlaces}
@@ -10,7 +9,7 @@ use Rattle.cmark_grammar.specs.Tag.{Tag}
 use Rattle.cmark_inline_model.specs.SlotRows.{Mark, Stays, Begins, Ends, Blank, Slot, NothingSlot, EndSlot, BeginSlot, ItemSlot, closing, end_in, marked, marks_of, opening, spanned, start_in, used_up}
 use Rattle.cmark_grammar.specs.Items as items
 use Rattle.cmark_grammar.specs.Siblings.{item}
-use Rattle.cmark_slots.specs.PairSlots.{AreApartFrom, AreInTurn, IsApart, inner_used, write_span, write_spans}
+use Rattle.cmark_slots.specs.PairSlots.{AreApartFrom, AreInTurn, inner_used, write_span, write_spans}
 use Rattle.cmark_slots.proofs.PairSpans.{AreTightAll, IsTight, moved_span, spans_in, wide-enough}
 
 -- ## The places of spans

@@ -1,5 +1,5 @@
 -- Spans that are written into slots, one after the other.
-use Rattle.std.proofs.Common.{◌≡◌, ◌⊎◌, inl, inr, ℕ, zero, suc, ◌+◌, ◌-◌, ◌<◌, ◌≤◌, List, [], ◌∷◌, ◌++◌, drop, length, get_or, set, Some, None, refl, sym, ap, subst, ◌∙◌, append_assoc, arith}
+use Rattle.std.proofs.Common.{◌≡◌, inl, inr, ℕ, zero, suc, ◌+◌, ◌-◌, ◌<◌, ◌≤◌, List, [], ◌∷◌, ◌++◌, drop, length, get_or, set, Some, None, refl, sym, ap, subst, ◌∙◌, append_assoc, arith}
 use Rattle.std.specs.Prelude.{map}
 use Rattle.std.proofs.Math.Seq.{drop-cons}
 use Rattle.std.proofs.lemmas.List.{get_or-set_other, length-set}
@@ -19,7 +19,6 @@ use Rattle.cmark_slots.specs.Cuts.{hidden}
 use Rattle.cmark_slots.specs.MarkedSlots.{AreWhole, EndWithin, Merges, SameBefore, begun_as, ended}
 use Rattle.cmark_slots.specs.PairSlots.{AreApartFrom, AreInTurn, BeginFrom, CanWrite, HasTexts, HaveTextsOf, IsApart, KeepsSlots, hidden_inside, inner_used, span_between, spans_around, write_span, write_spans}
 use Rattle.cmark_slots.specs.SlotViews.{link_of, shown_element, shown_slots}
-use Rattle.cmark_slots.specs.Slots.{AreSlots, NoNewLink}
 use Rattle.cmark_slots.specs.Standing.{NamesNoMore}
 use Rattle.cmark_slots.specs.declared.slot.Element.{Element}
 use Rattle.cmark_slots.specs.declared.slot.Slot.{Slot}
@@ -287,13 +286,6 @@ pub record WritesOn (options : Options) (all left : List Span) (old now : List S
   pub before : (low : ℕ) → BeginFrom low all → SameBefore low old now × BeginFrom low left
   pub views : (leaf : LeafText) (texts : List CowStr) (links : List Link) → write_spans options left (shown_slots leaf texts links now) ≡ write_spans options all (shown_slots leaf texts links old)
 
-pub writes-none : (options : Options) (all : List Span) (old : List Slot) → CanWrite old all → WritesOn options all all old old
-writes-none options all old can = record {
-  keeps = keeps-same old;
-  can = can;
-  others = λ others h. h;
-  before = λ low h. ((λ k d lt. refl), h);
-  views = λ leaf texts links. refl;
 }
 
 -- some more of them are written

@@ -1,10 +1,9 @@
 -- Links from dollar signs to the next ones that may close a formula, and the number of dollar signs visited.
-use Rattle.std.proofs.Common.{◌≡◌, ◌⊎◌, inl, inr, ℕ, zero, suc, ◌+◌, ◌-◌, ◌*◌, ◌<◌, ◌≤◌, Bool, true, false, ◌==◌, ◌&&◌, not, if◌then◌else◌, List, [], ◌∷◌, ◌++◌, length, drop, get_or, Option, None, Some, refl, sym, ap, subst, ◌∙◌, arith, true≢false, drop-cons, length-drop}
-use Rattle.std.specs.Prelude.{nat_le, nat_lt, option_map, slice_get, slice_set}
+use Rattle.std.proofs.Common.{◌≡◌, ◌⊎◌, inl, inr, ℕ, zero, suc, ◌+◌, ◌-◌, ◌*◌, ◌<◌, ◌≤◌, Bool, true, false, ◌==◌, ◌&&◌, not, if◌then◌else◌, List, [], ◌∷◌, length, drop, get_or, Option, Some, refl, sym, ap, subst, ◌∙◌, arith, drop-cons}
+use Rattle.std.specs.Prelude.{nat_lt, option_map, slice_get}
 use Rattle.std.specs.List.{prefix_len}
-use Rattle.std.proofs.lemmas.Bool.{cases_eq, cases_lt, eq-eqb, ne_eqb, le-leb, lt-leb, lt-ltb, le-ltb, ltb-true}
-use Rattle.std.proofs.lemmas.List.{get_or-set_same, get_or-set_other, length-set}
-use Rattle.std.proofs.lemmas.List.Sums.{prefix_len-le-length, prefix_len-drop_all, prefix_len_passes, prefix_len_stops}
+use Rattle.std.proofs.lemmas.Bool.{cases_lt, le-leb, lt-leb, lt-ltb, ltb-true}
+use Rattle.std.proofs.lemmas.List.Sums.{prefix_len-le-length, prefix_len-drop_all, prefix_len_passes}
 use Rattle.cmark_grammar.specs.Formulas.{Braces, is_dollar, no_braces, context_of, after_byte}
 use Rattle.cmark_grammar.specs.Letters.{first_is}
 use Rattle.cmark_grammar.specs.LinkDefinitions.{escapes_next}
@@ -87,73 +86,6 @@ AreMade from listed links = (i : ℕ) (d : Dollar) → from ≤ i → i < length
 -- the first dollar sign from there on is known for each context
 abbrev pub AreHeads : (from : ℕ) → (listed : List Dollar) → (heads : List ℕ) → Type 0
 AreHeads from listed heads = (c : ℕ) → get_or heads c (length listed) ≡ from + prefix_len (is_passed_in c) (drop from listed)
-
-pub made-more : (index before : ℕ) (listed : List Dollar) (links heads : List ℕ) (d : Dollar) (head : ℕ) → index ≡ before + 1 → before < length listed → length links ≡ length listed → head ≡ get_or heads (get_or listed before d).context (length listed) → AreMade index listed links → AreHeads index listed heads
-    → AreMade before listed (slice_set links before head)
-made-more index before listed links heads d head e lt whole is made known i x le within = go (cases_eq i before)
-  where
-    links' : List ℕ
-    links' = slice_set links before head
-
-    same : (get_or listed before x) ≡ (get_or listed before d)
-    same = default before listed lt
-      where
-        default : (k : ℕ) (l : List Dollar) → k < length l → get_or l k x ≡ get_or l k d
-        default k [] h = absurd (omega (arith, h))
-        default zero (y ∷ ys) h = refl
-        default (suc k) (y ∷ ys) h = default k ys (omega (arith, h))
-
-    go : (i ≡ before) ⊎ (i ≡ before → ⊥) → get_or links' i 0 ≡ i + 1 + prefix_len (is_passed_in (get_or listed i x).context) (drop (i + 1) listed)
-    go (inl at) =
-        ap (λ k. get_or links' k 0) at
-        ∙ get_or-set_same links before head 0 (omega (arith, lt, whole))
-        ∙ is
-        ∙ known (get_or listed before d).context
-        ∙ ap (λ k. k + prefix_len (is_passed_in (get_or listed before d).context) (drop k listed)) e
-        ∙ ap (λ (y : Dollar). before + 1 + prefix_len (is_passed_in y.context) (drop (before + 1) listed)) (sym same)
-        ∙ ap (λ k. k + 1 + prefix_len (is_passed_in (get_or listed k x).context) (drop (k + 1) listed)) (sym at)
-    go (inr differs) = get_or-set_other links before i head 0 differs ∙ made i x (omega (arith, le, e, differs)) within
-
-heads-at : (before c : ℕ) (listed : List Dollar) (d : Dollar) → before < length listed → prefix_len (is_passed_in c) (drop before listed) ≡ (if is_passed_in c (get_or listed before d) then 1 + prefix_len (is_passed_in c) (drop (before + 1) listed) else 0)
-heads-at before c listed d lt =
-    ap (prefix_len (is_passed_in c)) (drop-cons listed before d lt)
-    ∙ ap (λ n. if is_passed_in c (get_or listed before d) then 1 + prefix_len (is_passed_in c) (drop n listed) else 0) (let q : suc before ≡ before + 1 = omega arith in q)
-
--- an escaped dollar sign is no head
-pub heads-passed : (index before : ℕ) (listed : List Dollar) (heads : List ℕ) (d : Dollar) → index ≡ before + 1 → before < length listed → (get_or listed before d).is_escaped ≡ true → AreHeads index listed heads → AreHeads before listed heads
-heads-passed index before listed heads d e lt escaped known c =
-    known c ∙ ap (λ k. k + prefix_len (is_passed_in c) (drop k listed)) e ∙ sum ∙ sym (ap (λ k. before + k) (heads-at before c listed d lt ∙ ap (λ t. if t then 1 + prefix_len (is_passed_in c) (drop (before + 1) listed) else 0) passed))
-  where
-    passed : is_passed_in c (get_or listed before d) ≡ true
-    passed = rw escaped refl
-
-    sum : before + 1 + prefix_len (is_passed_in c) (drop (before + 1) listed) ≡ before + (1 + prefix_len (is_passed_in c) (drop (before + 1) listed))
-    sum = omega arith
-
--- another dollar sign is the head of its context
-pub heads-set : (index before : ℕ) (listed : List Dollar) (heads now : List ℕ) (d : Dollar) → index ≡ before + 1 → before < length listed → (get_or listed before d).is_escaped ≡ false
-    → ((k : ℕ) → get_or now k (length listed) ≡ (if k == (get_or listed before d).context then before else get_or heads k (length listed))) → AreHeads index listed heads → AreHeads before listed now
-heads-set index before listed heads now d e lt plain entries known c = go (cases_eq c context)
-  where
-    context : ℕ
-    context = (get_or listed before d).context
-
-    go : (c ≡ (get_or listed before d).context) ⊎ (c ≡ (get_or listed before d).context → ⊥) → get_or now c (length listed) ≡ before + prefix_len (is_passed_in c) (drop before listed)
-    go (inl same) =
-        let passed : is_passed_in c (get_or listed before d) ≡ false = rw plain (rw (eq-eqb context c (sym same)) refl) in
-        entries c
-        ∙ ap (λ b. if b then before else get_or heads c (length listed)) (eq-eqb c context same)
-        ∙ (let q : before ≡ before + 0 = omega arith in q)
-        ∙ sym (ap (λ k. before + k) (heads-at before c listed d lt ∙ ap (λ t. if t then 1 + prefix_len (is_passed_in c) (drop (before + 1) listed) else 0) passed))
-    go (inr differs) =
-        let passed : is_passed_in c (get_or listed before d) ≡ true = rw plain (rw (ne_eqb context c (λ q. differs (sym q))) refl) in
-        let sum : before + 1 + prefix_len (is_passed_in c) (drop (before + 1) listed) ≡ before + (1 + prefix_len (is_passed_in c) (drop (before + 1) listed)) = omega arith in
-        entries c
-        ∙ ap (λ b. if b then before else get_or heads c (length listed)) (ne_eqb c context differs)
-        ∙ known c
-        ∙ ap (λ k. k + prefix_len (is_passed_in c) (drop k listed)) e
-        ∙ sum
-        ∙ sym (ap (λ k. before + k) (heads-at before c listed d lt ∙ ap (λ t. if t then 1 + prefix_len (is_passed_in c) (drop (before + 1) listed) else 0) passed))
 
 -- at first no link is made, and no head is known
 pub heads-end : (listed : List Dollar) → AreHeads (length listed) listed []

@@ -268,12 +268,6 @@ module _ (text : List ℕ) where
       placed None e = refl
       placed (Some p) e = in-text is_display start p h.low h.within h.sign (there-in start (context_of (braces_at text at)) p e).0
 
-  -- no byte follows that is not white space
-  pub formula-none : (at : ℕ) → first_is is_dollar (drop (at + 1) text) ≡ false → first_is is_ink (drop (at + 1) text) ≡ false → None ≡ formula_at text at
-  formula-none at single white = sym (
-      ap (λ z. if z then display_in (braces_at text at) (drop (at + 2) text) else inline_in (braces_at text at) (drop (at + 1) text)) single
-      ∙ ap (λ z. if z then formula_to false (context_of (braces_at text at)) false 36 (braces_at text at) (drop (at + 1) text) else None) white)
-
   pub formula-inline : (at : ℕ) → at < length text → get_or text at 0 ≡ 36 → first_is is_dollar (drop (at + 1) text) ≡ false → first_is is_ink (drop (at + 1) text) ≡ true
       → formula_at text at ≡ found_by false (at + 1) (closing (at + 1) (context_of (braces_at text at)) (dollars_in text))
   formula-inline at lt is single ink =
@@ -454,10 +448,6 @@ module _ (text : List ℕ) (at : ℕ) (lt : at < length text) (is : get_or text 
       → formula_at text at ≡ found_by text double (at + signs_of double) (closing (at + signs_of double) (context_of (braces_at text at)) (dollars_in text))
   formula-found false e ink = formula-inline text at lt is (sym e) (sym ink)
   formula-found true e ink = formula-display text at lt is (sym e)
-
-  pub formula-vain : (double : Bool) → double ≡ first_is is_dollar (drop (at + 1) text) → false ≡ double || first_is is_ink (drop (at + 1) text) → None ≡ formula_at text at
-  formula-vain false e white = formula-none text at (sym e) (sym white)
-  formula-vain true e white = absurd (true≢false (sym white))
 
   pub formula-by : (double : Bool) → double ≡ first_is is_dollar (drop (at + 1) text) → true ≡ double || first_is is_ink (drop (at + 1) text) → (start : ℕ) → start ≡ at + signs_of double
       → (o : Option ℕ) → o ≡ closing start (context_of (braces_at text at)) (dollars_in text) → found_by text double start o ≡ formula_at text at

@@ -9,7 +9,7 @@ use Rattle.cmark_scan_bytes.proofs.Lists.{or_false}
 use Rattle.std.proofs.lemmas.List.{get_or-drop}
 use Rattle.std.proofs.lemmas.List.Sums.{prefix_len_stops, prefix_len-le-length}
 use Rattle.cmark_grammar.specs.Options.{Options}
-use Rattle.cmark_inline_model.specs.SpecialBytes.{is_one_of, is_always_special, is_special}
+use Rattle.cmark_inline_model.specs.SpecialBytes.{is_one_of, is_special}
 use Rattle.cmark_span_scan.specs.Special.{has_byte, IsTableOf}
 
 -- P holds of each byte of a list

@@ -1,5 +1,5 @@
 -- The number of runs of backticks that are looked at.
-use Rattle.std.proofs.Common.{◌≡◌, ◌≢◌, ◌⊎◌, inl, inr, ℕ, zero, suc, ◌+◌, ◌-◌, ◌*◌, ◌<◌, ◌≤◌, Bool, true, false, ◌==◌, ◌&&◌, not, if◌then◌else◌, List, [], ◌∷◌, ◌++◌, length, drop, get_or, Option, None, Some, refl, sym, ap, subst, ◌∙◌, arith, true≢false, drop-drop, length-drop}
+use Rattle.std.proofs.Common.{◌≡◌, ◌≢◌, ◌⊎◌, inl, inr, ℕ, zero, suc, ◌+◌, ◌-◌, ◌*◌, ◌<◌, ◌≤◌, Bool, true, false, ◌==◌, ◌&&◌, not, if◌then◌else◌, List, [], ◌∷◌, length, drop, get_or, Option, None, Some, refl, sym, ap, subst, ◌∙◌, arith, true≢false, drop-drop, length-drop}
 use Rattle.std.specs.Prelude.{cond, is_some, nat_lt, option_map, slice_set}
 use Rattle.std.specs.List.{prefix_len}
 use Rattle.std.proofs.lemmas.Bool.{cases_eq, cases_lt, eq-eqb, eqb-true, false_from_ne_true, ne_eqb}
@@ -7,7 +7,6 @@ use Rattle.std.proofs.lemmas.List.{get_or-drop, get_or-set_other, get_or-set_sam
 use Rattle.std.proofs.lemmas.List.Sums.{prefix_len-le-length, prefix_len_passes, prefix_len_stops}
 use Rattle.memchr.specs.Find.{IsFirstByte, is_byte}
 use Rattle.cmark_grammar.specs.CodeSpans.{is_backtick, backticks, after_run, code_in, up_to_run}
-use Rattle.cmark_grammar.specs.Letters.{after_while}
 use Rattle.cmark_grammar.specs.LinkDefinitions.{Parsed, put}
 use Rattle.cmark_span_scan.specs.Backticks.{AreReal, IsRunAt, entries_for, may_visit, runs_in}
 use Rattle.cmark_span_scan.specs.declared.backtick_runs.BacktickRuns.{BacktickRuns}
@@ -173,12 +172,6 @@ closes-later text last from at size real is low later none = go (backticks (drop
         next (sym (ap (up_to_run size false) there) ∙ sym (ap (λ n. up_to_run n false (drop n (drop at text))) (sym is)) ∙ map-none (backticks (drop at text)) (up_to_run (backticks (drop at text)) false (drop (backticks (drop at text)) (drop at text))) found)
 
 -- ## The table
-
-pub push-none : (none : ℕ) (xs : List ℕ) (k : ℕ) → get_or (xs ++ none ∷ []) k none ≡ get_or xs k none
-push-none none [] zero = refl
-push-none none [] (suc k) = refl
-push-none none (x ∷ xs) zero = refl
-push-none none (x ∷ xs) (suc k) = push-none none xs k
 
 pub set-entry : (none : ℕ) (old new : List ℕ) (size start : ℕ) → size < length new → ((k : ℕ) → get_or new k none ≡ get_or old k none) → (k : ℕ) → get_or (slice_set new size start) k none ≡ (if k == size then start else get_or old k none)
 set-entry none old new size start lt same k = go (cases_eq k size)

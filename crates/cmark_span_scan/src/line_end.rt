@@ -1,6 +1,6 @@
 //! Line endings in a text: a line feed, a carriage return, and both in this order.
 
-ghost use Rattle.std.specs.Prelude.{◌≡◌, ◌++◌, string_bytes, IfOk, MatchOption};
+ghost use Rattle.std.specs.Prelude.{◌≡◌, string_bytes, IfOk, MatchOption};
 ghost use Rattle.cmark_grammar.specs.CodeSpans.{with_line_ends};
 ghost use Rattle.cmark_grammar.specs.InlineHtml.{takes_lines};
 ghost use Rattle.cmark_span_scan.specs.Ends.{HasNoEnd, EndsLine};

@@ -1,5 +1,5 @@
 -- The HTML that was written of the events of a parser of the lines after an offset.
-use Rattle.std.proofs.Common.{◌≡◌, ℕ, List, [], Option, None, Some, sym, ◌∙◌, subst}
+use Rattle.std.proofs.Common.{◌≡◌, ℕ, List, [], Option, None, Some, ◌∙◌, subst}
 use Rattle.std.specs.Prelude.{IfOk, IfSome, Result, Ok, Err, false}
 use Rattle.cmark_block_model.specs.Tails.{document_after}
 use Rattle.cmark_event_walk.specs.Callback.{AnswersIfAny}
@@ -13,7 +13,7 @@ use Rattle.cmark_inline.specs.Resolved.{Answered}
 use Rattle.cmark_inline.specs.declared.callback.BrokenLink.{BrokenLink}
 use Rattle.cmark_parser.proofs.ParseSteps.{none-answered}
 use Rattle.cmark_parser.specs.declared.parse.Parser.{Parser}
-use Rattle.cmark_parser.specs.Parsing.{Asks, IsReady, Remains, callback_of}
+use Rattle.cmark_parser.specs.Parsing.{Asks, Remains, callback_of}
 use Rattle.cmark_parser.specs.Rendering.{filtered_of}
 use Rattle.cmark_parser.specs.Tails.{ReadsUndefined, undefined_reader}
 use Rattle.cmark_stream_model.specs.Undefined.{HasNoDefinitions}
@@ -21,10 +21,6 @@ use Rattle.cmark_values.specs.declared.text.CowStr.{CowStr}
 use Rattle.cmark_stream.specs.Rests.{AreReadAfter, IsPieceHtml, IsTailHtml, WritesPiece, WritesTail}
 use Rattle.cmark_stream.proofs.PartSteps.{left-silent}
 use Rattle.cmark_stream.proofs.RestSteps.{html-first}
-
--- a callback that is not there may be asked
-pub none-ready : {E F : Type 0} → (Ready : F → Type 0) (parser : Parser E F) → callback_of parser ≡ None → IsReady Ready parser
-none-ready Ready parser is = λ x some. absurd (let q : None ≡ Some x = sym is ∙ some in cc)
 
 -- what holds of each value that was found
 pub each-found : {T E : Type 0} {P Q : T → Type 0} (r : Result (Option T) E) → ((x : T) → P x → Q x) → IfOk r (λ o. IfSome o P) → IfOk r (λ o. IfSome o Q)

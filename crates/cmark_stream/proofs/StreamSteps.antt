@@ -13,7 +13,7 @@ use Rattle.cmark_parser.specs.Rendering.{IsHtmlBy}
 use Rattle.cmark_safe.specs.SafeHtml.{IsSafe}
 use Rattle.cmark_stream.specs.Chunks.{BeginsCharacter, IsCutInto, IsNeverUtf8}
 use Rattle.cmark_stream.specs.Rests.{IsShownUpTo, kept_at}
-use Rattle.cmark_stream.specs.Streams.{Appended, Appends, IsRest, IsShown, IsStream, KeepsHtml, KeepsText, Refreshed, Refreshes, Refused, Tells, Unchanged, begun_of, bytes_of, filter_for, filter_of, lookup_of, options_of, profile_of, schemes_of, settled_of, tail_of, text_of}
+use Rattle.cmark_stream.specs.Streams.{Appended, Appends, IsRest, IsShown, IsStream, KeepsHtml, KeepsText, Refreshed, Refreshes, Tells, Unchanged, begun_of, bytes_of, filter_for, filter_of, lookup_of, options_of, profile_of, schemes_of, settled_of, tail_of, text_of}
 use Rattle.cmark_stream.specs.declared.fault.StreamFault.{StreamFault}
 use Rattle.cmark_stream.specs.declared.fault.StreamFault.TheVariants.{NoMemory, NotUtf8}
 use Rattle.cmark_stream.specs.declared.rest.Rest.{Rest}
@@ -58,10 +58,6 @@ module _ {E : Type 0} (replacement : E → Lookup) (old : Stream E) where
         joined = ap (λ l. l ++ begun.items) e ∙ append_assoc (text_of old) piece begun.items ∙ ap (λ l. text_of old ++ l) (sym cut.joined);
         keeps = kept-html text begun (record { shown = grown.shown; opened = grown.opened; unread = grown.unread; begun = cut.begins });
       }
-
-  -- memory was refused
-  pub bytes-refused : (text : String Global) → string_bytes text ≡ text_of old → IsStream replacement old → Unchanged replacement old (record old { text = text })
-  bytes-refused text e h = record { text = e; begun = refl; keeps = kept-html text old.begun (stream-pushed false text [] ([], (refl, refl)) e h) }
 
   -- a fault before anything changed
   pub unchanged-by-fault : IsStream replacement old → Unchanged replacement old old
@@ -138,33 +134,8 @@ module _ {E : Type 0} (replacement : E → Lookup) (s : Stream E) where
   }
 
 module _ {E : Type 0} (replacement : E → Lookup) (old : Stream E) (h : IsStream replacement old) where
-  -- refused before anything changed
-  pub refused-first : Refused replacement old old
-  refused-first = record {
-    text = record { text = refl; begun = refl; options = refl; entities = refl; limit = refl; schemes = refl };
-    html = record { settled = refl; tail = refl; options = refl; entities = refl; limit = refl; schemes = refl; cut = refl; read = refl; good = h };
   }
 
-  -- refused where the settled HTML was to grow
-  pub refused-last : (settled : String Global) → string_bytes settled ≡ settled_of old → Refused replacement old (record old { settled = settled })
-  refused-last settled e = record {
-    text = record { text = refl; begun = refl; options = refl; entities = refl; limit = refl; schemes = refl };
-    html = record {
-      settled = e;
-      tail = refl;
-      options = refl;
-      entities = refl;
-      limit = refl;
-      schemes = refl;
-      cut = refl;
-      read = refl;
-      good = record {
-        shown = subst (IsShownUpTo (profile_of replacement old) (filter_of old) (text_of old) old.cut) (sym e) h.shown;
-        opened = h.opened;
-        unread = h.unread;
-        begun = h.begun;
-      };
-    };
   }
 
   module _ (rest : Rest) (r : IsRest replacement old rest) (read : ℕ) (all : read ≡ length (text_of old)) where

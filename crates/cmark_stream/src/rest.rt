@@ -4,7 +4,6 @@ ghost use Rattle.std.specs.Prelude.{◌≡◌, ◌<◌, IfOk, IfSome, IsCharBoun
 ghost use Rattle.cmark_grammar.specs.Headline.{profile_within};
 ghost use Rattle.cmark_parser.specs.Filters.{filtered_by};
 ghost use Rattle.cmark_parser.specs.Parsing.{CanGo, IsReady};
-ghost use Rattle.cmark_parser.specs.Rendering.{IsHtmlBy};
 ghost use Rattle.cmark_stream_model.specs.Settled.{IsSettledAt};
 ghost use Rattle.cmark_values.specs.Shown.{shown_options};
 ghost use Rattle.cmark_stream.specs.Rests.{IsPieceHtml, IsRestFrom, WritesPiece, WritesTail};

@@ -2,7 +2,7 @@
 
 ghost use Rattle.std.specs.Prelude.{◌≡◌, ◌+◌, ◌<◌, ◌≤◌, ℕ, true, false, not, ◌++◌, length, position, take, slice_range, slice_index, OnOk, OnErr, string_bytes};
 ghost use Rattle.memchr.specs.Find.{IsFirstByte};
-ghost use Rattle.cmark_grammar.specs.Escapes.{body_text_byte, escaped_body_text, html_byte, escaped_html, is_url_byte, href_byte, escaped_href, hexadecimal_digit, percent_encoded};
+ghost use Rattle.cmark_grammar.specs.Escapes.{body_text_byte, escaped_body_text, html_byte, escaped_html, href_byte, escaped_href, hexadecimal_digit, percent_encoded};
 ghost use Rattle.cmark_text.specs.Appended.{Writes};
 ghost use Rattle.cmark_text.specs.Excerpt.{excerpt_bytes};
 ghost use Rattle.cmark_text.specs.Marks.{is_body_text_mark, is_html_mark, is_href_mark};

@@ -3,7 +3,7 @@ use Rattle.std.proofs.Common.{◌≡◌, ℕ, List, [], ◌∷◌, refl, sym, ap
 use Rattle.cmark_tree.specs.declared.tree.Tree.{Tree}
 use Rattle.cmark_tree.specs.Forest.{Forest, Nil, Node, join, one}
 use Rattle.cmark_tree.specs.Arena.{Placed, items_of, IsForest}
-use Rattle.cmark_tree.specs.Zip.{Level, Zip, whole, siblings, CanAppend, HasFocus, appended, pushed, popped, pop_to, nothing}
+use Rattle.cmark_tree.specs.Zip.{Level, Zip, whole, siblings, CanAppend, HasFocus, appended, pushed, popped, pop_to}
 use Rattle.cmark_tree.specs.Tree.{Holds, IsUnchanged, entry_at}
 use Rattle.cmark_tree.specs.Building.{Opened, opened, IsAtEnd, Is, closed}
 
@@ -11,10 +11,6 @@ module _ {T : Type 0} where
   pub items_of-join : (f g : Forest (Placed T)) → items_of (join f g) ≡ join (items_of f) (items_of g)
   items_of-join Nil g = refl
   items_of-join (Node p inside after) g = ap (Node p.item (items_of inside)) (items_of-join after g)
-
-  -- an empty tree has no siblings at hand
-  pub Is-nothing : (t : Tree T) → Holds t nothing → Is t Nil []
-  Is-nothing t h = record { z = nothing; holds = h; last = refl; at_end = tt; here_is = refl; up_is = refl }
 
   -- a node added
   pub Is-append : (old new : Tree T) (n : ℕ) (x : T) (here : Forest T) (up : List (Opened T)) → ((z : Zip T) → Holds old z → CanAppend z → Holds new (appended n x z)) → Is old here up → Is new (join here (one x Nil)) up

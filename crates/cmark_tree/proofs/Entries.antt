@@ -23,11 +23,6 @@ slice_get-set_other (x ∷ xs) zero (suc j) v h = refl
 slice_get-set_other (x ∷ xs) (suc i) zero v h = refl
 slice_get-set_other (x ∷ xs) (suc i) (suc j) v h = slice_get-set_other xs i j v (λ e. h (ap suc e))
 
-pub slice_get-front : {A : Type 0} → (xs ys : List A) (i : ℕ) → i < length xs → slice_get (xs ++ ys) i ≡ slice_get xs i
-slice_get-front [] ys i h = absurd (omega arith)
-slice_get-front (x ∷ xs) ys zero h = refl
-slice_get-front (x ∷ xs) ys (suc i) h = slice_get-front xs ys i (omega arith)
-
 pub slice_get-end : {A : Type 0} → (xs : List A) (y : A) → slice_get (xs ++ y ∷ []) (length xs) ≡ Some y
 slice_get-end [] y = refl
 slice_get-end (x ∷ xs) y = slice_get-end xs y
@@ -46,11 +41,6 @@ le_or_lt : (a b : ℕ) → (a ≤ b) ⊎ (b < a)
 le_or_lt zero b = inl (omega arith)
 le_or_lt (suc a) zero = inr (omega arith)
 le_or_lt (suc a) (suc b) = elim (le_or_lt a b) [ inl l ↦ inl (omega (arith, l)) | inr l ↦ inr (omega (arith, l)) ]
-
-none_past : {A : Type 0} → (xs : List A) (i : ℕ) → slice_get xs i ≡ None → length xs ≤ i
-none_past [] i e = omega arith
-none_past (x ∷ xs) zero e = absurd (let q : Some x ≡ None = e in cc)
-none_past (x ∷ xs) (suc i) e = omega (arith, none_past xs i e)
 
 -- the elements of a list after two of them are exchanged
 swap_second : {A : Type 0} → (xs : List A) (a b : ℕ) → a < length xs → b < length xs → slice_get (swap xs a b) b ≡ slice_get xs a

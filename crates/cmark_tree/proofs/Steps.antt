@@ -118,11 +118,6 @@ module _ {T : Type 0} where
   pub append_first : (old new : Nodes T) (n : ℕ) (x : T) → IsGrown old new n x → IsForest (node_at new) n (new_one n x)
   append_first old new n x g = record { stands = new_stands old new n x g; once = λ i. omega (arith, hit-le n i); start_is = refl }
 
-  -- the three places of a new node
-  pub first_above : (nodes : Nodes T) (f : Forest (Placed T)) → Stands (node_at nodes) f → 0 < first f → IsOnce f → In (first f) f
-  first_above nodes Nil h lt once = absurd (omega (arith, lt))
-  first_above nodes (Node p inside after) h lt once = omega (arith, hit-same p.ix p.ix refl)
-
   -- a forest whose first link is 0 is empty
   pub first_none : (nodes : Nodes T) (f : Forest (Placed T)) → Stands (node_at nodes) f → first f ≡ 0 → f ≡ Nil
   first_none nodes Nil h e = refl

@@ -1,11 +1,11 @@
 -- Links set from any node after a path: other siblings after it, or other children.
-use Rattle.std.proofs.Common.{◌≡◌, ◌≢◌, inl, inr, ℕ, zero, suc, ◌+◌, ◌<◌, ◌≤◌, List, refl, sym, ap, ◌∙◌, subst, arith}
+use Rattle.std.proofs.Common.{◌≡◌, inl, inr, ℕ, zero, suc, ◌+◌, ◌<◌, ◌≤◌, List, refl, sym, ap, ◌∙◌, subst, arith}
 use Rattle.cmark_tree.specs.declared.nodes.Nodes.{Nodes}
 use Rattle.cmark_tree.specs.Forest.{Forest, Nil, Node, join, one, size}
 use Rattle.cmark_tree.specs.Arena.{Entry, In, Placed, first, Stands, hit, pick, times, IsOnce, IsForest, relink_next, relink_child}
 use Rattle.cmark_tree.specs.Nodes.{node_at, node_count, IsChanged, with_next, with_child}
 use Rattle.cmark_tree.specs.Zip.{Level, Zip, plug, whole, next_relinked, child_relinked}
-use Rattle.cmark_tree.proofs.Times.{hit-le, hit-other, hit-same, join_assoc, times-join, outside, times-plug}
+use Rattle.cmark_tree.proofs.Times.{hit-same, join_assoc, times-join, outside, times-plug}
 use Rattle.cmark_tree.proofs.StandsLemmas.{Stands-same, Stands-right, Stands-inner}
 use Rattle.cmark_tree.proofs.Relinks.{pick-same, same_or_not, relinked_next, relinked_child, relink_next-absent, relink_child-absent}
 use Rattle.cmark_tree.proofs.Steps.{rewritten, has_number}
@@ -23,11 +23,6 @@ hits-one (suc n) k lt le = elim (same_or_not k (suc n)) [
   | inr ne ↦ omega (arith, hits-one n k lt (omega (arith, le, ne)))
 ]
 
--- two places that are not equal occur once each
-pub two_once : (a b i : ℕ) → a ≢ b → hit a i + hit b i ≤ 1
-two_once a b i ne = elim (same_or_not a i) [
-  | inl e ↦ omega (arith, hit-le a i, hit-other b i (λ q. ne (e ∙ sym q)))
-  | inr no_hit ↦ omega (arith, hit-other a i no_hit, hit-le b i)
 ]
 
 module _ {T : Type 0} where

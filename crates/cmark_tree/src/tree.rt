@@ -4,7 +4,7 @@
 //! the focus, those from the focus on, and the nodes above. `Holds tree z` means that the links of the tree form that forest, that no node
 //! is reached twice, and that the path and the focus are those of `z`. Each call is a step of `z`.
 
-ghost use Rattle.std.specs.Prelude.{◌⊎◌, List, [], ◌∷◌, ◌≡◌, ◌≢◌, ◌+◌, ◌<◌, ◌≤◌, suc, Some, length, IfOk, OnOk, OnErr, IfSome, OnSome, IfNone};
+ghost use Rattle.std.specs.Prelude.{◌⊎◌, List, [], ◌∷◌, ◌≡◌, ◌<◌, suc, Some, length, IfOk, OnOk, OnErr};
 ghost use Rattle.std.specs.Borrow.{sem};
 ghost use Rattle.std.specs.Slice.Iter.{iter_rest};
 ghost use Rattle.cmark_tree.specs.Lending.{LendsItemAt};

@@ -1,9 +1,8 @@
 //! Siblings cut off at the end of their text.
 
-ghost use Rattle.std.specs.Prelude.{◌≡◌, ℕ, ◌+◌, ◌<◌, ◌≤◌, true, List, [], ◌∷◌, Some, None, if◌then◌else◌};
+ghost use Rattle.std.specs.Prelude.{◌≡◌, ◌<◌, true, List, [], ◌∷◌, Some, None, if◌then◌else◌};
 ghost use Rattle.cmark_tree.specs.Forest.{Forest, join};
-ghost use Rattle.cmark_tree.specs.Arena.{Entry, Placed, Stands, IsOnce, IsForest};
-ghost use Rattle.cmark_tree.specs.Arena.{first as first_of};
+ghost use Rattle.cmark_tree.specs.Arena.{Entry, Placed, IsForest};
 ghost use Rattle.cmark_tree.specs.Zip.{Zip, Level, plug};
 ghost use Rattle.cmark_tree.specs.Nodes.{node_at, HasNumber};
 ghost use Rattle.cmark_tree.specs.Tree.{Holds, entry_at, parent_of, spine_of};

@@ -57,9 +57,6 @@ pub record Joined (label text rest : List ℕ) : Type 0 where
   pub joined : text ≡ join_with_byte 32 seen
   pub none : length text ≡ 0 → seen ≡ []
 
-pub joined_none : (label : List ℕ) → Joined label [] label
-joined_none label = record { seen = []; cut = refl; joined = refl; none = λ _. refl }
-
 join-push : (s : List ℕ) (ss : List (List ℕ)) (x : List ℕ) → join_with_byte 32 ((s ∷ ss) ++ x ∷ []) ≡ join_with_byte 32 (s ∷ ss) ++ (32 ∷ x)
 join-push s [] x = refl
 join-push s (t ∷ ts) x =

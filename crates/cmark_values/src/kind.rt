@@ -1,6 +1,6 @@
 //! Kinds of blocks, links and headings.
 
-ghost use Rattle.std.specs.Prelude.{◌≡◌, ◌<◌, ◌⊎◌, ◌∷◌, [], ◌+◌, Some, MatchResult, IfOk, IsOk, length, ◌≤◌};
+ghost use Rattle.std.specs.Prelude.{◌≡◌, ◌<◌, ◌⊎◌, ◌∷◌, [], ◌+◌, Some, MatchResult, IfOk, IsOk};
 ghost use Rattle.std.specs.Fmt.{padded};
 ghost use Rattle.cmark_grammar.specs.LinkType.{to_unknown};
 ghost use Rattle.cmark_values.specs.InPlace.{KindCopiesInPlace, KindStaysInPlace};

@@ -34,12 +34,6 @@ spelled bytes text (array items) same utf8 reads all = absurd (true≢false (sym
 spelled bytes text (object names) same utf8 reads all =
     (names, record { utf8 = utf8; is_object = subst (λ b. read b ≡ Some (object names)) same reads; texts = all }, λ name. refl)
 
--- a text that is read as something else spells no names
-pub unspelled : (bytes text : List ℕ) (file : Data) → text ≡ bytes → read text ≡ Some file → holds_texts file ≡ false → (names : Members) → ¬ (Spells bytes names)
-unspelled bytes text file same reads not names s =
-    let holds : holds_texts file ≡ are_texts names = ap (λ o. option_map_or holds_texts o false) (sym reads ∙ ap read same ∙ s.is_object) in
-    true≢false (sym s.texts ∙ sym holds ∙ not)
-
 -- a text that cannot be read spells no names
 pub unread : (bytes text : List ℕ) → text ≡ bytes → read text ≡ None → (names : Members) → ¬ (Spells bytes names)
 unread bytes text same none names s =

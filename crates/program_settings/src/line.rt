@@ -1,6 +1,6 @@
 //! The words of a command line.
 
-ghost use Rattle.std.specs.Prelude.{◌≡◌, true, false, map, string_bytes, option_map, None, IfOk, IfErr, MatchResult};
+ghost use Rattle.std.specs.Prelude.{◌≡◌, true, false, map, string_bytes, option_map, None, IfOk, IfErr};
 ghost use Rattle.clap.specs.Words.{app_of, fault_of, found_of, kind_of, matches_of, rows_of, rule_of, takes};
 ghost use Rattle.program_settings.specs.Line.{bits_given, file_given, file_rule, flag_rule, flags, is_safe_given, line_command, option_bits, options_command, safe_flag, with_safe_rule, writes_html, AnswersBy, HasLineFault};
 ghost use Rattle.program_settings.specs.declared.line.LineFault.TheVariants.{Memory};

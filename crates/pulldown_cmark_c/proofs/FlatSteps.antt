@@ -1,6 +1,6 @@
 -- The flat records of a walk's events.
 use Rattle.std.specs.Prelude.{Ok, Some, None}
-use Rattle.std.proofs.Common.{◌≡◌, ℕ, true, List, [], ◌∷◌, ◌++◌, Option, refl, sym, ap, ◌∙◌, append-nil, subst}
+use Rattle.std.proofs.Common.{◌≡◌, ℕ, true, List, [], ◌∷◌, ◌++◌, Option, sym, ap, ◌∙◌, append-nil, subst}
 use Rattle.cmark_flat.specs.Flat.{flat, records}
 use Rattle.cmark_flat.specs.Records.{spelled}
 use Rattle.cmark_flat.proofs.FlatSteps.{flat_more}
@@ -38,9 +38,6 @@ module _ {E F : Type 0} (Says : F → BrokenLink → Option (CowStr × CowStr) �
     pub passes : Passes Says replacement given first parser
     pub output_is : output ≡ flat given
     pub can : CanGo replacement parser
-
-  pub none_written : (parser : Parser E F) (output : List ℕ) → output ≡ [] → CanGo replacement parser → WritesFlat parser parser output
-  none_written parser output none can = record { given = []; passes = record { taken = []; asks = refl; back = λ rest events r. r }; output_is = none; can = can }
 
   -- an event that owns nothing
   pub short_more : (first parser new : Parser E F) (short : Short) (start end : ℕ) (mid after : List ℕ) → WritesFlat first parser mid → GivesAs Says replacement parser (next.Short short start end) new

@@ -9,7 +9,7 @@ use Rattle.cmark_emphasis.specs.Nearest.{IsNearest}
 use Rattle.cmark_emphasis.specs.Stack.{NoneAgree, course_from, still_open}
 use Rattle.cmark_emphasis.proofs.Agreeing.{closing}
 use Rattle.cmark_emphasis.proofs.Counting.{bottom-within, none-pays, pair-pays, put_back-most, rest-delimiter, total-within}
-use Rattle.cmark_emphasis.proofs.LeastSteps.{IsSeeking, seeking-end, seeking-first, seeking-next, standing-noted}
+use Rattle.cmark_emphasis.proofs.LeastSteps.{IsSeeking, seeking-end, seeking-next, standing-noted}
 use Rattle.cmark_emphasis.proofs.Noted.{rest_bottoms}
 use Rattle.cmark_emphasis.proofs.Stacks.{course_next, course_end, nearest_in}
 use Rattle.cmark_emphasis.proofs.pairing.close.Goals as goal

@@ -1,4 +1,4 @@
-use Rattle.std.proofs.Common.{arith, ◌≡◌, ◌∷◌, [], List, sym, ap, ◌∙◌}
+use Rattle.std.proofs.Common.{arith, ◌≡◌, ◌∷◌, [], sym, ap, ◌∙◌}
 use Rattle.cmark_grammar.specs.Emphasis.{Run, pair_of}
 use Rattle.cmark_emphasis.specs.Least.{least_examined}
 use Rattle.cmark_emphasis.specs.Shown.{shown_placed, shown_run}

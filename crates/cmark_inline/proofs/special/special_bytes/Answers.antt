@@ -1,4 +1,4 @@
-use Rattle.std.proofs.Common.{◌≡◌, ℕ, List, ◌||◌, Bool, sym, ap, ◌∙◌}
+use Rattle.std.proofs.Common.{◌≡◌, ℕ, List, ◌||◌, sym, ap, ◌∙◌}
 use Rattle.cmark_grammar.specs.Options.{Options}
 use Rattle.cmark_search.specs.Sets.{in_rows}
 use Rattle.cmark_values.specs.Shown.{shown_options}

@@ -1,4 +1,4 @@
-use Rattle.std.proofs.Common.{sym, ap, ◌∙◌}
+use Rattle.std.proofs.Common.{ap, ◌∙◌}
 use Rattle.cmark_grammar.specs.Letters.{after_if}
 use Rattle.cmark_scan_bytes.proofs.EmailSteps.{is_at_sign, some-email}
 use Rattle.cmark_scan_bytes.proofs.Lists.{rest_of}

@@ -1,4 +1,4 @@
-use Rattle.std.proofs.Common.{Some, drop, sym, ap, ◌∙◌}
+use Rattle.std.proofs.Common.{Some, drop, ap, ◌∙◌}
 use Rattle.std.specs.Prelude.{codes}
 use Rattle.cmark_grammar.specs.InlineHtml.{find_with}
 use Rattle.cmark_grammar.specs.Letters.{after_first_of}

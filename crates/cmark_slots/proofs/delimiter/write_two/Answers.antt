@@ -1,4 +1,4 @@
-use Rattle.std.proofs.Common.{◌≡◌, ◌∷◌, [], List, ap, ◌∙◌, arith}
+use Rattle.std.proofs.Common.{◌∷◌, [], List, ◌∙◌, arith}
 use Rattle.std.specs.Prelude.{map}
 use Rattle.cmark_emphasis.specs.Shown.{shown_pair, shown_placed}
 use Rattle.cmark_emphasis.specs.declared.run.PlacedRun.{PlacedRun}

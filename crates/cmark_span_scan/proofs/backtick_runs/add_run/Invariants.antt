@@ -1,4 +1,4 @@
-use Rattle.std.proofs.Common.{◌≡◌, ◌≤◌, ◌<◌, ◌-◌, ◌+◌, ℕ, length, get_or}
+use Rattle.std.proofs.Common.{◌≡◌, ◌≤◌, ◌-◌, ◌+◌, ℕ, length, get_or}
 use Rattle.cmark_span_scan.proofs.backtick_runs.add_run.Given as goal
 
 abbrev pub invariant-loop-last : goal.invariant-loop-last

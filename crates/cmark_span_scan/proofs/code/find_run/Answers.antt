@@ -1,4 +1,4 @@
-use Rattle.std.proofs.Common.{◌≡◌, ◌+◌, ◌≤◌, ap, sym, ◌∙◌, arith, false, drop, length}
+use Rattle.std.proofs.Common.{ap, arith, false}
 use Rattle.cmark_scan_bytes.proofs.Lists.{rest_of}
 use Rattle.cmark_span_scan.specs.Backticks.{runs_in}
 use Rattle.cmark_span_scan.proofs.Visited.{run-next, run-none, runs-few}

@@ -1,6 +1,5 @@
-use Rattle.std.proofs.Common.{◌≡◌, length, get_or, refl, sym, subst, arith, rules}
-use Rattle.std.specs.Prelude.{List, ℕ}
-use Rattle.cmark_span_scan.proofs.DollarLinks.{AreHeads, heads-end}
+use Rattle.std.proofs.Common.{arith, rules}
+use Rattle.cmark_span_scan.proofs.DollarLinks.{heads-end}
 use Rattle.cmark_span_scan.proofs.dollars.link_dollars.Goals as goal
 
 pub loop-index-init : goal.loop-index-init

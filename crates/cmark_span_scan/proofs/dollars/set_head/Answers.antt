@@ -1,5 +1,5 @@
-use Rattle.std.proofs.Common.{ap, ◌∙◌, get_or, arith}
-use Rattle.cmark_span_scan.proofs.Visited.{push-none, set-entry}
+use Rattle.std.proofs.Common.{arith}
+use Rattle.cmark_span_scan.proofs.Visited.{set-entry}
 use Rattle.cmark_span_scan.proofs.dollars.set_head.Goals as goal
 
 pub returns : goal.returns

@@ -1,5 +1,4 @@
-use Rattle.std.proofs.Common.{◌≡◌, ◌≤◌, ◌+◌, inl, inr, length, drop, false, refl, sym, ap, subst, ◌∙◌, arith}
-use Rattle.std.specs.Prelude.{codes}
+use Rattle.std.proofs.Common.{◌+◌, inl, inr, drop, false, refl, sym, ap, ◌∙◌}
 use Rattle.cmark_grammar.specs.Letters.{starts}
 use Rattle.cmark_scan_bytes.proofs.Lists.{rest_of}
 use Rattle.cmark_scan_bytes.proofs.Marks.{marks-further}

@@ -1,4 +1,4 @@
-use Rattle.std.proofs.Common.{◌≡◌, ◌<◌, false, length, refl, sym, subst, ◌∙◌}
+use Rattle.std.proofs.Common.{◌<◌, length, refl, sym, subst, ◌∙◌}
 use Rattle.std.specs.Prelude.{IfSome}
 use Rattle.cmark_line_rules.specs.Rests.{row_of}
 use Rattle.cmark_blocks.specs.Entered.{BeginsFirst}

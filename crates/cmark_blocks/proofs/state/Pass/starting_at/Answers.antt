@@ -1,11 +1,7 @@
-use Rattle.std.proofs.Common.{[], refl, sym, ap, ◌∙◌, subst}
+use Rattle.std.proofs.Common.{[], sym, subst}
 use Rattle.cmark_tree.specs.Forest.{Nil}
 use Rattle.cmark_builder.proofs.BuilderSteps.{at-place}
 use Rattle.cmark_leaf_nodes.specs.Contents.{AreRead}
-use Rattle.cmark_references.specs.Definitions.{reference_at}
-use Rattle.cmark_references.specs.Footnotes.{footnote}
-use Rattle.cmark_references.specs.declared.definitions.RefDefs.{RefDefs}
-use Rattle.cmark_references.specs.declared.footnotes.FootnoteDefs.{FootnoteDefs}
 use Rattle.cmark_blocks.proofs.state.Pass.starting_at.Goals as goal
 
 pub returns-clause-good : goal.returns-clause-good

@@ -1,4 +1,4 @@
-use Rattle.std.proofs.Common.{◌≡◌, None, sym, ap, ◌∙◌, subst}
+use Rattle.std.proofs.Common.{◌≡◌, sym, ap, ◌∙◌, subst}
 use Rattle.cmark_grammar.specs.BlockDocument.{Heading, Nil}
 use Rattle.cmark_grammar.specs.SetextAttributes.{setext_attributes}
 use Rattle.cmark_grammar.specs.Tokens.{words_end, stretch_then}

@@ -1,4 +1,4 @@
-use Rattle.std.proofs.Common.{◌≡◌, None, get_or, map, take, refl, sym, ap, ◌∙◌}
+use Rattle.std.proofs.Common.{None, get_or, map, take, refl, sym, ap, ◌∙◌}
 use Rattle.cmark_flat.specs.Replies.{shown_answer, shown_reply}
 use Rattle.cmark_flat_links.proofs.TableSteps.{added, all_there, found_at, none_there, one_more, passed}
 use Rattle.cmark_flat_links.proofs.table.AnswerTable.new.Goals as goal

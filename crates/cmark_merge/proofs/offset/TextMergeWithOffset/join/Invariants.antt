@@ -1,6 +1,5 @@
-use Rattle.std.proofs.Common.{◌≡◌, ◌≤◌, false, List, ◌∷◌, map, None, string_bytes}
-use Rattle.std.specs.Iterator.{size, Yields}
-use Rattle.std.specs.declared.ops.Range.{Range}
+use Rattle.std.proofs.Common.{◌≡◌, ◌≤◌, false, ◌∷◌, map, None, string_bytes}
+use Rattle.std.specs.Iterator.{size}
 use Rattle.cmark_merge.specs.Merge.{joined}
 use Rattle.cmark_merge.specs.Reading.{CanGo, items_left}
 use Rattle.cmark_merge.specs.Steps.{ReadsTexts}

@@ -1,7 +1,7 @@
 use Rattle.std.proofs.Common.{ap, subst, option_map, ◌∙◌}
 use Rattle.cmark_values.specs.Labelled.{link_key}
 use Rattle.cmark_references.specs.Definitions.{first_of, reference_at, shown_entry}
-use Rattle.cmark_references.proofs.CopySteps.{AreAllOf, copied, all-copied}
+use Rattle.cmark_references.proofs.CopySteps.{AreAllOf, copied}
 use Rattle.cmark_references.proofs.SpellingSteps.{at, no_entry}
 use Rattle.cmark_references.proofs.definitions.RefDefs.clone.Goals as goal
 

@@ -1,9 +1,8 @@
-use Rattle.std.proofs.Common.{rules, ◌≡◌, ap, ◌∙◌, sym, subst, IsSome, Some}
+use Rattle.std.proofs.Common.{rules, ap, ◌∙◌, sym, subst, IsSome}
 use Rattle.std.specs.Option.{unwrap_or}
 use Rattle.std.specs.BTreeMap.Entry.{map_with_value}
-use Rattle.std.specs.Map.{lookup, lookup_entry}
 use Rattle.cmark_values.specs.Labelled.{link_key}
-use Rattle.cmark_references.specs.Definitions.{definition, entry_of, first_of, at_label}
+use Rattle.cmark_references.specs.Definitions.{entry_of, first_of, at_label}
 use Rattle.cmark_references.proofs.FirstSteps.{first_put, first_found, found_in}
 use Rattle.cmark_references.proofs.SpellingSteps.{at}
 use Rattle.cmark_references.proofs.definitions.RefDefs.insert.Goals as goal

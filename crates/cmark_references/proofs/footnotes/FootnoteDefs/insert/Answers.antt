@@ -1,4 +1,4 @@
-use Rattle.std.proofs.Common.{rules, ◌≡◌, ap, ◌∙◌, sym, subst, IsSome, Some}
+use Rattle.std.proofs.Common.{rules, ap, ◌∙◌, sym, subst, IsSome}
 use Rattle.std.specs.Option.{unwrap_or}
 use Rattle.std.specs.BTreeMap.Entry.{map_with_value}
 use Rattle.cmark_values.specs.Labelled.{footnote_key}

@@ -1,4 +1,4 @@
-use Rattle.std.proofs.Common.{◌≡◌, List, drop, length, sym, ap, subst, ◌∙◌, arith}
+use Rattle.std.proofs.Common.{List, drop, length, sym, ap, subst, ◌∙◌, arith}
 use Rattle.std.specs.Prelude.{All, map}
 use Rattle.cmark_emphasis.specs.Least.{least_examined}
 use Rattle.cmark_emphasis.specs.Shown.{Fits, shown_pair, shown_placed}

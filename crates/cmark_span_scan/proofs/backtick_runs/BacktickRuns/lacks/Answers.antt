@@ -1,4 +1,4 @@
-use Rattle.std.proofs.Common.{◌≤◌, ◌≢◌, ◌∙◌, ap, sym, subst, drop, length, None, arith}
+use Rattle.std.proofs.Common.{◌≤◌, ◌≢◌, ◌∙◌, ap, sym, subst, drop, None, arith}
 use Rattle.std.specs.Prelude.{IfSome}
 use Rattle.std.proofs.lemmas.Bool.{leb-false, leb-true}
 use Rattle.std.proofs.lemmas.List.{get_or_default}

@@ -1,4 +1,4 @@
-use Rattle.std.proofs.Common.{◌≡◌, ap, ◌<◌, ◌≤◌, sym, subst, length, get_or, List, ℕ, false, arith}
+use Rattle.std.proofs.Common.{ap, ◌<◌, ◌≤◌, sym, subst, length, get_or, List, ℕ, false, arith}
 use Rattle.cmark_grammar.specs.Formulas.{no_braces}
 use Rattle.cmark_span_scan.specs.declared.dollars.Dollar.{Dollar}
 use Rattle.cmark_span_scan.proofs.DollarSteps.{AreBefore, StandsBy, some-before}

@@ -1,4 +1,4 @@
-use Rattle.std.proofs.Common.{arith, get_or, length, ◌<◌, ◌≤◌, ◌-◌, ◌≡◌, ◌+◌, ◌||◌, Bool, ℕ, List, None, Some, sym, ap, subst, ◌∙◌, drop}
+use Rattle.std.proofs.Common.{arith, get_or, length, ◌<◌, ◌-◌, ◌≡◌, ◌+◌, ◌||◌, Bool, ℕ, List, None, Some, sym, ap, subst, ◌∙◌, drop}
 use Rattle.std.specs.List.{prefix_len}
 use Rattle.std.specs.Str.{IsCharBoundary}
 use Rattle.cmark_grammar.specs.Formulas.{is_dollar, is_ink, context_of}
