@@ -20,11 +20,9 @@ balanced-append _ second (Element tag inside after i a) b =
 
 -- an event of its own is neither a start nor an end
 abbrev pub IsFit : Reads → Type 0
-IsFit (Around tag) = Unit {0}
-IsFit Inside = Unit {0}
 IsFit (Alone event) = IsSingle event
 IsFit (First event) = IsSingle event
-IsFit Silent = Unit {0}
+IsFit _ = Unit {0}
 
 pub fit : (kind : BlockKind) → IsFit (read_as kind)
 fit Paragraph = tt
@@ -57,8 +55,7 @@ node-balanced (Around tag) node inside fits b =
     subst (λ es. Balanced (Start tag ∷ es)) (sym (map-append Ranged.event inside (record { event = End (end_of tag); start = node.start; end = node.end } ∷ []))) (Element tag (events inside) [] b Nothing)
 node-balanced Inside node inside fits b = b
 node-balanced (Alone event) node inside fits b = Single event [] fits Nothing
-node-balanced (First event) node inside fits b = Nothing
-node-balanced Silent node inside fits b = Nothing
+node-balanced _ node inside fits b = Nothing
 
 abbrev put_event : (starts : ℕ) → Event → List Event → List Event
 put_event zero e others = e ∷ others
@@ -89,11 +86,8 @@ events-put (suc starts) e [] = refl
 events-put (suc starts) e (r ∷ others) = ap (λ es. r.event ∷ es) (events-put starts e others)
 
 first-balanced : (reads : Reads) (starts : ℕ) (node : BlockNode) (others : List Ranged) → IsFit reads → Balanced (events others) → Balanced (events (with_first (first_event reads) starts node others))
-first-balanced (Around tag) starts node others fits b = b
-first-balanced Inside starts node others fits b = b
-first-balanced (Alone event) starts node others fits b = b
 first-balanced (First event) starts node others fits b = subst Balanced (events-put starts (over node event) others) (put-balanced starts event (events others) fits b)
-first-balanced Silent starts node others fits b = b
+first-balanced _ starts node others fits b = b
 
 pub reading-balanced : (document : BlockDocument) → Balanced (events (block_reading document))
 reading-balanced Nil = Nothing

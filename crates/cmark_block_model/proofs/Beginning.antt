@@ -74,22 +74,19 @@ module _ (text : List ℕ) (options : Options) (lookup : Lookup) where
   at-blank place r ahead l b = blank-at options place r ahead (opens-blank r ahead l b) b
 
   bare-start : (k : Container) (r : Row) → is_bare_start k r ≡ true → is_blank_line (enter k r) ≡ true
-  bare-start (BlockQuote alert) r e = absurd (true≢false (sym e))
-  bare-start (Footnote label old size) r e = absurd (true≢false (sym e))
   bare-start (Item delimiter number width task) r e = e
   bare-start (ListDefinition width) r e = e
+  bare-start _ r e = absurd (true≢false (sym e))
 
   bare-item : (k : Container) (r : Row) → is_bare_start k r ≡ true → is_item k ≡ true
-  bare-item (BlockQuote alert) r e = absurd (true≢false (sym e))
-  bare-item (Footnote label old size) r e = absurd (true≢false (sym e))
   bare-item (Item delimiter number width task) r e = refl
   bare-item (ListDefinition width) r e = refl
+  bare-item _ r e = absurd (true≢false (sym e))
 
   bare-none : (k : Container) (r : Row) → is_bare_start k r ≡ false → is_blank_line (enter k r) ≡ true → is_item k ≡ false
-  bare-none (BlockQuote alert) r e b = refl
-  bare-none (Footnote label old size) r e b = refl
   bare-none (Item delimiter number width task) r e b = absurd (true≢false (sym b ∙ e))
   bare-none (ListDefinition width) r e b = absurd (true≢false (sym b ∙ e))
+  bare-none _ r e b = refl
 
   pub enter-line_end : (k : Container) (r : Row) → (enter k r).line_end ≡ r.line_end
   unfolding enter
@@ -109,12 +106,8 @@ module _ (text : List ℕ) (options : Options) (lookup : Lookup) where
       ap (λ m. pass_with (leaf_level text options lookup ThematicBreak r (take m ahead) (replay text options lookup closed l)) outer false Closed n) (sym t)
   leaf-begins (AtxHeading level) more closed r ahead l outer b n t =
       ap (λ m. pass_with (leaf_level text options lookup (AtxHeading level) r (take m ahead) (replay text options lookup closed l)) outer false Closed n) (sym t)
-  leaf-begins IndentedCode more closed r ahead l outer b n t = refl
-  leaf-begins (FencedCode fence) more closed r ahead l outer b n t = refl
   leaf-begins (HtmlBlock kind) more closed r ahead l outer b n t = html-begins (nat_le kind 5 && holds_end kind (words_of r)) kind closed r ahead l outer b n
-  leaf-begins (LinkDefinition definition) more closed r ahead l outer b n t = refl
-  leaf-begins (MetadataBlock kind) more closed r ahead l outer b n t = refl
-  leaf-begins (Table alignments) more closed r ahead l outer b n t = refl
+  leaf-begins _ more closed r ahead l outer b n t = refl
 
   leaf-alone : (leaf : Leaf) (more : ℕ) (closed : Blocks) (r : Row) (l : Level) → containers_at text options lookup (leaf_lines_begun leaf more closed r) l ≡ []
   leaf-alone ThematicBreak more closed r l = refl
@@ -155,10 +148,9 @@ module _ (text : List ℕ) (options : Options) (lookup : Lookup) where
 
   -- an alert's first line is not blank after the marker
   alert-whole : (k : Container) (r : Row) → is_alert k ≡ true → is_bare_start k r ≡ false
-  alert-whole (BlockQuote alert) r e = refl
-  alert-whole (Footnote label old size) r e = refl
   alert-whole (Item delimiter number width task) r e = absurd (true≢false (sym e))
   alert-whole (ListDefinition width) r e = absurd (true≢false (sym e))
+  alert-whole _ r e = refl
 
   bare-begins : (m : ℕ) (k : Container) (r : Row) (ahead : List Row) → is_bare_start k r ≡ false → bare_at (is_item k) (inside_begun (suc m) k r ahead) ≡ bare_at false (inside_begun (suc m) k r ahead)
   bare-begins m k r ahead e = go (opens_at options (place_in k) (enter k r) ahead) (tells-at options (place_in k) (enter k r) ahead)
@@ -168,9 +160,8 @@ module _ (text : List ℕ) (options : Options) (lookup : Lookup) where
 
       go : (o : Opening) → Tells (enter k r) o → bare_at (is_item k) (lines_begin_as o inside NoBlocks (enter k r)) ≡ bare_at false (lines_begin_as o inside NoBlocks (enter k r))
       go Blank t = bare-none k r e t.1
-      go (Nests j) t = refl
       go (Takes leaf more) t = leaf-bare leaf more NoBlocks (enter k r) (is_item k) false
-      go Plain t = refl
+      go _ t = refl
 
   inside-same : (m : ℕ) (k : Container) (r : Row) (ahead : List Row) (l : Level) (outer : List OpenContainer) (n : ℕ) → r.lazy ≡ false → length (enter k r).columns < m
       → pass_at text options lookup (inside_begun m k r (within k false ahead)) (within k false ahead) l outer (is_item k) n
@@ -267,14 +258,13 @@ module _ (text : List ℕ) (options : Options) (lookup : Lookup) where
       html false kind nb = (nb, (refl, q))
 
       leaf-fits : (leaf : Leaf) (more : ℕ) → b ≡ false → more ≤ length ahead → Tells r (Takes leaf more) → opens_at options place r ahead ≡ Takes leaf more → Fits options b (leaf_lines_begun leaf more closed r) ahead n
-      leaf-fits ThematicBreak more nb le t o = (nb, le, λ never. t, tt)
-      leaf-fits (AtxHeading level) more nb le t o = (nb, le, λ never. t, tt)
       leaf-fits IndentedCode more nb le t o = (nb, tt)
       leaf-fits (FencedCode fence) more nb le t o = (nb, (refl, q, tt))
       leaf-fits (HtmlBlock kind) more nb le t o = html (nat_le kind 5 && holds_end kind (words_of r)) kind nb
       leaf-fits (LinkDefinition definition) more nb le t o = (nb, le, λ never. absurd (true≢false never), tt)
       leaf-fits (MetadataBlock kind) more nb le t o = (nb, (refl, q, tt))
       leaf-fits (Table alignments) more nb le t o = (nb, le, λ never. absurd (true≢false never), (q, table-lines options place r ahead alignments more o))
+      leaf-fits _ more nb le t o = (nb, le, λ never. t, tt)
 
       tagged : (k : Container) (is_tag : Bool) → is_alert k ≡ is_tag → Fits options (is_bare_start k r) (inside_begun m k r (within k (is_bare_start k r) ahead)) (within k (is_bare_start k r) ahead) n
           → Fits options (is_bare_start k r) (lines_inside_begun is_tag (inside_begun m k r (within k (is_bare_start k r) ahead))) (within k (is_bare_start k r) ahead) n

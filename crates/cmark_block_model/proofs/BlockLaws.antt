@@ -74,20 +74,16 @@ module _ (options : Options) where
 
   -- an opening fits the lines ahead
   abbrev pub Fits : Opening → List Row → Type 0
-  Fits Blank ahead = Unit {0}
-  Fits (Nests k) ahead = Unit {0}
   Fits (Takes leaf n) ahead = n ≤ length ahead
-  Fits Plain ahead = Unit {0}
+  Fits _ ahead = Unit {0}
 
   fits_if : (b : Bool) (x y : Opening) (ahead : List Row) → Fits x ahead → Fits y ahead → Fits (if b then x else y) ahead
   fits_if true x y ahead p q = p
   fits_if false x y ahead p q = q
 
   fits_or : (x y : Opening) (ahead : List Row) → Fits x ahead → Fits y ahead → Fits (or_else x y) ahead
-  fits_or Blank y ahead p q = p
-  fits_or (Nests k) y ahead p q = p
-  fits_or (Takes leaf n) y ahead p q = p
   fits_or Plain y ahead p q = q
+  fits_or _ y ahead p q = p
 
   fits_nests : (o : Option Container) (ahead : List Row) → Fits (nests_if o) ahead
   fits_nests (Some k) ahead = tt
@@ -189,20 +185,16 @@ module _ (options : Options) where
 
   -- a container takes at least one column after the indent
   abbrev pub IsWide : Row → Opening → Type 0
-  IsWide r Blank = Unit {0}
   IsWide r (Nests k) = indent_of r < marker_width k r
-  IsWide r (Takes leaf n) = Unit {0}
-  IsWide r Plain = Unit {0}
+  IsWide r _ = Unit {0}
 
   wide_if : (r : Row) (b : Bool) (x y : Opening) → IsWide r x → IsWide r y → IsWide r (if b then x else y)
   wide_if r true x y p q = p
   wide_if r false x y p q = q
 
   wide_or : (r : Row) (x y : Opening) → IsWide r x → IsWide r y → IsWide r (or_else x y)
-  wide_or r Blank y p q = p
-  wide_or r (Nests k) y p q = p
-  wide_or r (Takes leaf n) y p q = p
   wide_or r Plain y p q = q
+  wide_or r _ y p q = p
 
   -- so does a container, if there is one
   abbrev pub SomeWide : Row → Option Container → Type 0
@@ -342,11 +334,9 @@ module _ (options : Options) where
           let q : Blank ≡ Nests k = sym (ap (λ cs. if is_bare (without_indent cs) then Blank else if nat_le 4 (indent_of r) then Takes IndentedCode (counted code_continuation ahead) else or_else (nests_if (container_of options r)) (leaf_of options r ahead)) ec) ∙ p in cc
 
   pub marker-within : (k : Container) (r : Row) → marker_width k r ≤ width_of k r
-  marker-within (BlockQuote alert) r = omega arith
   marker-within (Item delimiter number width None) r = omega arith
   marker-within (Item delimiter number width (Some is_checked)) r = omega arith
-  marker-within (Footnote label old size) r = omega arith
-  marker-within (ListDefinition width) r = omega arith
+  marker-within _ r = omega arith
 
   -- inside a container a first line has fewer columns
   fewer : (k : Container) (r : Row) → indent_of r < marker_width k r → 0 < length r.columns → length (enter k r).columns < length r.columns

@@ -55,13 +55,10 @@ seen_lazy (InVerbatim closed verbatim first had waiting) ahead = go waiting (cou
 seen_lazy (InContainer closed k first more inside) ahead = seen_lazy inside (within k (bare_after (is_bare_start k first) more) ahead)
 
 close_seen : (options : Options) (o : OpenLines) → close (seen o []) ≡ close_lines o
-close_seen options (Between closed) = refl
-close_seen options AfterTag = refl
-close_seen options (InParagraph closed first more) = refl
-close_seen options (InLeaf closed leaf first had left) = refl
 close_seen options (InVerbatim closed verbatim first had []) = sym (join-Nil options (join closed (LeafBlock (leaf_in verbatim) first had Nil)))
 close_seen options (InVerbatim closed verbatim first had (r ∷ waiting)) = refl
 close_seen options (InContainer closed k first more inside) = ap (λ i. join closed (ContainerBlock k first more i Nil)) (close_seen options inside)
+close_seen options _ = refl
 
 blank_lines_push : (ws : List Row) (r : Row) → blank_lines (ws ++ r ∷ []) ≡ join (blank_lines ws) (BlankLine r Nil)
 blank_lines_push [] r = refl
@@ -79,9 +76,6 @@ no e = absurd (true≢false e)
 
 -- how many lines a leaf takes: those that are judged to belong to it
 abbrev pub Counts : Row → List Row → Opening → Type 0
-Counts r ahead Blank = Unit {0}
-Counts r ahead (Nests k) = Unit {0}
-Counts r ahead Plain = Unit {0}
 Counts r ahead (Takes ThematicBreak n) = Unit {0}
 Counts r ahead (Takes (AtxHeading level) n) = Unit {0}
 Counts r ahead (Takes IndentedCode n) = n ≡ counted code_continuation ahead
@@ -90,16 +84,15 @@ Counts r ahead (Takes (HtmlBlock kind) n) = n ≡ (if nat_le kind 5 && holds_end
 Counts r ahead (Takes (LinkDefinition definition) n) = Unit {0}
 Counts r ahead (Takes (MetadataBlock kind) n) = n ≡ counted (metadata_continuation kind) ahead
 Counts r ahead (Takes (Table alignments) n) = Unit {0}
+Counts r ahead _ = Unit {0}
 
 counts_if : (r : Row) (ahead : List Row) (b : Bool) (x y : Opening) → Counts r ahead x → Counts r ahead y → Counts r ahead (if b then x else y)
 counts_if r ahead true x y p q = p
 counts_if r ahead false x y p q = q
 
 counts_or : (r : Row) (ahead : List Row) (x y : Opening) → Counts r ahead x → Counts r ahead y → Counts r ahead (or_else x y)
-counts_or r ahead Blank y p q = p
-counts_or r ahead (Nests k) y p q = p
-counts_or r ahead (Takes leaf n) y p q = p
 counts_or r ahead Plain y p q = q
+counts_or r ahead _ y p q = p
 
 counts_nests : (r : Row) (ahead : List Row) (o : Option Container) → Counts r ahead (nests_if o)
 counts_nests r ahead (Some k) = tt
@@ -222,20 +215,16 @@ module _ (options : Options) where
       html kind false = refl
 
       leaf : (l : Leaf) (m : ℕ) → Counts r ahead (Takes l m) → seen (leaf_begun l m closed r) ahead ≡ IsInLeaf closed l r [] m
-      leaf ThematicBreak m c = refl
-      leaf (AtxHeading level) m c = refl
       leaf IndentedCode m c = ap (IsInLeaf closed IndentedCode r []) (sym c)
       leaf (FencedCode fence) m c = ap (IsInLeaf closed (FencedCode fence) r []) (sym c)
       leaf (HtmlBlock kind) m c = html kind (nat_le kind 5 && holds_end kind (words_of r)) ∙ ap (IsInLeaf closed (HtmlBlock kind) r []) (sym c)
-      leaf (LinkDefinition definition) m c = refl
       leaf (MetadataBlock kind) m c = ap (IsInLeaf closed (MetadataBlock kind) r []) (sym c)
-      leaf (Table alignments) m c = refl
+      leaf _ m c = refl
 
       go : (o : Opening) → Counts r ahead o → ((k : Container) → seen (lines_begin_in options n (place_in k) Nil (enter k r) (within k (is_bare_start k r) ahead)) (within k (is_bare_start k r) ahead) ≡ begin_in options n (place_in k) Nil (enter k r) (within k (is_bare_start k r) ahead)) → seen (lines_begin_as o (λ k. lines_begin_in options n (place_in k) Nil (enter k r) (within k (is_bare_start k r) ahead)) closed r) ahead ≡ begin_as o (λ k. begin_in options n (place_in k) Nil (enter k r) (within k (is_bare_start k r) ahead)) closed r
-      go Blank c ih = refl
       go (Nests k) c ih = ap (IsInContainer closed k r []) (inside_seen (is_alert k) _ _ _ (ih k))
       go (Takes l m) c ih = leaf l m c
-      go Plain c ih = refl
+      go _ c ih = refl
 
   begin_at_seen : (place : Place) (closed : Blocks) (r : Row) (ahead : List Row) → seen (lines_begin_at options place closed r ahead) ahead ≡ begin_at options place closed r ahead
   begin_at_seen place closed r ahead = begin_in_seen (suc (length r.columns)) place closed r ahead

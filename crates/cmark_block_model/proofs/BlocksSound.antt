@@ -177,10 +177,8 @@ module _ (options : Options) where
   -- directly after an alert's tag
   after_tag : (k : Container) (r : Row) (o : Open) (ahead : List Row) → Holds (place_in k) (r ∷ []) o ahead → Holds (place_in k) (unless_tag (is_alert k) r []) (inside_begun (is_alert k) o) ahead
   after_tag (BlockQuote None) r o ahead h = h
-  after_tag (Footnote label old size) r o ahead h = h
   after_tag (BlockQuote (Some kind)) r o ahead h = (refl, refl)
-  after_tag (Item delimiter number width task) r o ahead h = h
-  after_tag (ListDefinition width) r o ahead h = h
+  after_tag _ r o ahead h = h
 
   -- the opening of a line
   begin_in_holds : (so : Place) (n : ℕ) (before : List Row) (closed : Blocks) (following : Place) (r : Row) (ahead : List Row) → length r.columns < n → MayBegin options following r → shown ahead ≡ ahead → over_blank following ≡ over_blank (place_after Apart closed) → Follows so before closed following (r ∷ []) ahead → Holds so (before ++ r ∷ []) (begin_in options n following closed r ahead) ahead

@@ -116,8 +116,6 @@ module _ (text : List ℕ) (options : Options) (lookup : Lookup) where
 
   pub leaf-closes : (o : OpenLines) (b : Bool) (n : ℕ) (l : Level) (outer : List OpenContainer) (bare : Bool) → Fits options b o [] n
       → close_leaf text options lookup (leaf_at text options lookup o) (pass_with (inner_at text options lookup o [] l) outer bare (leaf_at text options lookup o) n) ≡ pass_with (inner_closed o l) outer bare Closed n
-  leaf-closes (Between closed) b n l outer bare f = refl
-  leaf-closes AfterTag b n l outer bare f = refl
   leaf-closes (InParagraph closed first more) b n l outer bare f =
       let c = replay text options lookup closed l in
       ap (λ p. pass_with (noded document.Paragraph (start_of first) p (join (lines_drawn text options lookup (start_of first) first more) (stretch_then text (last_begin (start_of first) first more) (words_end (last_of first more)) Nil)) (paragraph_begun c)) outer bare Closed n) (sym f.1)
@@ -129,6 +127,7 @@ module _ (text : List ℕ) (options : Options) (lookup : Lookup) where
   leaf-closes (InVerbatim closed verbatim first had waiting) b n l outer bare f = verbatim-closes verbatim closed first had waiting n l outer bare f.1
   leaf-closes (InContainer closed k first more inside) b n l outer bare f =
       leaf-closes inside (bare_after (is_bare_start k first) more) n (entered k first (replay text options lookup closed l)) outer bare f.2
+  leaf-closes _ b n l outer bare f = refl
 
   -- all containers closed
   pub containers-close : (o : OpenLines) (b : Bool) (n : ℕ) (l : Level) (outer : List OpenContainer) (bare : Bool) → Fits options b o [] n

@@ -310,7 +310,6 @@ leaf-count text options lookup from leaf first more after s e f few = go leaf fe
     up = fed-le first.line_end more (last_line_end first more) f
 
     go : (leaf : Leaf) → LeafFilled leaf first more → 4 * from + count_nodes (leaf_then text options lookup leaf first more after) ≤ 4 * last_line_end first more + (count_nodes after + 262144 * is_table leaf)
-    go ThematicBreakLeaf few = omega (arith, low, some, high, up)
     go (AtxHeadingLeaf level) few = let h = heading-count text options.heading_attributes level from first s.0 in omega (arith, low, some, high, up, h)
     go IndentedCodeLeaf few =
         let b = verbatim-count text (code_columns 4 first) first in
@@ -327,7 +326,6 @@ leaf-count text options lookup from leaf first more after s e f few = go leaf fe
         let c = html_then-count (verbatim_line text first.columns first) (html_tokens text more) in
         let d = html-count text first.line_end more (last_line_end first more) f in
         omega (arith, low, some, high, b, c, d)
-    go (LinkDefinitionLeaf definition) few = omega (arith, low, some, high, up)
     go (MetadataBlockLeaf kind) few =
         let d = code-count text 0 first.line_end (lines_before (ends_metadata kind) more) (last_line_end first more) (before-fed (ends_metadata kind) first.line_end more (last_line_end first more) f) in
         let t = texts-count (code_pieces text 0 (lines_before (ends_metadata kind) more)) Nil in
@@ -339,6 +337,7 @@ leaf-count text options lookup from leaf first more after s e f few = go leaf fe
         let none : count_missing (length alignments) first ≡ 0 = few.0 in
         let most : filled (length alignments) (drop 1 more) ≤ 262144 = few.1 in
         omega (arith, low, some, high, up, w, c, d, none, most)
+    go _ few = omega (arith, low, some, high, up)
 
 item-count : (joins : Bool) (list : BlockKind) (item : BlockNode) (inside after : BlockDocument) → count_nodes (item_then joins list item inside after) ≤ 2 + (count_nodes inside + count_nodes after)
 item-count false list item inside after = omega arith
@@ -426,18 +425,17 @@ rows-tables text columns (r ∷ rs) =
     omega (arith, c, ih)
 
 leaf-tables : (text : List ℕ) (options : Options) (lookup : Lookup) (leaf : Leaf) (first : Row) (more : List Row) (after : BlockDocument) → count_tables (leaf_then text options lookup leaf first more after) ≡ is_table leaf + count_tables after
-leaf-tables text options lookup ThematicBreakLeaf first more after = omega arith
 leaf-tables text options lookup (AtxHeadingLeaf level) first more after =
     let c = stretch-tables text (first_place first.content_end (after_hashes level first)) (end_place (first_place first.content_end (after_hashes level first)) (heading_columns options.heading_attributes level first)) Nil in omega (arith, c)
 leaf-tables text options lookup IndentedCodeLeaf first more after = let c = texts-tables (code_pieces text 4 (first ∷ more)) Nil in omega (arith, c)
 leaf-tables text options lookup (FencedCodeLeaf fence) first more after = let c = texts-tables (code_pieces text fence.indented (fenced_lines fence more)) Nil in omega (arith, c)
 leaf-tables text options lookup (HtmlBlockLeaf kind) first more after = let c = html-tables text (first ∷ more) in omega (arith, c)
-leaf-tables text options lookup (LinkDefinitionLeaf definition) first more after = omega arith
 leaf-tables text options lookup (MetadataBlockLeaf kind) first more after = let c = texts-tables (code_pieces text 0 (lines_before (ends_metadata kind) more)) Nil in omega (arith, c)
 leaf-tables text options lookup (TableLeaf alignments) first more after =
     let c = cells-tables text (length alignments) (cells_start first) first.line_end (cells_of (words_of first)) in
     let d = rows-tables text (length alignments) (drop 1 more) in
     omega (arith, c, d)
+leaf-tables text options lookup _ first more after = omega arith
 
 is_table-few : (leaf : Leaf) → is_table leaf ≤ 1
 is_table-few ThematicBreakLeaf = omega arith
@@ -514,8 +512,6 @@ module _ (text : List ℕ) (options : Options) (lookup : Lookup) where
       go true q Nil = refl
       go true q (Node others items rest) = refl
       go false q d = absurd (true≢false (sym q))
-  list-first direct before delimiter (SetextHeading level first more underline after) e = absurd (true≢false (sym e))
-  list-first direct before delimiter (LeafBlock leaf first more after) e = absurd (true≢false (sym e))
   list-first direct before delimiter (ContainerBlock (BlockQuote alert) first more inside after) e = absurd (true≢false (sym e))
   list-first direct before delimiter (ContainerBlock (Footnote label old size) first more inside after) e = absurd (true≢false (sym e))
   list-first direct before delimiter (ContainerBlock (Item m number width task) first more inside after) e =
@@ -524,6 +520,7 @@ module _ (text : List ℕ) (options : Options) (lookup : Lookup) where
   list-first direct before delimiter (ContainerBlock (ListDefinition width) first more inside after) e =
       item-first (goes_on definition_delimiter after) (DefinitionList (tight_after before definition_delimiter inside after)) (node DefinitionListDefinition (begin_of first) (last_line_end first more)) _
       (document_of text options lookup direct (Some (record { delimiter = definition_delimiter; tight = tight_after before definition_delimiter inside after })) after) refl
+  list-first direct before delimiter _ e = absurd (true≢false (sym e))
 
   pub document-count : (direct : Bool) (before : Option ListBefore) (following : Place) (from : ℕ) (all : List Row) (b : Blocks) (to : ℕ) → Body options following all b → FedAfter from all to → 4 * from + count_nodes (document_of text options lookup direct before b) ≤ 4 * to + 262144 * count_tables (document_of text options lookup direct before b)
   document-count direct before following from all NoBlocks to body f = let l : from ≤ to = subst (λ ls. FedAfter from ls to) body f in omega (arith, l)

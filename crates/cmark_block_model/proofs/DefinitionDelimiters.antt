@@ -34,14 +34,8 @@ module _ (options : Options) where
       html false kind = u
 
       leaf : (l : Leaf) (more : ℕ) → OpenUnmarked (leaf_begun l more closed r)
-      leaf ThematicBreak more = u
-      leaf (AtxHeading level) more = u
-      leaf IndentedCode more = u
-      leaf (FencedCode fence) more = u
       leaf (HtmlBlock kind) more = html (nat_le kind 5 && holds_end kind (words_of r)) kind
-      leaf (LinkDefinition definition) more = u
-      leaf (MetadataBlock kind) more = u
-      leaf (Table alignments) more = u
+      leaf _ more = u
 
       tagged : (is_tag : Bool) (o : OpenLines) → OpenUnmarked o → OpenUnmarked (lines_inside_begun is_tag o)
       tagged true o h = tt
@@ -75,10 +69,8 @@ module _ (options : Options) where
       x = join closed (LeafBlock (leaf_in v) first had NoBlocks)
 
       go : (f : Continuation) → OpenUnmarked (verbatim_line f closed v first had waiting r (lines_begin options (join (join closed (LeafBlock (leaf_in v) first had NoBlocks)) (blank_lines waiting)) r ahead))
-      go GoesOn = u
-      go Closes = u
-      go Waits = u
       go Stops = begin-unmarked (join x (blank_lines waiting)) r ahead (unmarked-join x (blank_lines waiting) (unmarked-join closed (LeafBlock (leaf_in v) first had NoBlocks) u tt) (unmarked-blanks waiting))
+      go _ = u
   feed-unmarked (InContainer closed k first more inside) r ahead u =
       go (keeps k (bare_after (is_bare_start k first) more) r) (lazily options k r ahead && lines_take_lazy inside) (feed-unmarked inside (strip k (bare_after (is_bare_start k first) more) r) (within k false ahead) u.2)
     where

@@ -24,29 +24,7 @@ use Rattle.cmark_block_model.proofs.Theorem.{pass-draws}
 -- a definition is not read
 pub silent : (k : BlockKind) → is_definition k ≡ true → read_as k ≡ Silent
 silent (LinkDefinition reference) e = refl
-silent Paragraph e = absurd (let q : false ≡ true = e in cc)
-silent TightParagraph e = absurd (let q : false ≡ true = e in cc)
-silent (Heading level attributes) e = absurd (let q : false ≡ true = e in cc)
-silent ThematicBreak e = absurd (let q : false ≡ true = e in cc)
-silent IndentedCode e = absurd (let q : false ≡ true = e in cc)
-silent (FencedCode info) e = absurd (let q : false ≡ true = e in cc)
-silent HtmlBlock e = absurd (let q : false ≡ true = e in cc)
-silent (MetadataBlock kind) e = absurd (let q : false ≡ true = e in cc)
-silent (Table alignments) e = absurd (let q : false ≡ true = e in cc)
-silent TableHead e = absurd (let q : false ≡ true = e in cc)
-silent TableRow e = absurd (let q : false ≡ true = e in cc)
-silent TableCell e = absurd (let q : false ≡ true = e in cc)
-silent (BlockQuote alert) e = absurd (let q : false ≡ true = e in cc)
-silent (FootnoteDefinition label) e = absurd (let q : false ≡ true = e in cc)
-silent (DefinitionList tight) e = absurd (let q : false ≡ true = e in cc)
-silent DefinitionListTitle e = absurd (let q : false ≡ true = e in cc)
-silent DefinitionListDefinition e = absurd (let q : false ≡ true = e in cc)
-silent (BlockList number tight) e = absurd (let q : false ≡ true = e in cc)
-silent (TaskMarker is_checked) e = absurd (let q : false ≡ true = e in cc)
-silent ListItem e = absurd (let q : false ≡ true = e in cc)
-silent (Text bytes) e = absurd (let q : false ≡ true = e in cc)
-silent (OwnedText bytes) e = absurd (let q : false ≡ true = e in cc)
-silent (Html bytes) e = absurd (let q : false ≡ true = e in cc)
+silent _ e = absurd (let q : false ≡ true = e in cc)
 
 -- so a title comes first after definitions if it comes first without them
 whole-titled : (d : BlockDocument) → begins_title (without_definitions d) ≡ begins_title d
@@ -116,10 +94,7 @@ settled-edges Place tight (Node n inside after) h = (h.0, h.1, settled-edges Pla
 -- a node is read as two events at most
 node-few : (r : Reads) (n : BlockNode) (l : List Ranged) → length (node_events r n l) ≤ 2 + length l
 node-few (Around tag) n l = let e = length-append l (over n (End (end_of tag)) ∷ []) in omega (arith, e)
-node-few Inside n l = omega arith
-node-few (Alone event) n l = omega arith
-node-few (First event) n l = omega arith
-node-few Silent n l = omega arith
+node-few _ n l = omega arith
 
 -- a further event comes first in the events after it
 first-few : (starts : ℕ) (e : Ranged) (others : List Ranged) → length (first_in starts e others) ≤ 1 + length others
@@ -130,9 +105,8 @@ first-few (suc starts) e (r ∷ others) = let f = first-few starts e others in o
 with-few : (r : Reads) (element : ℕ) (n : BlockNode) (l others : List Ranged) → length (with_first (first_event r) element n (node_events r n l ++ others)) ≤ 2 + (length l + length others)
 with-few (Around tag) element n l others = let e = length-append (node_events (Around tag) n l) others in let f = node-few (Around tag) n l in omega (arith, e, f)
 with-few Inside element n l others = let e = length-append l others in omega (arith, e)
-with-few (Alone event) element n l others = omega arith
 with-few (First event) element n l others = let f = first-few element (over n event) others in omega (arith, f)
-with-few Silent element n l others = omega arith
+with-few _ element n l others = omega arith
 
 -- a drawing is in order if the document is that it draws, and its ranges begin and end at the same kind of places
 module _ (d whole : BlockDocument) (settles : settled false d ≡ without_definitions whole) where

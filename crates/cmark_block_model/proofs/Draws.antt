@@ -25,9 +25,8 @@ use Rattle.cmark_grammar.specs.Derivation.{list_kind}
 
 -- the drawing of a level: if a list is open, its node is open
 abbrev pub drawing_at : Stand → OpenNode → BlockDocument → List OpenNode → Drawing
-drawing_at First v here up = record { here = here; up = up }
-drawing_at Following v here up = record { here = here; up = up }
 drawing_at (InList o) v here up = record { here = here; up = v ∷ up }
+drawing_at _ v here up = record { here = here; up = up }
 
 -- the list closed
 abbrev pub finished : Level → Drawing
@@ -35,32 +34,28 @@ finished l = ended l.inner l.drawing
 
 -- the drawing when the level is closed, if the list is that loose from here on, and these items and this document are to come
 abbrev pub completed : Stand → OpenNode → BlockDocument → List OpenNode → (loose : Bool) → Split → Drawing
-completed First v here up loose s = record { here = join here s.after; up = up }
-completed Following v here up loose s = record { here = join here s.after; up = up }
 completed (InList o) v here up loose s = record {
   here = join v.left (Node (node (list_kind o.delimiter o.number (not (o.loose || loose))) v.node.start (end_or o.end s.end)) (join here s.items) s.after);
   up = up;
+completed _ v here up loose s = record { here = join here s.after; up = up }
 }
 
 abbrev pub loose_at : Stand → (blank : Bool) → Blocks → Bool
-loose_at First blank b = false
-loose_at Following blank b = false
 loose_at (InList o) blank b = loose_from o.delimiter blank b
+loose_at _ blank b = false
 
 -- closed at once
 list-done : (s : Stand) (v : OpenNode) (here : BlockDocument) (up : List OpenNode) → list_closed (list_of s) (drawing_at s v here up) ≡ completed s v here up false (lone Nil)
-list-done First v here up = ap (λ h. record { here = h; up = up }) (sym (join-nil here))
-list-done Following v here up = ap (λ h. record { here = h; up = up }) (sym (join-nil here))
 list-done (InList o) v here up =
     ap (λ z. record { here = join v.left (Node (node (list_kind o.delimiter o.number (not z)) v.node.start o.end) here Nil); up = up }) (sym (or-false o.loose))
     ∙ ap (λ h. record { here = join v.left (Node (node (list_kind o.delimiter o.number (not (o.loose || false))) v.node.start o.end) h Nil); up = up }) (sym (join-nil here))
+list-done _ v here up = ap (λ h. record { here = h; up = up }) (sym (join-nil here))
 
 -- the same with further nodes after it
 drawn-following : (s : Stand) (v : OpenNode) (here : BlockDocument) (up : List OpenNode) (d : BlockDocument) → drawn d (completed s v here up false (lone Nil)) ≡ completed s v here up false (lone d)
-drawn-following First v here up d = ap (λ h. record { here = join h d; up = up }) (join-nil here)
-drawn-following Following v here up d = ap (λ h. record { here = join h d; up = up }) (join-nil here)
 drawn-following (InList o) v here up d =
     ap (λ h. record { here = h; up = up }) (join-assoc v.left (Node (node (list_kind o.delimiter o.number (not (o.loose || false))) v.node.start o.end) (join here Nil) Nil) d)
+drawn-following _ v here up d = ap (λ h. record { here = join h d; up = up }) (join-nil here)
 
 drawn-twice : (a b : BlockDocument) (d : Drawing) → drawn b (drawn a d) ≡ drawn (join a b) d
 drawn-twice a b d = ap (λ h. record { here = h; up = d.up }) (join-assoc d.here a b)
@@ -121,9 +116,8 @@ module _ (text : List ℕ) (options : Options) (lookup : Lookup) where
   inside-draws b h d rs = h First (record { left = Nil; node = node document.Paragraph 0 0 }) d.here d.up false false rs
 
   loose-none : (s : Stand) (blank : Bool) (b : Blocks) → ((delimiter : ℕ) → loose_from delimiter blank b ≡ false) → loose_at s blank b ≡ false
-  loose-none First blank b h = refl
-  loose-none Following blank b h = refl
   loose-none (InList o) blank b h = h o.delimiter
+  loose-none _ blank b h = refl
 
   -- a block that is no item
   alone : (after : Blocks) → Draws after → (s : Stand) (v : OpenNode) (here : BlockDocument) (up : List OpenNode) (n : BlockDocument) (d : Drawing) (p : Bool) (rs : Noted) → d ≡ drawn n (list_closed (list_of s) (drawing_at s v here up))
@@ -135,14 +129,8 @@ module _ (text : List ℕ) (options : Options) (lookup : Lookup) where
       ∙ ap (λ y. completed s v here up y (lone (join n (split text options lookup None after).after))) (sym f)
 
   leaf-drawing : (leaf : Leaf) (first : Row) (more : List Row) (d : Drawing) → leaf_drawing text options lookup leaf first more d ≡ drawn (leaf_raw text options lookup leaf first more Nil) d
-  leaf-drawing ThematicBreak first more d = refl
-  leaf-drawing (AtxHeading level) first more d = refl
-  leaf-drawing IndentedCode first more d = refl
-  leaf-drawing (FencedCode fence) first more d = refl
-  leaf-drawing (HtmlBlock kind) first more d = refl
   leaf-drawing (LinkDefinition definition) first more d = ap (λ h. record { here = h; up = d.up }) (sym (join-nil d.here))
-  leaf-drawing (MetadataBlock kind) first more d = refl
-  leaf-drawing (Table alignments) first more d = refl
+  leaf-drawing _ first more d = refl
 
   leaf-raw : (leaf : Leaf) (first : Row) (more : List Row) (x : BlockDocument) → join (leaf_raw text options lookup leaf first more Nil) x ≡ leaf_raw text options lookup leaf first more x
   leaf-raw ThematicBreak first more x = refl
@@ -305,9 +293,8 @@ module _ (text : List ℕ) (options : Options) (lookup : Lookup) where
           ∙ ap (λ y. completed (InList o) v here up (y && (is_title after && loose_from o.delimiter false after)) (cut (is_title after) false)) (sym (other-delimiter o.delimiter definition_delimiter false e))
 
       go : (s : Stand) → finished (replay text options lookup (Paragraph first more after) (level_of s (drawing_at s v here up) blank p rs)) ≡ completed s v here up (loose_at s blank (Paragraph first more after)) (split text options lookup (delimiter_of s) (Paragraph first more after))
-      go First = db here up start line_end tokens false (p || blank) p rs
-      go Following = db here up start line_end tokens false (p || blank) p rs
       go (InList o) = list (o.delimiter == definition_delimiter) o refl
+      go _ = db here up start line_end tokens false (p || blank) p rs
 
   item-at : (inside after : Blocks) → Draws inside → Draws after → (delimiter : ℕ) (number : Option ℕ) (width : ℕ) (task : Option Bool) (first : Row) (more : List Row) → Draws (ContainerBlock (Item delimiter number width task) first more inside after)
   item-at inside after di1 da1 delimiter number width task first more s v here up blank p rs = go s di1 da1

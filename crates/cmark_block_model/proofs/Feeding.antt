@@ -146,14 +146,8 @@ module _ (text : List ℕ) (options : Options) (lookup : Lookup) where
           ap (λ z. if z then table_row text options lookup columns cells r p else begin text options lookup r next (leaf_closed text options lookup p)) (no-row options columns cells r ahead none)
 
       done : (leaf : Leaf) → FitsLeaf options leaf first had zero (r ∷ ahead) n → (q : Level) → Done leaf q
-      done ThematicBreak f q = refl
-      done (AtxHeading level) f q = refl
-      done IndentedCode f q = refl
-      done (FencedCode fence) f q = refl
-      done (HtmlBlock kind) f q = refl
-      done (LinkDefinition definition) f q = refl
-      done (MetadataBlock kind) f q = refl
       done (Table alignments) f q = table alignments had q f.1
+      done _ f q = refl
   leaf-feeds closed leaf first had (suc left) r next ahead l outer b n e a h u f = go leaf f.2 f.3
     where
       none : {A : Type 0} → suc left ≡ 0 → A
@@ -165,15 +159,10 @@ module _ (text : List ℕ) (options : Options) (lookup : Lookup) where
       go : (leaf : Leaf) → (is_looked_up leaf ≡ false → suc left ≡ 0) → FitsLeaf options leaf first had (suc left) (r ∷ ahead) n
           → leaf_fed text options lookup (leaf_left leaf had (suc left)) r next (pass_with (leaf_open text options lookup leaf first had (take (suc left) (r ∷ ahead)) (replay text options lookup closed l)) outer false (leaf_left leaf had (suc left)) n)
           ≡ pass_with (leaf_open text options lookup leaf first (had ++ r ∷ []) (take left ahead) (replay text options lookup closed l)) (outer ++ []) false (leaf_left leaf (had ++ r ∷ []) left) n
-      go ThematicBreak h f = none (h refl)
-      go (AtxHeading level) h f = none (h refl)
-      go IndentedCode h f = none (h refl)
-      go (FencedCode fence) h f = none (h refl)
-      go (HtmlBlock kind) h f = none (h refl)
-      go (MetadataBlock kind) h f = none (h refl)
       go (LinkDefinition definition) h f =
           ap (λ x. pass_with (leaf_level text options lookup (LinkDefinition definition) first x (replay text options lookup closed l)) outer false (InDefinition left) n) (sym (append_assoc had (r ∷ []) (take left ahead)))
           ∙ end (leaf_level text options lookup (LinkDefinition definition) first ((had ++ r ∷ []) ++ take left ahead) (replay text options lookup closed l)) (InDefinition left)
       go (Table alignments) h f =
           table-goes alignments first had left r next ahead (replay text options lookup closed l) outer n f.1
           ∙ end (table_open text options lookup alignments first (had ++ r ∷ []) (replay text options lookup closed l)) (table_leaf (length alignments) (had ++ r ∷ []))
+      go _ h f = none (h refl)

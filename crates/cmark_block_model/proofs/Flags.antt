@@ -94,9 +94,8 @@ module _ (text : List ℕ) (options : Options) (lookup : Lookup) where
       same false o d blank p rs = one (fresh definition_delimiter None (begin_of first)) (opened (begin_of first) (list_kind definition_delimiter None false) (list_closed (Some o) d)) (p || blank) rs
 
       at : (s : Stand) (d : Drawing) (blank p : Bool) (rs : Noted) → (replay text options lookup (ContainerBlock (ListDefinition width) first more inside after) (level_of s d blank p rs)).inner.blank ≡ ends_blank false (ends_blank true false inside) after
-      at First d blank p rs = one (fresh definition_delimiter None (begin_of first)) (opened (begin_of first) (list_kind definition_delimiter None false) d) (p || blank) rs
-      at Following d blank p rs = one (fresh definition_delimiter None (begin_of first)) (opened (begin_of first) (list_kind definition_delimiter None false) d) (p || blank) rs
       at (InList o) d blank p rs = same (o.delimiter == definition_delimiter) o d blank p rs
+      at _ d blank p rs = one (fresh definition_delimiter None (begin_of first)) (opened (begin_of first) (list_kind definition_delimiter None false) d) (p || blank) rs
 
   item-blank : (first : Row) (more : List Row) (inside after : Blocks) (delimiter : ℕ) (number : Option ℕ) (width : ℕ) (task : Option Bool) → KnowsBlank inside → KnowsBlank after → KnowsBlank (ContainerBlock (Item delimiter number width task) first more inside after)
   item-blank first more inside after delimiter number width task i a = (at, following)
@@ -113,9 +112,8 @@ module _ (text : List ℕ) (options : Options) (lookup : Lookup) where
       same false o d blank p rs = one (fresh delimiter number (begin_of first)) (opened (begin_of first) (list_kind delimiter number false) (list_closed (Some o) d)) (p || blank) rs
 
       at : (s : Stand) (d : Drawing) (blank p : Bool) (rs : Noted) → (replay text options lookup (ContainerBlock (Item delimiter number width task) first more inside after) (level_of s d blank p rs)).inner.blank ≡ ends_blank false (ends_blank true false inside) after
-      at First d blank p rs = one (fresh delimiter number (begin_of first)) (opened (begin_of first) (list_kind delimiter number false) d) (p || blank) rs
-      at Following d blank p rs = one (fresh delimiter number (begin_of first)) (opened (begin_of first) (list_kind delimiter number false) d) (p || blank) rs
       at (InList o) d blank p rs = same (o.delimiter == delimiter) o d blank p rs
+      at _ d blank p rs = one (fresh delimiter number (begin_of first)) (opened (begin_of first) (list_kind delimiter number false) d) (p || blank) rs
 
   -- a blank line comes last
   pub blank_after : (b : Blocks) → KnowsBlank b
@@ -171,9 +169,8 @@ module _ (text : List ℕ) (options : Options) (lookup : Lookup) where
       same false o d blank p rs e = one (fresh definition_delimiter None (begin_of first)) (opened (begin_of first) (list_kind definition_delimiter None false) (list_closed (Some o) d)) (p || blank) rs ∙ or-and p blank _
 
       at : (s : Stand) (d : Drawing) (blank p : Bool) (rs : Noted) → (replay text options lookup (ContainerBlock (ListDefinition width) first more inside after) (level_of s d blank p rs)).inner.parted ≡ (p || parted (before_of s) blank (ContainerBlock (ListDefinition width) first more inside after))
-      at First d blank p rs = one (fresh definition_delimiter None (begin_of first)) (opened (begin_of first) (list_kind definition_delimiter None false) d) (p || blank) rs ∙ or-and p blank _
-      at Following d blank p rs = one (fresh definition_delimiter None (begin_of first)) (opened (begin_of first) (list_kind definition_delimiter None false) d) (p || blank) rs ∙ or-and p blank _
       at (InList o) d blank p rs = same (o.delimiter == definition_delimiter) o d blank p rs refl
+      at _ d blank p rs = one (fresh definition_delimiter None (begin_of first)) (opened (begin_of first) (list_kind definition_delimiter None false) d) (p || blank) rs ∙ or-and p blank _
 
   item-parted : (first : Row) (more : List Row) (inside after : Blocks) (delimiter : ℕ) (number : Option ℕ) (width : ℕ) (task : Option Bool) → KnowsParted after → KnowsParted (ContainerBlock (Item delimiter number width task) first more inside after)
   item-parted first more inside after delimiter number width task a = (at, λ o d blank p q rs. one (fresh delimiter number (begin_of first)) (opened (begin_of first) (list_kind delimiter number false) (released_from (colon o) d)) (p || blank) rs ∙ or-and p blank _)
@@ -189,9 +186,8 @@ module _ (text : List ℕ) (options : Options) (lookup : Lookup) where
       same false o d blank p rs e = one (fresh delimiter number (begin_of first)) (opened (begin_of first) (list_kind delimiter number false) (list_closed (Some o) d)) (p || blank) rs ∙ or-and p blank _
 
       at : (s : Stand) (d : Drawing) (blank p : Bool) (rs : Noted) → (replay text options lookup (ContainerBlock (Item delimiter number width task) first more inside after) (level_of s d blank p rs)).inner.parted ≡ (p || parted (before_of s) blank (ContainerBlock (Item delimiter number width task) first more inside after))
-      at First d blank p rs = one (fresh delimiter number (begin_of first)) (opened (begin_of first) (list_kind delimiter number false) d) (p || blank) rs ∙ or-and p blank _
-      at Following d blank p rs = one (fresh delimiter number (begin_of first)) (opened (begin_of first) (list_kind delimiter number false) d) (p || blank) rs ∙ or-and p blank _
       at (InList o) d blank p rs = same (o.delimiter == delimiter) o d blank p rs refl
+      at _ d blank p rs = one (fresh delimiter number (begin_of first)) (opened (begin_of first) (list_kind delimiter number false) d) (p || blank) rs ∙ or-and p blank _
 
   paragraph-parted : (first : Row) (more : List Row) (after : Blocks) → KnowsParted after → KnowsParted (Paragraph first more after)
   paragraph-parted first more after a = (at, λ o d blank p q rs. a.1 None _ false (p || blank) p rs ∙ other (is_title after) blank p)
@@ -214,9 +210,8 @@ module _ (text : List ℕ) (options : Options) (lookup : Lookup) where
       list false o d blank p rs e = a.1 None d false (p || blank) p rs ∙ apart (is_title after) (o.delimiter == definition_delimiter) blank p e
 
       at : (s : Stand) (d : Drawing) (blank p : Bool) (rs : Noted) → (replay text options lookup (Paragraph first more after) (level_of s d blank p rs)).inner.parted ≡ (p || parted (before_of s) blank (Paragraph first more after))
-      at First d blank p rs = a.1 None _ false (p || blank) p rs ∙ other (is_title after) blank p
-      at Following d blank p rs = a.1 None _ false (p || blank) p rs ∙ other (is_title after) blank p
       at (InList o) d blank p rs = list (o.delimiter == definition_delimiter) o _ blank p rs refl
+      at _ d blank p rs = a.1 None _ false (p || blank) p rs ∙ other (is_title after) blank p
 
   -- a blank line separates two blocks
   pub parted_after : (b : Blocks) → KnowsParted b

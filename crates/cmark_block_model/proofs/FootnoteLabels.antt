@@ -65,14 +65,13 @@ definition-keeps (Some t) start l = go t.list
 
 module _ (text : List ℕ) (options : Options) (lookup : Lookup) where
   leaf-labels : (leaf : Leaf) (first : Row) (more : List Row) (n : Noted) (d : BlockDocument) → ((leaf_noted text options lookup leaf first more n).footnotes ++ footnote_labels d) ≡ (n.footnotes ++ footnote_labels (leaf_then text options lookup leaf first more d))
-  leaf-labels ThematicBreak first more n d = refl
   leaf-labels (AtxHeading level) first more n d = ap (λ r. n.footnotes ++ (r ++ footnote_labels d)) (sym (heading_plain text options.heading_attributes level first).labels)
   leaf-labels IndentedCode first more n d = ap (λ r. n.footnotes ++ (r ++ footnote_labels d)) (sym (code_plain text 4 (first ∷ more)).labels)
   leaf-labels (FencedCode fence) first more n d = ap (λ r. n.footnotes ++ (r ++ footnote_labels d)) (sym (code_plain text fence.indented (fenced_lines fence more)).labels)
   leaf-labels (HtmlBlock kind) first more n d = ap (λ r. n.footnotes ++ (r ++ footnote_labels d)) (sym (html_tokens_plain text (first ∷ more)).labels)
-  leaf-labels (LinkDefinition definition) first more n d = refl
   leaf-labels (MetadataBlock kind) first more n d = ap (λ r. n.footnotes ++ (r ++ footnote_labels d)) (sym (code_plain text 0 (lines_before (ends_metadata kind) more)).labels)
   leaf-labels (Table alignments) first more n d = ap (λ r. n.footnotes ++ (r ++ footnote_labels d)) (sym (table_plain text (length alignments) first more).labels)
+  leaf-labels _ first more n d = refl
 
   pub labels : (b : Blocks) (direct : Bool) (before : Option ListBefore) (l : Level) → (replay text options lookup b l).noted.footnotes ≡ (l.noted.footnotes ++ footnote_labels (document_of text options lookup direct before b))
   labels NoBlocks direct before l = sym (append-nil l.noted.footnotes)

@@ -39,17 +39,16 @@ module _ (text : List ℕ) (options : Options) (lookup : Lookup) where
       (refl, line_end_push first more s ∙ e, subst (λ z. Fits options z i (within k z ahead) n) (sym (bare_push options (is_bare_start k first) more s)) f)
 
   lazy-fits : (o : OpenLines) (b : Bool) (r : Row) (ahead x : List Row) (j : Container) (n : ℕ) → Fits options b o [] n → lines_take_lazy o ≡ true → lazily options j r x ≡ true → Fits options false (lines_feed options o (lazy_row r) ahead) ahead r.line_end
-  lazy-fits (Between closed) b r ahead x j n f t z = absurd (true≢false (sym t))
   lazy-fits AfterTag b r ahead x j n f t z = subst (λ o. Fits options false o ahead r.line_end) (sym (lazy-begins-at options AfterLazy NoBlocks r ahead)) (refl, refl)
   lazy-fits (InParagraph closed first more) b r ahead x j n f t z =
       subst (λ o. Fits options false o ahead r.line_end) (sym (lazy-paragraph options closed first more r ahead x j z)) (refl, line_end_push first more (lazy_row r))
   lazy-fits (InLeaf closed leaf first had zero) b r ahead x j n f t z =
       subst (λ o. Fits options false o ahead r.line_end) (sym (lazy-begins options (join_blocks closed (LeafBlock leaf first had NoBlocks)) r ahead)) (refl, refl)
   lazy-fits (InLeaf closed leaf first had (suc left)) b r ahead x j n f t z = absurd (let le : suc left ≤ 0 = f.1 in omega (arith, le))
-  lazy-fits (InVerbatim closed verbatim first had waiting) b r ahead x j n f t z = absurd (true≢false (sym t))
   lazy-fits (InContainer closed k first more inside) b r ahead x j n f t z =
       subst (λ o. Fits options false o ahead r.line_end) (sym (lazy-container options closed k first more inside r ahead x j z t))
       (container-fits closed k first more (lazy_row r) (lines_feed options inside (lazy_row r) (within k false ahead)) ahead r.line_end refl (lazy-fits inside (bare_after (is_bare_start k first) more) r (within k false ahead) x j n f.2 t z))
+  lazy-fits _ b r ahead x j n f t z = absurd (true≢false (sym t))
 
   verbatim-fits : (v : Verbatim) (closed : Blocks) (first : Row) (had waiting : List Row) (r : Row) (ahead : List Row) (b : Bool) (n : ℕ) → r.lazy ≡ false → FitsVerbatim v first had waiting n
       → Fits options false (verbatim_line (continuation_in v r) closed v first had waiting r (lines_begin options (close_lines (InVerbatim closed v first had waiting)) r ahead)) ahead r.line_end
@@ -80,18 +79,12 @@ module _ (text : List ℕ) (options : Options) (lookup : Lookup) where
 
   -- a line of a leaf leaves one line fewer to come
   leaf-fits : (leaf : Leaf) (first : Row) (had : List Row) (left : ℕ) (r : Row) (ahead : List Row) (n : ℕ) → FitsLeaf options leaf first had (suc left) (r ∷ ahead) n → FitsLeaf options leaf first (had ++ r ∷ []) left ahead r.line_end
-  leaf-fits ThematicBreak first had left r ahead n f = tt
-  leaf-fits (AtxHeading level) first had left r ahead n f = tt
-  leaf-fits IndentedCode first had left r ahead n f = tt
-  leaf-fits (FencedCode fence) first had left r ahead n f = tt
-  leaf-fits (HtmlBlock kind) first had left r ahead n f = tt
-  leaf-fits (MetadataBlock kind) first had left r ahead n f = tt
-  leaf-fits (LinkDefinition definition) first had left r ahead n f = tt
   leaf-fits (Table alignments) first [] left r ahead n f = (refl, omega (arith, f.1))
   leaf-fits (Table alignments) first (delimiter ∷ rows) left r ahead n f = (
     line_end_push first (delimiter ∷ rows) r,
     (row-taken options (length alignments) (cells_left (length alignments) most_filled rows) left r ahead f.1).1
         ∙ ap (λ k. count_rows options (length alignments) k ahead) (sym (left-push (length alignments) most_filled rows r)),
+  leaf-fits _ first had left r ahead n f = tt
   )
 
   pub feed-fits : (o : OpenLines) (b : Bool) (r : Row) (ahead : List Row) (n : ℕ) → r.lazy ≡ false → Fits options b o (r ∷ ahead) n → Fits options false (lines_feed options o r ahead) ahead r.line_end

@@ -130,7 +130,6 @@ rows-whole text columns [] = tt
 rows-whole text columns (r ∷ rs) = (λ e. no-leaf false refl _ e, row-whole text columns r, rows-whole text columns rs)
 
 leaf-whole : (text : List ℕ) (options : Options) (lookup : Lookup) (leaf : Leaf) (first : Row) (more : List Row) (after : BlockDocument) → HasWholeLeaves after → HasWholeLeaves (leaf_then text options lookup leaf first more after)
-leaf-whole text options lookup ThematicBreakLeaf first more after h = (λ e. tt, tt, h)
 leaf-whole text options lookup (AtxHeadingLeaf level) first more after h =
     let start = first_place first.content_end (after_hashes level first) in
     let end = end_place start (heading_columns options.heading_attributes level first) in
@@ -139,11 +138,11 @@ leaf-whole text options lookup IndentedCodeLeaf first more after h = (λ e. text
 leaf-whole text options lookup (FencedCodeLeaf fence) first more after h =
     (λ e. texts-free (code_pieces text fence.indented (fenced_lines fence more)) Nil tt, texts-whole (code_pieces text fence.indented (fenced_lines fence more)) Nil tt, h)
 leaf-whole text options lookup (HtmlBlockLeaf kind) first more after h = (λ e. no-leaf false refl _ e, html-whole text (first ∷ more), h)
-leaf-whole text options lookup (LinkDefinitionLeaf definition) first more after h = (λ e. tt, tt, h)
 leaf-whole text options lookup (MetadataBlockLeaf kind) first more after h =
     (λ e. texts-free (code_pieces text 0 (lines_before (ends_metadata kind) more)) Nil tt, texts-whole (code_pieces text 0 (lines_before (ends_metadata kind) more)) Nil tt, h)
 leaf-whole text options lookup (TableLeaf alignments) first more after h =
     (λ e. no-leaf false refl _ e, ((λ e. no-leaf false refl _ e), row-whole text (length alignments) first, rows-whole text (length alignments) (drop 1 more)), h)
+leaf-whole text options lookup _ first more after h = (λ e. tt, tt, h)
 
 item-whole : (joins : Bool) (list : BlockKind) (item : BlockNode) (inside after : BlockDocument) → is_leaf list ≡ false → (is_leaf item.kind ≡ true → AreNoDefinitions inside) → HasWholeLeaves inside → HasWholeLeaves after
     → HasWholeLeaves (item_then joins list item inside after)
@@ -221,10 +220,7 @@ whole-segments (Node n inside after) h = go (is_definition n.kind) refl (whole-s
 -- a node gives three at most
 node-few : (r : Reads) (n : BlockNode) (l : List Segment) → length (node_segments r n l) ≤ 2 + length l
 node-few (Around tag) n l = let e = length-append l (Given (over n (End (end_of tag))) ∷ []) in omega (arith, e)
-node-few Inside n l = omega arith
-node-few (Alone event) n l = omega arith
-node-few (First event) n l = omega arith
-node-few Silent n l = omega arith
+node-few _ n l = omega arith
 
 -- a further event comes first in the events after it
 first-few : (starts : ℕ) (e : Segment) (others : List Segment) → length (first_of_segments starts e others) ≤ 1 + length others
@@ -235,9 +231,8 @@ first-few (suc starts) e (s ∷ others) = let f = first-few starts e others in o
 with-few : (r : Reads) (element : ℕ) (n : BlockNode) (l others : List Segment) → length (with_first_segment (first_event r) element n (node_segments r n l ++ others)) ≤ 2 + (length l + length others)
 with-few (Around tag) element n l others = let e = length-append (node_segments (Around tag) n l) others in let f = node-few (Around tag) n l in omega (arith, e, f)
 with-few Inside element n l others = let e = length-append l others in omega (arith, e)
-with-few (Alone event) element n l others = omega arith
 with-few (First event) element n l others = let f = first-few element (Given (over n event)) others in omega (arith, f)
-with-few Silent element n l others = omega arith
+with-few _ element n l others = omega arith
 
 inside-few : (kind : BlockKind) (b : Bool) (content : BlockDocument) (others : List Segment) → length (if b then Content (leaf_of kind content) ∷ [] else others) ≤ 1 + length others
 inside-few kind true content others = omega arith

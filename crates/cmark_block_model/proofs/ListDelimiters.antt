@@ -13,10 +13,8 @@ use Rattle.cmark_grammar.specs.Options.{Options}
 use Rattle.cmark_grammar.specs.Rows.{Row, words_of, without}
 
 abbrev pub IsUnmarked : Container → Type 0
-IsUnmarked (BlockQuote alert) = Unit {0}
 IsUnmarked (Item delimiter number width task) = (delimiter == definition_delimiter) ≡ false
-IsUnmarked (Footnote label old size) = Unit {0}
-IsUnmarked (ListDefinition width) = Unit {0}
+IsUnmarked _ = Unit {0}
 
 abbrev pub Unmarked : Blocks → Type 0
 Unmarked Nil = Unit {0}

@@ -90,10 +90,9 @@ without-inside (suc n) r lt h = go r.columns h.0 h.1
 
 -- each container but a footnote definition of the old kind takes a column
 abbrev HasPrefix : Container → Type 0
-HasPrefix (BlockQuote alert) = Unit {0}
 HasPrefix (Item delimiter number width task) = 0 < width
-HasPrefix (Footnote label old size) = Unit {0}
 HasPrefix (ListDefinition width) = 0 < width
+HasPrefix _ = Unit {0}
 
 wide-inside : (width : ℕ) (r s : Row) → 0 < width → IsLine r → (if is_blank_line r || nat_le width (indent_of r) then Some (without width r) else None) ≡ Some s → IsInside s
 wide-inside width r s lt h e = go _ e
@@ -167,16 +166,13 @@ insides-inside k first more w lt h hs = each-unless IsInside (is_alert k) (enter
 
 -- a beginning that is not a metadata block
 abbrev IsOther : Opening → Type 0
-IsOther Blank = Unit {0}
-IsOther (Nests k) = Unit {0}
 IsOther (Takes leaf n) = is_metadata leaf ≡ false
-IsOther Plain = Unit {0}
+IsOther _ = Unit {0}
 
 other_or : (x y : Opening) → IsOther x → IsOther y → IsOther (or_else x y)
-other_or Blank y p q = tt
-other_or (Nests k) y p q = tt
 other_or (Takes leaf n) y p q = p
 other_or Plain y p q = q
+other_or _ y p q = tt
 
 other_if : (b : Bool) (x y : Opening) → IsOther x → IsOther y → IsOther (if b then x else y)
 other_if true x y p q = p
@@ -273,10 +269,9 @@ module _ (options : Options) where
       text false = tt
 
   wide-prefix : (k : Container) (r : Row) → indent_of r < marker_width k r → HasPrefix k
-  wide-prefix (BlockQuote alert) r lt = tt
   wide-prefix (Item delimiter number width task) r lt = omega (arith, lt)
-  wide-prefix (Footnote label old size) r lt = tt
   wide-prefix (ListDefinition width) r lt = omega (arith, lt)
+  wide-prefix _ r lt = tt
 
   -- the lines inside a container, of which the first begins it
   contents : (k : Container) (place : Place) (first : Row) (more ahead : List Row) → opens_at options place first ahead ≡ Nests k → IsLine first → Each IsLine more → Each IsLine (insides k first more) × Each IsInside (insides k first more)

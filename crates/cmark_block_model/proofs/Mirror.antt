@@ -111,34 +111,21 @@ table_leaf columns [] = InTable columns most_filled false
 table_leaf columns (delimiter ∷ rows) = InTable columns (cells_left columns most_filled rows) true
 
 abbrev pub leaf_left : Leaf → (had : List Row) → (left : ℕ) → OpenLeaf
-leaf_left ThematicBreak had left = Closed
-leaf_left (AtxHeading level) had left = Closed
-leaf_left IndentedCode had left = Closed
-leaf_left (FencedCode fence) had left = Closed
-leaf_left (HtmlBlock kind) had left = Closed
-leaf_left (MetadataBlock kind) had left = Closed
 leaf_left (LinkDefinition definition) had left = InDefinition left
 leaf_left (Table alignments) had left = table_leaf (length alignments) had
+leaf_left _ had left = Closed
 
 -- how many lines the leaf takes is looked up ahead
 abbrev pub is_looked_up : Leaf → Bool
-is_looked_up ThematicBreak = false
-is_looked_up (AtxHeading level) = false
-is_looked_up IndentedCode = false
-is_looked_up (FencedCode fence) = false
-is_looked_up (HtmlBlock kind) = false
-is_looked_up (MetadataBlock kind) = false
 is_looked_up (LinkDefinition definition) = true
 is_looked_up (Table alignments) = true
+is_looked_up _ = false
 
 -- the bare flag; it is that of the container around if nothing is open
 abbrev pub bare_at : Bool → OpenLines → Bool
 bare_at bare (Between closed) = bare
-bare_at bare AfterTag = false
-bare_at bare (InParagraph closed first more) = false
-bare_at bare (InLeaf closed leaf first had left) = false
-bare_at bare (InVerbatim closed verbatim first had waiting) = false
 bare_at bare (InContainer closed k first more inside) = bare_at (bare_after (is_bare_start k first) more) inside
+bare_at bare _ = false
 
 -- no line of these closes the block
 abbrev pub AreBefore : (closes : Row → Bool) → List Row → Type 0
@@ -175,14 +162,8 @@ no-row options columns cells r ahead e = go (is_row options columns cells r) ref
     go false is q = is
 
 abbrev pub FitsLeaf : Options → Leaf → Row → (had : List Row) → (left : ℕ) → (ahead : List Row) → ℕ → Type 0
-FitsLeaf options ThematicBreak first had left ahead n = Unit {0}
-FitsLeaf options (AtxHeading level) first had left ahead n = Unit {0}
-FitsLeaf options IndentedCode first had left ahead n = Unit {0}
-FitsLeaf options (FencedCode fence) first had left ahead n = Unit {0}
-FitsLeaf options (HtmlBlock kind) first had left ahead n = Unit {0}
-FitsLeaf options (MetadataBlock kind) first had left ahead n = Unit {0}
-FitsLeaf options (LinkDefinition definition) first had left ahead n = Unit {0}
 FitsLeaf options (Table alignments) first had left ahead n = (last_line_end first had ≡ n) × (left ≡ lines_left options (length alignments) had ahead)
+FitsLeaf options _ first had left ahead n = Unit {0}
 
 abbrev pub Fits : Options → Bool → OpenLines → List Row → ℕ → Type 0
 Fits options bare (Between closed) ahead n = Unit {0}
@@ -306,13 +287,9 @@ module _ (text : List ℕ) (options : Options) (lookup : Lookup) where
   container_at k first l = record { container = k; around = (standing k first l).inner }
 
   abbrev pub containers_at : OpenLines → Level → List OpenContainer
-  containers_at (Between closed) l = []
-  containers_at AfterTag l = []
-  containers_at (InParagraph closed first more) l = []
-  containers_at (InLeaf closed leaf first had left) l = []
-  containers_at (InVerbatim closed verbatim first had waiting) l = []
   containers_at (InContainer closed k first more inside) l =
       container_at k first (replay text options lookup closed l) ∷ containers_at inside (entered k first (replay text options lookup closed l))
+  containers_at _ l = []
 
   abbrev pub pass_at : OpenLines → List Row → Level → List OpenContainer → Bool → ℕ → Pass
   pass_at o ahead l outer bare n = pass_with (inner_at o ahead l) (outer ++ containers_at o l) (bare_at bare o) (leaf_at o) n

@@ -128,14 +128,8 @@ module _ (text : List ℕ) (options : Options) (lookup : Lookup) where
   leaf_drawing (Table alignments) first more d = drawn (leaf_then text options lookup (Table alignments) first more document.Nil) d
 
   abbrev pub leaf_noted : Leaf → Row → List Row → Noted → Noted
-  leaf_noted ThematicBreak first more n = n
-  leaf_noted (AtxHeading level) first more n = n
-  leaf_noted IndentedCode first more n = n
-  leaf_noted (FencedCode fence) first more n = n
-  leaf_noted (HtmlBlock kind) first more n = n
-  leaf_noted (MetadataBlock kind) first more n = n
-  leaf_noted (Table alignments) first more n = n
   leaf_noted (LinkDefinition definition) first more n = record n { references = n.references ++ reference_of lookup definition (start_of first) (last_content_end first more) ∷ [] }
+  leaf_noted _ first more n = n
 
   abbrev pub leaf_level : Leaf → Row → List Row → Level → Level
   leaf_level leaf first more l =

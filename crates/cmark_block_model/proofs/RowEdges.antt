@@ -287,30 +287,21 @@ module _ (E : ℕ → Type 0) where
 
   -- a heading's opening sequence is ASCII too
   abbrev pub LeafFront : Row → Leaf → Type 0
-  LeafFront r ThematicBreak = Unit {0}
   LeafFront r (AtxHeading level) = Front IsAsciiColumn level (without_indent r.columns)
-  LeafFront r IndentedCode = Unit {0}
-  LeafFront r (FencedCode fence) = Unit {0}
-  LeafFront r (HtmlBlock kind) = Unit {0}
-  LeafFront r (LinkDefinition definition) = Unit {0}
-  LeafFront r (MetadataBlock kind) = Unit {0}
-  LeafFront r (Table alignments) = Unit {0}
+  LeafFront r _ = Unit {0}
 
   abbrev OpeningFront : Row → Opening → Type 0
-  OpeningFront r Blank = Unit {0}
   OpeningFront r (Nests k) = MarkerGood k r × GoodRow (without (width_of k r) r)
   OpeningFront r (Takes leaf n) = LeafFront r leaf
-  OpeningFront r Plain = Unit {0}
+  OpeningFront r _ = Unit {0}
 
   front_if : (r : Row) (b : Bool) (x y : Opening) → OpeningFront r x → OpeningFront r y → OpeningFront r (if b then x else y)
   front_if r true x y p q = p
   front_if r false x y p q = q
 
   front_or : (r : Row) (x y : Opening) → OpeningFront r x → OpeningFront r y → OpeningFront r (or_else x y)
-  front_or r Blank y p q = p
-  front_or r (Nests k) y p q = p
-  front_or r (Takes leaf n) y p q = p
   front_or r Plain y p q = q
+  front_or r _ y p q = p
 
   front_nests : (r : Row) (o : Option Container) → SomeGood r o → OpeningFront r (nests_if o)
   front_nests r (Some k) f = f

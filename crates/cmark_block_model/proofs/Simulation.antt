@@ -38,14 +38,8 @@ module _ (text : List ℕ) (options : Options) (lookup : Lookup) where
       table columns (r ∷ rs) = refl
 
       go : (leaf : Leaf) → takes_lazy (leaf_left leaf had left) ≡ allows_lazy (after_leaf leaf)
-      go ThematicBreak = refl
-      go (AtxHeading level) = refl
-      go IndentedCode = refl
-      go (FencedCode fence) = refl
-      go (HtmlBlock kind) = refl
-      go (LinkDefinition definition) = refl
-      go (MetadataBlock kind) = refl
       go (Table alignments) = table (length alignments) had
+      go _ = refl
   takes-lazy (InVerbatim closed verbatim first had waiting) = go verbatim
     where
       go : (v : Verbatim) → takes_lazy (verbatim_leaf text options lookup v first had waiting) ≡ false
@@ -59,10 +53,8 @@ module _ (text : List ℕ) (options : Options) (lookup : Lookup) where
   bare-flag : (o : OpenLines) (b : Bool) (ahead : List Row) (n : ℕ) (l : Level) → Fits options b o ahead n → (bare_at b o && is_last text options lookup (containers_at text options lookup o l)) ≡ b
   bare-flag (Between closed) b ahead n l f = and-true b
   bare-flag AfterTag b ahead n l f = sym f
-  bare-flag (InParagraph closed first more) b ahead n l f = sym f.0
-  bare-flag (InLeaf closed leaf first had left) b ahead n l f = sym f.0
-  bare-flag (InVerbatim closed verbatim first had waiting) b ahead n l f = sym f.0
   bare-flag (InContainer closed k first more inside) b ahead n l f = and-false (bare_at (bare_after (is_bare_start k first) more) inside) ∙ sym f.0
+  bare-flag _ b ahead n l f = sym f.0
 
   abbrev pub fed : LineKeepers text options lookup → List Row → Pass → Pass
   fed w next p = line_with text options lookup w.missed w.kept w.left next p

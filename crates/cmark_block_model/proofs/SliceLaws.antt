@@ -159,14 +159,13 @@ module _ (text : List ℕ) where
   rows-sliced columns (r ∷ rs) = (tt, row-sliced columns r, rows-sliced columns rs)
 
   leaf-sliced : (options : Options) (lookup : Lookup) (leaf : Leaf) (first : Row) (more : List Row) (after : BlockDocument) → HasSlices text after → HasSlices text (leaf_then text options lookup leaf first more after)
-  leaf-sliced options lookup ThematicBreakLeaf first more after a = (tt, tt, a)
   leaf-sliced options lookup (AtxHeadingLeaf level) first more after a = (tt, stretch-sliced (first_place first.content_end (after_hashes level first)) (end_place (first_place first.content_end (after_hashes level first)) (heading_columns options.heading_attributes level first)) Nil tt, a)
   leaf-sliced options lookup IndentedCodeLeaf first more after a = (tt, texts-sliced (code_pieces text 4 (first ∷ more)) Nil (code-sliced 4 (first ∷ more)) tt, a)
   leaf-sliced options lookup (FencedCodeLeaf fence) first more after a = (tt, texts-sliced (code_pieces text fence.indented (fenced_lines fence more)) Nil (code-sliced fence.indented (fenced_lines fence more)) tt, a)
   leaf-sliced options lookup (HtmlBlockLeaf kind) first more after a = (tt, html-sliced (first ∷ more), a)
-  leaf-sliced options lookup (LinkDefinitionLeaf definition) first more after a = (tt, tt, a)
   leaf-sliced options lookup (MetadataBlockLeaf kind) first more after a = (tt, texts-sliced (code_pieces text 0 (lines_before (ends_metadata kind) more)) Nil (code-sliced 0 (lines_before (ends_metadata kind) more)) tt, a)
   leaf-sliced options lookup (TableLeaf alignments) first more after a = (tt, (tt, row-sliced (length alignments) first, rows-sliced (length alignments) (drop 1 more)), a)
+  leaf-sliced options lookup _ first more after a = (tt, tt, a)
 
   list-slice : (delimiter : ℕ) (number : Option ℕ) (tight : Bool) (start end : ℕ) → IsSlice text (list_kind delimiter number tight) start end
   list-slice delimiter number tight start end = go (delimiter == definition_delimiter)

@@ -12,18 +12,15 @@ pub data Stand : Type 0 where
 
 abbrev pub has_of : Stand → Bool
 has_of First = false
-has_of Following = true
-has_of (InList o) = true
+has_of _ = true
 
 abbrev pub front_of : Stand → Bool
 front_of First = true
-front_of Following = false
-front_of (InList o) = false
+front_of _ = false
 
 abbrev pub list_of : Stand → Option OpenList
-list_of First = None
-list_of Following = None
 list_of (InList o) = Some o
+list_of _ = None
 
 abbrev pub before_of : Stand → Before
 before_of First = Marker
@@ -31,9 +28,8 @@ before_of Following = Other
 before_of (InList o) = ItemWith o.delimiter
 
 abbrev pub delimiter_of : Stand → Option ℕ
-delimiter_of First = None
-delimiter_of Following = None
 delimiter_of (InList o) = Some o.delimiter
+delimiter_of _ = None
 
 abbrev pub level_of : Stand → Drawing → (blank parted : Bool) → Noted → Level
 level_of stand d blank parted noted = record {

@@ -31,13 +31,7 @@ and-second false b e = absurd (true≢false (sym e))
 -- of a leaf with these lines: a table's head has a cell for each column, and in its rows are few filled in
 abbrev pub LeafFilled : Leaf → Row → List Row → Type 0
 LeafFilled (Table alignments) first more = (count_missing (length alignments) first ≡ 0) × (filled (length alignments) (drop 1 more) ≤ 262144)
-LeafFilled ThematicBreak first more = Unit {0}
-LeafFilled (AtxHeading level) first more = Unit {0}
-LeafFilled IndentedCode first more = Unit {0}
-LeafFilled (FencedCode fence) first more = Unit {0}
-LeafFilled (HtmlBlock kind) first more = Unit {0}
-LeafFilled (LinkDefinition definition) first more = Unit {0}
-LeafFilled (MetadataBlock kind) first more = Unit {0}
+LeafFilled _ first more = Unit {0}
 
 module _ (options : Options) where
   rows-filled : (columns left : ℕ) (ahead : List Row) → filled columns (take (count_rows options columns left ahead) ahead) ≤ left
@@ -54,29 +48,19 @@ module _ (options : Options) where
     abbrev LeafFills : ℕ → Leaf → Type 0
     LeafFills n (Table alignments) =
         (count_missing (length alignments) r ≡ 0) × (filled (length alignments) (take (n - 1) (drop 1 ahead)) ≤ most_filled) × (n ≡ suc (count_rows options (length alignments) most_filled (drop 1 ahead)))
-    LeafFills n ThematicBreak = Unit {0}
-    LeafFills n (AtxHeading level) = Unit {0}
-    LeafFills n IndentedCode = Unit {0}
-    LeafFills n (FencedCode fence) = Unit {0}
-    LeafFills n (HtmlBlock kind) = Unit {0}
-    LeafFills n (LinkDefinition definition) = Unit {0}
-    LeafFills n (MetadataBlock kind) = Unit {0}
+    LeafFills n _ = Unit {0}
 
     abbrev Fills : Opening → Type 0
-    Fills Blank = Unit {0}
-    Fills (Nests k) = Unit {0}
     Fills (Takes leaf n) = LeafFills n leaf
-    Fills Plain = Unit {0}
+    Fills _ = Unit {0}
 
     fills_if : (b : Bool) (x y : Opening) → Fills x → Fills y → Fills (if b then x else y)
     fills_if true x y p q = p
     fills_if false x y p q = q
 
     fills_or : (x y : Opening) → Fills x → Fills y → Fills (or_else x y)
-    fills_or Blank y p q = p
-    fills_or (Nests k) y p q = p
-    fills_or (Takes leaf n) y p q = p
     fills_or Plain y p q = q
+    fills_or _ y p q = p
 
     fills_nests : (o : Option Container) → Fills (nests_if o)
     fills_nests (Some k) = tt

@@ -102,18 +102,17 @@ rows-rectangular text columns [] = tt
 rows-rectangular text columns (r ∷ rs) = (tt, row-rectangular text columns r, rows-rectangular text columns rs)
 
 leaf-rectangular : (text : List ℕ) (options : Options) (lookup : Lookup) (leaf : Leaf) (first : Row) (more : List Row) (after : BlockDocument) → HasRectangularTables after → HasRectangularTables (leaf_then text options lookup leaf first more after)
-leaf-rectangular text options lookup ThematicBreakLeaf first more after h = (tt, tt, h)
 leaf-rectangular text options lookup (AtxHeadingLeaf level) first more after h =
     (tt, stretch-rectangular text (first_place first.content_end (after_hashes level first)) (end_place (first_place first.content_end (after_hashes level first)) (heading_columns options.heading_attributes level first)) Nil tt, h)
 leaf-rectangular text options lookup IndentedCodeLeaf first more after h = (tt, texts-rectangular (code_pieces text 4 (first ∷ more)) Nil tt, h)
 leaf-rectangular text options lookup (FencedCodeLeaf fence) first more after h = (tt, texts-rectangular (code_pieces text fence.indented (fenced_lines fence more)) Nil tt, h)
 leaf-rectangular text options lookup (HtmlBlockLeaf kind) first more after h = (tt, html-rectangular text (first ∷ more), h)
-leaf-rectangular text options lookup (LinkDefinitionLeaf definition) first more after h = (tt, tt, h)
 leaf-rectangular text options lookup (MetadataBlockLeaf kind) first more after h = (tt, texts-rectangular (code_pieces text 0 (lines_before (ends_metadata kind) more)) Nil tt, h)
 leaf-rectangular text options lookup (TableLeaf alignments) first more after h = (
   (refl, row-counted text (length alignments) first, rows-counted text (length alignments) (drop 1 more)),
   (tt, row-rectangular text (length alignments) first, rows-rectangular text (length alignments) (drop 1 more)),
   h,
+leaf-rectangular text options lookup _ first more after h = (tt, tt, h)
 )
 
 task-rectangular : (task : Option Bool) (start end : ℕ) (inside : BlockDocument) → HasRectangularTables inside → HasRectangularTables (task_then task start end inside)

@@ -32,10 +32,8 @@ Tells r (Takes (MetadataBlock kind) n) = Unit {0}
 Tells r (Takes (Table alignments) n) = Unit {0}
 
 tells-or : (r : Row) (x y : Opening) → Tells r x → Tells r y → Tells r (or_else x y)
-tells-or r Blank y p q = p
-tells-or r (Nests k) y p q = p
-tells-or r (Takes leaf n) y p q = p
 tells-or r Plain y p q = q
+tells-or r _ y p q = p
 
 tells-nests : (r : Row) (o : Option Container) → SomeUnmarked o → Tells r (nests_if o)
 tells-nests r (Some k) h = h

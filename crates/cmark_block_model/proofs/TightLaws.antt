@@ -91,14 +91,13 @@ rows_tight text tight columns [] = tt
 rows_tight text tight columns (r ∷ rs) = (tt, row_tight text false columns r, rows_tight text tight columns rs)
 
 leaf_tight : (text : List ℕ) (options : Options) (lookup : Lookup) (tight : Bool) (leaf : Leaf) (first : Row) (more : List Row) (after : BlockDocument) → HasTightParagraphs tight after → HasTightParagraphs tight (leaf_then text options lookup leaf first more after)
-leaf_tight text options lookup tight ThematicBreakLeaf first more after h = (tt, tt, h)
 leaf_tight text options lookup tight (AtxHeadingLeaf level) first more after h = (tt, stretch_tight false text (first_place first.content_end (after_hashes level first)) (end_place (first_place first.content_end (after_hashes level first)) (heading_columns options.heading_attributes level first)) Nil tt, h)
 leaf_tight text options lookup tight IndentedCodeLeaf first more after h = (tt, texts_tight false (code_pieces text 4 (first ∷ more)) Nil tt, h)
 leaf_tight text options lookup tight (FencedCodeLeaf fence) first more after h = (tt, texts_tight false (code_pieces text fence.indented (fenced_lines fence more)) Nil tt, h)
 leaf_tight text options lookup tight (HtmlBlockLeaf kind) first more after h = (tt, html_tight text false (first ∷ more), h)
-leaf_tight text options lookup tight (LinkDefinitionLeaf definition) first more after h = (tt, tt, h)
 leaf_tight text options lookup tight (MetadataBlockLeaf kind) first more after h = (tt, texts_tight false (code_pieces text 0 (lines_before (ends_metadata kind) more)) Nil tt, h)
 leaf_tight text options lookup tight (TableLeaf alignments) first more after h = (tt, (tt, row_tight text false (length alignments) first, rows_tight text false (length alignments) (drop 1 more)), h)
+leaf_tight text options lookup tight _ first more after h = (tt, tt, h)
 
 module _ (text : List ℕ) (options : Options) (lookup : Lookup) where
   -- if the list continues, the next node is its rest
@@ -152,8 +151,6 @@ module _ (text : List ℕ) (options : Options) (lookup : Lookup) where
 
       other : BlockDocument
       other = Node (node (paragraph_kind direct) (start_of first) (last_line_end first more)) (paragraph_tokens text first more) (document_of text options lookup direct None after)
-  rest_of direct tight delimiter (SetextHeading level first more underline after) e = absurd (true≢false (sym e))
-  rest_of direct tight delimiter (LeafBlock leaf first more after) e = absurd (true≢false (sym e))
   rest_of direct tight delimiter (ContainerBlock (BlockQuote alert) first more inside after) e = absurd (true≢false (sym e))
   rest_of direct tight delimiter (ContainerBlock (Footnote label old size) first more inside after) e = absurd (true≢false (sym e))
   rest_of direct tight delimiter (ContainerBlock (Item m number width task) first more inside after) e =
@@ -164,6 +161,7 @@ module _ (text : List ℕ) (options : Options) (lookup : Lookup) where
       let t : tight_after (Some (record { delimiter = delimiter; tight = tight })) definition_delimiter inside after ≡ tight = if_true (delimiter == definition_delimiter) tight (is_tight definition_delimiter inside after) (eqb_sym definition_delimiter delimiter e) in
       subst (λ z. Rest z (document_of text options lookup direct (Some (record { delimiter = delimiter; tight = tight })) (ContainerBlock (ListDefinition width) first more inside after))) t
       (rest_of_item (goes_on definition_delimiter after) _ (tight_after (Some (record { delimiter = delimiter; tight = tight })) definition_delimiter inside after) _ _ _ (λ z. refl))
+  rest_of direct tight delimiter _ e = absurd (true≢false (sym e))
 
   item_tight : (direct joins : Bool) (list : BlockKind) (tight within : Bool) (item : BlockNode) (inside after : BlockDocument) → IsElement direct list → ((z : Bool) → tight_within z list ≡ tight) → IsElement tight item.kind → tight_within tight item.kind ≡ within
       → (joins ≡ true → Rest tight after) → HasTightParagraphs within inside → HasTightParagraphs direct after → HasTightParagraphs direct (item_then joins list item inside after)
@@ -192,15 +190,13 @@ module _ (text : List ℕ) (options : Options) (lookup : Lookup) where
 
   -- a definition follows a title, and continues its list
   pub title_goes_on : (b : Blocks) → is_title b ≡ true → goes_on definition_delimiter b ≡ true
-  title_goes_on NoBlocks e = e
   title_goes_on (BlankLine line after) e = title_goes_on after e
   title_goes_on (ParagraphBlock first more after) e = absurd (true≢false (sym e))
-  title_goes_on (SetextHeading level first more underline after) e = e
-  title_goes_on (LeafBlock leaf first more after) e = e
   title_goes_on (ContainerBlock (BlockQuote alert) first more inside after) e = e
   title_goes_on (ContainerBlock (Footnote label old size) first more inside after) e = e
   title_goes_on (ContainerBlock (Item delimiter number width task) first more inside after) e = absurd (true≢false (sym e))
   title_goes_on (ContainerBlock (ListDefinition width) first more inside after) e = refl
+  title_goes_on _ e = e
 
   pub document-tight : (direct : Bool) (before : Option ListBefore) (b : Blocks) → HasTightParagraphs direct (document_of text options lookup direct before b)
   document-tight direct before NoBlocks = tt

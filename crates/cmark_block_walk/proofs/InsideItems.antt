@@ -22,35 +22,11 @@ use Rattle.cmark_block_walk.proofs.Paths.{within-kind, spelt-kind}
 use Rattle.cmark_block_walk.specs.Walking.{Drawn, is_list, task_body}
 
 kind-drawn : (text : List ℕ) (texts : List CowStr) (start end : ℕ) (b : ItemBody) (kind : BlockKind) → kind_over text texts start end (shape b) ≡ Some kind → is_definition kind ≡ false
-kind-drawn text texts start end (body.MaybeEmphasis x0 x1 x2) kind e = absurd (let q : None ≡ Some kind = e in cc)
-kind-drawn text texts start end (body.MaybeMath x0 x1 x2) kind e = absurd (let q : None ≡ Some kind = e in cc)
-kind-drawn text texts start end (body.MaybeSmartQuote x0 x1 x2) kind e = absurd (let q : None ≡ Some kind = e in cc)
-kind-drawn text texts start end (body.MaybeCode x0 x1) kind e = absurd (let q : None ≡ Some kind = e in cc)
-kind-drawn text texts start end body.MaybeHtml kind e = absurd (let q : None ≡ Some kind = e in cc)
-kind-drawn text texts start end body.MaybeLinkOpen kind e = absurd (let q : None ≡ Some kind = e in cc)
-kind-drawn text texts start end (body.MaybeLinkClose x0) kind e = absurd (let q : None ≡ Some kind = e in cc)
-kind-drawn text texts start end body.MaybeImage kind e = absurd (let q : None ≡ Some kind = e in cc)
-kind-drawn text texts start end body.Emphasis kind e = absurd (let q : None ≡ Some kind = e in cc)
-kind-drawn text texts start end body.Strong kind e = absurd (let q : None ≡ Some kind = e in cc)
-kind-drawn text texts start end body.Strikethrough kind e = absurd (let q : None ≡ Some kind = e in cc)
-kind-drawn text texts start end body.Superscript kind e = absurd (let q : None ≡ Some kind = e in cc)
-kind-drawn text texts start end body.Subscript kind e = absurd (let q : None ≡ Some kind = e in cc)
-kind-drawn text texts start end body.Highlight kind e = absurd (let q : None ≡ Some kind = e in cc)
-kind-drawn text texts start end (body.Math x0 x1) kind e = absurd (let q : None ≡ Some kind = e in cc)
-kind-drawn text texts start end (body.Code x0) kind e = absurd (let q : None ≡ Some kind = e in cc)
-kind-drawn text texts start end (body.FootnoteReference x0) kind e = absurd (let q : None ≡ Some kind = e in cc)
-kind-drawn text texts start end (body.OwnedInlineHtml x0) kind e = absurd (let q : None ≡ Some kind = e in cc)
 kind-drawn text texts start end (body.SynthesizeText x0) kind e = ap is_definition (sym (spelt-kind document.OwnedText (text_at texts x0.0) kind e).1)
-kind-drawn text texts start end (body.Link x0) kind e = absurd (let q : None ≡ Some kind = e in cc)
-kind-drawn text texts start end (body.Image x0) kind e = absurd (let q : None ≡ Some kind = e in cc)
 kind-drawn text texts start end (body.TaskListMarker x0) kind e = ap is_definition (sym (same_Some (document.TaskMarker x0) kind e))
-kind-drawn text texts start end body.InlineHtml kind e = absurd (let q : None ≡ Some kind = e in cc)
 kind-drawn text texts start end (body.SynthesizeChar x0) kind e = ap is_definition (sym (same_Some (document.OwnedText (encode_utf8 x0)) kind e))
 kind-drawn text texts start end body.Html kind e = ap is_definition (sym (same_Some (document.Html (slice text start end)) kind e))
 kind-drawn text texts start end (body.Text x0) kind e = ap is_definition (sym (same_Some (document.Text (slice text start end)) kind e))
-kind-drawn text texts start end body.SoftBreak kind e = absurd (let q : None ≡ Some kind = e in cc)
-kind-drawn text texts start end (body.HardBreak x0) kind e = absurd (let q : None ≡ Some kind = e in cc)
-kind-drawn text texts start end body.Root kind e = absurd (let q : None ≡ Some kind = e in cc)
 kind-drawn text texts start end body.Paragraph kind e = ap is_definition (sym (same_Some document.Paragraph kind e))
 kind-drawn text texts start end (body.ParagraphOf x0) kind e = ap is_definition (sym (same_Some document.Paragraph kind e))
 kind-drawn text texts start end body.TightParagraph kind e = ap is_definition (sym (same_Some document.TightParagraph kind e))
@@ -66,7 +42,6 @@ kind-drawn text texts start end (body.ListItem x0) kind e = ap is_definition (sy
 kind-drawn text texts start end (body.FootnoteDefinition x0) kind e = ap is_definition (sym (spelt-kind document.FootnoteDefinition (text_at texts x0.0) kind e).1)
 kind-drawn text texts start end (body.MetadataBlock x0) kind e = ap is_definition (sym (same_Some (document.MetadataBlock (shown_metadata_block_kind x0)) kind e))
 kind-drawn text texts start end (body.DefinitionList x0) kind e = ap is_definition (sym (same_Some (document.DefinitionList (is_tight x0)) kind e))
-kind-drawn text texts start end body.MaybeDefinitionListTitle kind e = absurd (let q : None ≡ Some kind = e in cc)
 kind-drawn text texts start end body.DefinitionListTitle kind e = ap is_definition (sym (same_Some document.DefinitionListTitle kind e))
 kind-drawn text texts start end (body.DefinitionListTitleOf x0) kind e = ap is_definition (sym (same_Some document.DefinitionListTitle kind e))
 kind-drawn text texts start end (body.DefinitionListDefinition x0) kind e = ap is_definition (sym (same_Some document.DefinitionListDefinition kind e))
@@ -74,6 +49,7 @@ kind-drawn text texts start end (body.Table x0) kind e = ap is_definition (sym (
 kind-drawn text texts start end body.TableHead kind e = ap is_definition (sym (same_Some document.TableHead kind e))
 kind-drawn text texts start end body.TableRow kind e = ap is_definition (sym (same_Some document.TableRow kind e))
 kind-drawn text texts start end body.TableCell kind e = ap is_definition (sym (same_Some document.TableCell kind e))
+kind-drawn text texts start end _ kind e = absurd (let q : None ≡ Some kind = e in cc)
 
 pub not-definition : (text : List ℕ) (texts : List CowStr) (item : Item) (node : BlockNode) → Drawn text texts item node → is_definition node.kind ≡ false
 not-definition text texts item node d =
@@ -85,35 +61,11 @@ task_kind (TaskMarker is_checked) = Some is_checked
 task_kind _ = None
 
 kind-task : (text : List ℕ) (texts : List CowStr) (start end : ℕ) (b : ItemBody) (kind : BlockKind) → kind_over text texts start end (shape b) ≡ Some kind → task_kind kind ≡ task_body b
-kind-task text texts start end (body.MaybeEmphasis x0 x1 x2) kind e = absurd (let q : None ≡ Some kind = e in cc)
-kind-task text texts start end (body.MaybeMath x0 x1 x2) kind e = absurd (let q : None ≡ Some kind = e in cc)
-kind-task text texts start end (body.MaybeSmartQuote x0 x1 x2) kind e = absurd (let q : None ≡ Some kind = e in cc)
-kind-task text texts start end (body.MaybeCode x0 x1) kind e = absurd (let q : None ≡ Some kind = e in cc)
-kind-task text texts start end body.MaybeHtml kind e = absurd (let q : None ≡ Some kind = e in cc)
-kind-task text texts start end body.MaybeLinkOpen kind e = absurd (let q : None ≡ Some kind = e in cc)
-kind-task text texts start end (body.MaybeLinkClose x0) kind e = absurd (let q : None ≡ Some kind = e in cc)
-kind-task text texts start end body.MaybeImage kind e = absurd (let q : None ≡ Some kind = e in cc)
-kind-task text texts start end body.Emphasis kind e = absurd (let q : None ≡ Some kind = e in cc)
-kind-task text texts start end body.Strong kind e = absurd (let q : None ≡ Some kind = e in cc)
-kind-task text texts start end body.Strikethrough kind e = absurd (let q : None ≡ Some kind = e in cc)
-kind-task text texts start end body.Superscript kind e = absurd (let q : None ≡ Some kind = e in cc)
-kind-task text texts start end body.Subscript kind e = absurd (let q : None ≡ Some kind = e in cc)
-kind-task text texts start end body.Highlight kind e = absurd (let q : None ≡ Some kind = e in cc)
-kind-task text texts start end (body.Math x0 x1) kind e = absurd (let q : None ≡ Some kind = e in cc)
-kind-task text texts start end (body.Code x0) kind e = absurd (let q : None ≡ Some kind = e in cc)
-kind-task text texts start end (body.FootnoteReference x0) kind e = absurd (let q : None ≡ Some kind = e in cc)
-kind-task text texts start end (body.OwnedInlineHtml x0) kind e = absurd (let q : None ≡ Some kind = e in cc)
 kind-task text texts start end (body.SynthesizeText x0) kind e = ap task_kind (sym (spelt-kind document.OwnedText (text_at texts x0.0) kind e).1)
-kind-task text texts start end (body.Link x0) kind e = absurd (let q : None ≡ Some kind = e in cc)
-kind-task text texts start end (body.Image x0) kind e = absurd (let q : None ≡ Some kind = e in cc)
 kind-task text texts start end (body.TaskListMarker x0) kind e = ap task_kind (sym (same_Some (document.TaskMarker x0) kind e))
-kind-task text texts start end body.InlineHtml kind e = absurd (let q : None ≡ Some kind = e in cc)
 kind-task text texts start end (body.SynthesizeChar x0) kind e = ap task_kind (sym (same_Some (document.OwnedText (encode_utf8 x0)) kind e))
 kind-task text texts start end body.Html kind e = ap task_kind (sym (same_Some (document.Html (slice text start end)) kind e))
 kind-task text texts start end (body.Text x0) kind e = ap task_kind (sym (same_Some (document.Text (slice text start end)) kind e))
-kind-task text texts start end body.SoftBreak kind e = absurd (let q : None ≡ Some kind = e in cc)
-kind-task text texts start end (body.HardBreak x0) kind e = absurd (let q : None ≡ Some kind = e in cc)
-kind-task text texts start end body.Root kind e = absurd (let q : None ≡ Some kind = e in cc)
 kind-task text texts start end body.Paragraph kind e = ap task_kind (sym (same_Some document.Paragraph kind e))
 kind-task text texts start end (body.ParagraphOf x0) kind e = ap task_kind (sym (same_Some document.Paragraph kind e))
 kind-task text texts start end body.TightParagraph kind e = ap task_kind (sym (same_Some document.TightParagraph kind e))
@@ -129,7 +81,6 @@ kind-task text texts start end (body.ListItem x0) kind e = ap task_kind (sym (sa
 kind-task text texts start end (body.FootnoteDefinition x0) kind e = ap task_kind (sym (spelt-kind document.FootnoteDefinition (text_at texts x0.0) kind e).1)
 kind-task text texts start end (body.MetadataBlock x0) kind e = ap task_kind (sym (same_Some (document.MetadataBlock (shown_metadata_block_kind x0)) kind e))
 kind-task text texts start end (body.DefinitionList x0) kind e = ap task_kind (sym (same_Some (document.DefinitionList (is_tight x0)) kind e))
-kind-task text texts start end body.MaybeDefinitionListTitle kind e = absurd (let q : None ≡ Some kind = e in cc)
 kind-task text texts start end body.DefinitionListTitle kind e = ap task_kind (sym (same_Some document.DefinitionListTitle kind e))
 kind-task text texts start end (body.DefinitionListTitleOf x0) kind e = ap task_kind (sym (same_Some document.DefinitionListTitle kind e))
 kind-task text texts start end (body.DefinitionListDefinition x0) kind e = ap task_kind (sym (same_Some document.DefinitionListDefinition kind e))
@@ -137,6 +88,7 @@ kind-task text texts start end (body.Table x0) kind e = ap task_kind (sym (spelt
 kind-task text texts start end body.TableHead kind e = ap task_kind (sym (same_Some document.TableHead kind e))
 kind-task text texts start end body.TableRow kind e = ap task_kind (sym (same_Some document.TableRow kind e))
 kind-task text texts start end body.TableCell kind e = ap task_kind (sym (same_Some document.TableCell kind e))
+kind-task text texts start end _ kind e = absurd (let q : None ≡ Some kind = e in cc)
 
 pub task-drawn : (text : List ℕ) (texts : List CowStr) (item : Item) (node : BlockNode) → Drawn text texts item node → task_kind node.kind ≡ task_body item.body
 task-drawn text texts item node d =
@@ -145,29 +97,7 @@ task-drawn text texts item node d =
 -- a task marker is read as the first event of the nodes after it
 pub task-read : (tight is_checked : Bool) (kind : BlockKind) → task_kind kind ≡ Some is_checked → reads.First (TaskListMarker is_checked) ≡ read_as (kind_within tight kind)
 task-read tight is_checked (TaskMarker c) e = ap (λ z. reads.First (TaskListMarker z)) (sym (same_Some c is_checked e))
-task-read tight is_checked Paragraph e = absurd (let q : None ≡ Some is_checked = e in cc)
-task-read tight is_checked TightParagraph e = absurd (let q : None ≡ Some is_checked = e in cc)
-task-read tight is_checked (Heading level attributes) e = absurd (let q : None ≡ Some is_checked = e in cc)
-task-read tight is_checked ThematicBreak e = absurd (let q : None ≡ Some is_checked = e in cc)
-task-read tight is_checked IndentedCode e = absurd (let q : None ≡ Some is_checked = e in cc)
-task-read tight is_checked (FencedCode info) e = absurd (let q : None ≡ Some is_checked = e in cc)
-task-read tight is_checked HtmlBlock e = absurd (let q : None ≡ Some is_checked = e in cc)
-task-read tight is_checked (LinkDefinition reference) e = absurd (let q : None ≡ Some is_checked = e in cc)
-task-read tight is_checked (MetadataBlock kind) e = absurd (let q : None ≡ Some is_checked = e in cc)
-task-read tight is_checked (Table alignments) e = absurd (let q : None ≡ Some is_checked = e in cc)
-task-read tight is_checked TableHead e = absurd (let q : None ≡ Some is_checked = e in cc)
-task-read tight is_checked TableRow e = absurd (let q : None ≡ Some is_checked = e in cc)
-task-read tight is_checked TableCell e = absurd (let q : None ≡ Some is_checked = e in cc)
-task-read tight is_checked (BlockQuote alert) e = absurd (let q : None ≡ Some is_checked = e in cc)
-task-read tight is_checked (FootnoteDefinition label) e = absurd (let q : None ≡ Some is_checked = e in cc)
-task-read tight is_checked (DefinitionList z) e = absurd (let q : None ≡ Some is_checked = e in cc)
-task-read tight is_checked DefinitionListTitle e = absurd (let q : None ≡ Some is_checked = e in cc)
-task-read tight is_checked DefinitionListDefinition e = absurd (let q : None ≡ Some is_checked = e in cc)
-task-read tight is_checked (BlockList number z) e = absurd (let q : None ≡ Some is_checked = e in cc)
-task-read tight is_checked ListItem e = absurd (let q : None ≡ Some is_checked = e in cc)
-task-read tight is_checked (Text bytes) e = absurd (let q : None ≡ Some is_checked = e in cc)
-task-read tight is_checked (OwnedText bytes) e = absurd (let q : None ≡ Some is_checked = e in cc)
-task-read tight is_checked (Html bytes) e = absurd (let q : None ≡ Some is_checked = e in cc)
+task-read tight is_checked _ e = absurd (let q : None ≡ Some is_checked = e in cc)
 
 -- at a node that is not a leaf, or not an element, no paragraph, heading or title begins, but perhaps a definition list
 pub no-element : (tight : Bool) (kind : BlockKind) (titled : Bool) (other : ℕ) → is_definition kind ≡ false → (is_leaf kind ≡ false) ⊎ (None ≡ tag_in (read_as (kind_within tight kind)))
@@ -175,29 +105,12 @@ pub no-element : (tight : Bool) (kind : BlockKind) (titled : Bool) (other : ℕ)
 no-element true Paragraph titled other n e = inl refl
 no-element false Paragraph titled other n (inl l) = absurd (true≢false l)
 no-element false Paragraph titled other n (inr t) = absurd (let q : None ≡ Some _ = t in cc)
-no-element tight TightParagraph titled other n e = inl refl
 no-element tight (Heading level attributes) titled other n (inl l) = absurd (true≢false l)
 no-element tight (Heading level attributes) titled other n (inr t) = absurd (let q : None ≡ Some _ = t in cc)
 no-element tight TableCell titled other n (inl l) = absurd (true≢false l)
 no-element tight TableCell titled other n (inr t) = absurd (let q : None ≡ Some _ = t in cc)
 no-element tight (LinkDefinition reference) titled other n e = absurd (true≢false n)
-no-element tight ThematicBreak titled other n e = inl refl
-no-element tight IndentedCode titled other n e = inl refl
-no-element tight (FencedCode info) titled other n e = inl refl
-no-element tight HtmlBlock titled other n e = inl refl
-no-element tight (MetadataBlock kind) titled other n e = inl refl
-no-element tight (Table alignments) titled other n e = inl refl
-no-element tight TableHead titled other n e = inl refl
-no-element tight TableRow titled other n e = inl refl
-no-element tight (BlockQuote alert) titled other n e = inl refl
-no-element tight (FootnoteDefinition label) titled other n e = inl refl
 no-element tight (DefinitionList t) titled other n e = inr refl
 no-element tight DefinitionListTitle titled other n (inl l) = absurd (true≢false l)
 no-element tight DefinitionListTitle titled other n (inr t) = absurd (let q : None ≡ Some _ = t in cc)
-no-element tight DefinitionListDefinition titled other n e = inl refl
-no-element tight (BlockList number z) titled other n e = inl refl
-no-element tight ListItem titled other n e = inl refl
-no-element tight (TaskMarker is_checked) titled other n e = inl refl
-no-element tight (Text bytes) titled other n e = inl refl
-no-element tight (OwnedText bytes) titled other n e = inl refl
-no-element tight (Html bytes) titled other n e = inl refl
+no-element tight _ titled other n e = inl refl

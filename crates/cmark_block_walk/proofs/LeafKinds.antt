@@ -10,29 +10,7 @@ use Rattle.cmark_grammar.specs.SpanDocuments.{Segment, Content, is_leaf, is_cell
 pub leaf-within : (tight : Bool) (kind : BlockKind) → is_leaf (kind_within tight kind) ≡ is_leaf kind
 leaf-within true Paragraph = refl
 leaf-within false Paragraph = refl
-leaf-within tight TightParagraph = refl
-leaf-within tight (Heading level attributes) = refl
-leaf-within tight ThematicBreak = refl
-leaf-within tight IndentedCode = refl
-leaf-within tight (FencedCode info) = refl
-leaf-within tight HtmlBlock = refl
-leaf-within tight (MetadataBlock kind) = refl
-leaf-within tight (Table alignments) = refl
-leaf-within tight TableHead = refl
-leaf-within tight TableRow = refl
-leaf-within tight TableCell = refl
-leaf-within tight (LinkDefinition reference) = refl
-leaf-within tight (BlockQuote alert) = refl
-leaf-within tight (FootnoteDefinition label) = refl
-leaf-within tight (DefinitionList t) = refl
-leaf-within tight DefinitionListTitle = refl
-leaf-within tight DefinitionListDefinition = refl
-leaf-within tight (BlockList number t) = refl
-leaf-within tight ListItem = refl
-leaf-within tight (TaskMarker is_checked) = refl
-leaf-within tight (Text bytes) = refl
-leaf-within tight (OwnedText bytes) = refl
-leaf-within tight (Html bytes) = refl
+leaf-within tight _ = refl
 
 pub inside-leaf : (kind : BlockKind) (content : BlockDocument) (others : List Segment) → is_leaf kind ≡ true → inside_of kind content others ≡ Content (leaf_of kind content) ∷ []
 inside-leaf kind content others e = ap (λ b. if b then Content (leaf_of kind content) ∷ [] else others) e
@@ -46,26 +24,13 @@ only-leaves-inside Paragraph e = refl
 only-leaves-inside TightParagraph e = refl
 only-leaves-inside (Heading level attributes) e = refl
 only-leaves-inside ThematicBreak e = absurd (let q : Inside ≡ Alone _ = e in cc)
-only-leaves-inside IndentedCode e = absurd (let q : Inside ≡ Around _ = e in cc)
-only-leaves-inside (FencedCode info) e = absurd (let q : Inside ≡ Around _ = e in cc)
-only-leaves-inside HtmlBlock e = absurd (let q : Inside ≡ Around _ = e in cc)
-only-leaves-inside (MetadataBlock kind) e = absurd (let q : Inside ≡ Around _ = e in cc)
-only-leaves-inside (Table alignments) e = absurd (let q : Inside ≡ Around _ = e in cc)
-only-leaves-inside TableHead e = absurd (let q : Inside ≡ Around _ = e in cc)
-only-leaves-inside TableRow e = absurd (let q : Inside ≡ Around _ = e in cc)
-only-leaves-inside TableCell e = absurd (let q : Inside ≡ Around _ = e in cc)
 only-leaves-inside (LinkDefinition reference) e = absurd (let q : Inside ≡ Silent = e in cc)
-only-leaves-inside (BlockQuote alert) e = absurd (let q : Inside ≡ Around _ = e in cc)
-only-leaves-inside (FootnoteDefinition label) e = absurd (let q : Inside ≡ Around _ = e in cc)
-only-leaves-inside (DefinitionList tight) e = absurd (let q : Inside ≡ Around _ = e in cc)
 only-leaves-inside DefinitionListTitle e = refl
-only-leaves-inside DefinitionListDefinition e = absurd (let q : Inside ≡ Around _ = e in cc)
-only-leaves-inside (BlockList number tight) e = absurd (let q : Inside ≡ Around _ = e in cc)
-only-leaves-inside ListItem e = absurd (let q : Inside ≡ Around _ = e in cc)
 only-leaves-inside (TaskMarker is_checked) e = absurd (let q : Inside ≡ First _ = e in cc)
 only-leaves-inside (Text bytes) e = absurd (let q : Inside ≡ Alone _ = e in cc)
 only-leaves-inside (OwnedText bytes) e = absurd (let q : Inside ≡ Alone _ = e in cc)
 only-leaves-inside (Html bytes) e = absurd (let q : Inside ≡ Alone _ = e in cc)
+only-leaves-inside _ e = absurd (let q : Inside ≡ Around _ = e in cc)
 
 -- whether a list is tight changes no stretch of a leaf
 settled-stretches : (tight : Bool) (content : BlockDocument) → stretches_of (settled tight content) ≡ stretches_of content
@@ -76,29 +41,7 @@ settled-stretches tight (Node node inside after) = ap (λ (more : List Stretch).
 cell-within : (tight : Bool) (kind : BlockKind) → is_cell (kind_within tight kind) ≡ is_cell kind
 cell-within true Paragraph = refl
 cell-within false Paragraph = refl
-cell-within tight TightParagraph = refl
-cell-within tight (Heading level attributes) = refl
-cell-within tight ThematicBreak = refl
-cell-within tight IndentedCode = refl
-cell-within tight (FencedCode info) = refl
-cell-within tight HtmlBlock = refl
-cell-within tight (MetadataBlock kind) = refl
-cell-within tight (Table alignments) = refl
-cell-within tight TableHead = refl
-cell-within tight TableRow = refl
-cell-within tight TableCell = refl
-cell-within tight (LinkDefinition reference) = refl
-cell-within tight (BlockQuote alert) = refl
-cell-within tight (BlockList number t) = refl
-cell-within tight ListItem = refl
-cell-within tight (TaskMarker is_checked) = refl
-cell-within tight (FootnoteDefinition label) = refl
-cell-within tight (DefinitionList t) = refl
-cell-within tight DefinitionListTitle = refl
-cell-within tight DefinitionListDefinition = refl
-cell-within tight (Text bytes) = refl
-cell-within tight (OwnedText bytes) = refl
-cell-within tight (Html bytes) = refl
+cell-within tight _ = refl
 
 pub settled-leaf : (around : Bool) (kind : BlockKind) (tight : Bool) (content : BlockDocument) → leaf_of (kind_within around kind) (settled tight content) ≡ leaf_of kind content
 settled-leaf around kind tight content =

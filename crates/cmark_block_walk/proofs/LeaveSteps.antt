@@ -89,39 +89,24 @@ stage-none stage.Following here e s = absurd (subst (IsStaged stage.Following) e
 -- the end of a node
 pub leaving-some : (end : TagEnd) (R : Reads) (node : BlockNode) → Some end ≡ end_in R → leaving R node ≡ Given (over node (event.End end)) ∷ []
 leaving-some end (reads.Around tag) node e = ap (λ x. Given (over node (event.End x)) ∷ []) (sym (same_Some end (end_of tag) e))
-leaving-some end reads.Inside node e = absurd (let q : Some end ≡ None = e in cc)
-leaving-some end (reads.Alone ev) node e = absurd (let q : Some end ≡ None = e in cc)
-leaving-some end (reads.First ev) node e = absurd (let q : Some end ≡ None = e in cc)
-leaving-some end reads.Silent node e = absurd (let q : Some end ≡ None = e in cc)
+leaving-some end _ node e = absurd (let q : Some end ≡ None = e in cc)
 
 pub leaving-none : (R : Reads) (node : BlockNode) → None ≡ end_in R → leaving R node ≡ []
 leaving-none (reads.Around tag) node e = absurd (let q : None ≡ Some (end_of tag) = e in cc)
-leaving-none reads.Inside node e = refl
-leaving-none (reads.Alone ev) node e = refl
-leaving-none (reads.First ev) node e = refl
-leaving-none reads.Silent node e = refl
+leaving-none _ node e = refl
 
 -- a node with an end is an element, and an element has an end
 pub ends-element : (end : TagEnd) (R : Reads) → Some end ≡ end_in R → IsElement R
 ends-element end (reads.Around tag) e = tt
-ends-element end reads.Inside e = let q : Some end ≡ None = e in cc
-ends-element end (reads.Alone ev) e = let q : Some end ≡ None = e in cc
-ends-element end (reads.First ev) e = let q : Some end ≡ None = e in cc
-ends-element end reads.Silent e = let q : Some end ≡ None = e in cc
+ends-element end _ e = let q : Some end ≡ None = e in cc
 
 pub no-end-no-tag : (R : Reads) → None ≡ end_in R → None ≡ tag_in R
 no-end-no-tag (reads.Around tag) e = absurd (let q : None ≡ Some (end_of tag) = e in cc)
-no-end-no-tag reads.Inside e = refl
-no-end-no-tag (reads.Alone ev) e = refl
-no-end-no-tag (reads.First ev) e = refl
-no-end-no-tag reads.Silent e = refl
+no-end-no-tag _ e = refl
 
 element-ends : (R : Reads) → IsElement R → None ≡ end_in R → ⊥
 element-ends (reads.Around tag) i e = let q : None ≡ Some (end_of tag) = e in cc
-element-ends reads.Inside i e = i
-element-ends (reads.Alone ev) i e = i
-element-ends (reads.First ev) i e = i
-element-ends reads.Silent i e = i
+element-ends _ i e = i
 
 abbrev pub EndsAs : Walk → Item → Option TagEnd → Type 0
 EndsAs walk item end = (z : Zip Item) (above : List Outer) (node : BlockNode) → StandsBelow walk z above → Drawn walk.text.now (texts_of walk) item node → end ≡ end_in (read_as (kind_within (tight_below above) node.kind))

@@ -154,5 +154,4 @@ long-no-end walk l = go walk.stage refl l.1.long
     go (stage.Marked is_checked start end) now long = λ left r m.
         no-end (left_from (stage.Marked is_checked start end) r.here r.above) (λ tag e. let q : event.TaskListMarker is_checked ≡ event.End tag = e in cc) (subst MayBeginWithEnd (left-staged walk (stage.Marked is_checked start end) left now r) m)
     go (stage.Listed is_checked start end) now long = listed-otherwise walk is_checked start end now
-    go stage.Lines now long = absurd long
-    go stage.Following now long = absurd long
+    go _ now long = absurd long

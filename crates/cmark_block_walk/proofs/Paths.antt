@@ -110,35 +110,11 @@ spelt-kind make None kind e = absurd (let q : None ≡ Some kind = e in cc)
 spelt-kind make (Some b) kind e = (b, same_Some (make b) kind e)
 
 kind-within : (text : List ℕ) (texts : List CowStr) (start end : ℕ) (tight : Bool) (b : ItemBody) (kind : BlockKind) → kind_over text texts start end (shape b) ≡ Some kind → tight_within tight kind ≡ body_within tight b
-kind-within text texts start end tight (body.MaybeEmphasis x0 x1 x2) kind e = absurd (let q : None ≡ Some kind = e in cc)
-kind-within text texts start end tight (body.MaybeMath x0 x1 x2) kind e = absurd (let q : None ≡ Some kind = e in cc)
-kind-within text texts start end tight (body.MaybeSmartQuote x0 x1 x2) kind e = absurd (let q : None ≡ Some kind = e in cc)
-kind-within text texts start end tight (body.MaybeCode x0 x1) kind e = absurd (let q : None ≡ Some kind = e in cc)
-kind-within text texts start end tight body.MaybeHtml kind e = absurd (let q : None ≡ Some kind = e in cc)
-kind-within text texts start end tight body.MaybeLinkOpen kind e = absurd (let q : None ≡ Some kind = e in cc)
-kind-within text texts start end tight (body.MaybeLinkClose x0) kind e = absurd (let q : None ≡ Some kind = e in cc)
-kind-within text texts start end tight body.MaybeImage kind e = absurd (let q : None ≡ Some kind = e in cc)
-kind-within text texts start end tight body.Emphasis kind e = absurd (let q : None ≡ Some kind = e in cc)
-kind-within text texts start end tight body.Strong kind e = absurd (let q : None ≡ Some kind = e in cc)
-kind-within text texts start end tight body.Strikethrough kind e = absurd (let q : None ≡ Some kind = e in cc)
-kind-within text texts start end tight body.Superscript kind e = absurd (let q : None ≡ Some kind = e in cc)
-kind-within text texts start end tight body.Subscript kind e = absurd (let q : None ≡ Some kind = e in cc)
-kind-within text texts start end tight body.Highlight kind e = absurd (let q : None ≡ Some kind = e in cc)
-kind-within text texts start end tight (body.Math x0 x1) kind e = absurd (let q : None ≡ Some kind = e in cc)
-kind-within text texts start end tight (body.Code x0) kind e = absurd (let q : None ≡ Some kind = e in cc)
-kind-within text texts start end tight (body.FootnoteReference x0) kind e = absurd (let q : None ≡ Some kind = e in cc)
-kind-within text texts start end tight (body.OwnedInlineHtml x0) kind e = absurd (let q : None ≡ Some kind = e in cc)
 kind-within text texts start end tight (body.SynthesizeText x0) kind e = ap (tight_within tight) (sym (spelt-kind document.OwnedText (text_at texts x0.0) kind e).1)
-kind-within text texts start end tight (body.Link x0) kind e = absurd (let q : None ≡ Some kind = e in cc)
-kind-within text texts start end tight (body.Image x0) kind e = absurd (let q : None ≡ Some kind = e in cc)
 kind-within text texts start end tight (body.TaskListMarker x0) kind e = ap (tight_within tight) (sym (same_Some (document.TaskMarker x0) kind e))
-kind-within text texts start end tight body.InlineHtml kind e = absurd (let q : None ≡ Some kind = e in cc)
 kind-within text texts start end tight (body.SynthesizeChar x0) kind e = ap (tight_within tight) (sym (same_Some (document.OwnedText (encode_utf8 x0)) kind e))
 kind-within text texts start end tight body.Html kind e = ap (tight_within tight) (sym (same_Some (document.Html (slice text start end)) kind e))
 kind-within text texts start end tight (body.Text x0) kind e = ap (tight_within tight) (sym (same_Some (document.Text (slice text start end)) kind e))
-kind-within text texts start end tight body.SoftBreak kind e = absurd (let q : None ≡ Some kind = e in cc)
-kind-within text texts start end tight (body.HardBreak x0) kind e = absurd (let q : None ≡ Some kind = e in cc)
-kind-within text texts start end tight body.Root kind e = absurd (let q : None ≡ Some kind = e in cc)
 kind-within text texts start end tight body.Paragraph kind e = ap (tight_within tight) (sym (same_Some document.Paragraph kind e))
 kind-within text texts start end tight (body.ParagraphOf x0) kind e = ap (tight_within tight) (sym (same_Some document.Paragraph kind e))
 kind-within text texts start end tight body.TightParagraph kind e = ap (tight_within tight) (sym (same_Some document.TightParagraph kind e))
@@ -154,7 +130,6 @@ kind-within text texts start end tight (body.ListItem x0) kind e = ap (tight_wit
 kind-within text texts start end tight (body.FootnoteDefinition x0) kind e = ap (tight_within tight) (sym (spelt-kind document.FootnoteDefinition (text_at texts x0.0) kind e).1)
 kind-within text texts start end tight (body.MetadataBlock x0) kind e = ap (tight_within tight) (sym (same_Some (document.MetadataBlock (shown_metadata_block_kind x0)) kind e))
 kind-within text texts start end tight (body.DefinitionList x0) kind e = ap (tight_within tight) (sym (same_Some (document.DefinitionList (is_tight x0)) kind e))
-kind-within text texts start end tight body.MaybeDefinitionListTitle kind e = absurd (let q : None ≡ Some kind = e in cc)
 kind-within text texts start end tight body.DefinitionListTitle kind e = ap (tight_within tight) (sym (same_Some document.DefinitionListTitle kind e))
 kind-within text texts start end tight (body.DefinitionListTitleOf x0) kind e = ap (tight_within tight) (sym (same_Some document.DefinitionListTitle kind e))
 kind-within text texts start end tight (body.DefinitionListDefinition x0) kind e = ap (tight_within tight) (sym (same_Some document.DefinitionListDefinition kind e))
@@ -162,6 +137,7 @@ kind-within text texts start end tight (body.Table x0) kind e = ap (tight_within
 kind-within text texts start end tight body.TableHead kind e = ap (tight_within tight) (sym (same_Some document.TableHead kind e))
 kind-within text texts start end tight body.TableRow kind e = ap (tight_within tight) (sym (same_Some document.TableRow kind e))
 kind-within text texts start end tight body.TableCell kind e = ap (tight_within tight) (sym (same_Some document.TableCell kind e))
+kind-within text texts start end tight _ kind e = absurd (let q : None ≡ Some kind = e in cc)
 
 pub drawn-within : (text : List ℕ) (texts : List CowStr) (item : Item) (node : BlockNode) (tight : Bool) → Drawn text texts item node → tight_within tight node.kind ≡ body_within tight item.body
 drawn-within text texts item node tight d =
@@ -208,55 +184,8 @@ outermost walk rest above n t = t.same ∙ none-left walk above t.up t.outer (no
 
 -- a node that is neither a list nor an item is not tight
 pub not-within : (tight : Bool) (b : ItemBody) → ((flags : ListFlags) (delimiter number : ℕ) → b ≡ body.List flags delimiter number → ⊥) → ((flags : ListFlags) → b ≡ body.DefinitionList flags → ⊥) → ((width : ℕ) → b ≡ body.ListItem width → ⊥) → ((width : ℕ) → b ≡ body.DefinitionListDefinition width → ⊥) → body_within tight b ≡ false
-not-within tight (body.MaybeEmphasis x0 x1 x2) l d i j = refl
-not-within tight (body.MaybeMath x0 x1 x2) l d i j = refl
-not-within tight (body.MaybeSmartQuote x0 x1 x2) l d i j = refl
-not-within tight (body.MaybeCode x0 x1) l d i j = refl
-not-within tight body.MaybeHtml l d i j = refl
-not-within tight body.MaybeLinkOpen l d i j = refl
-not-within tight (body.MaybeLinkClose x0) l d i j = refl
-not-within tight body.MaybeImage l d i j = refl
-not-within tight body.Emphasis l d i j = refl
-not-within tight body.Strong l d i j = refl
-not-within tight body.Strikethrough l d i j = refl
-not-within tight body.Superscript l d i j = refl
-not-within tight body.Subscript l d i j = refl
-not-within tight body.Highlight l d i j = refl
-not-within tight (body.Math x0 x1) l d i j = refl
-not-within tight (body.Code x0) l d i j = refl
-not-within tight (body.FootnoteReference x0) l d i j = refl
-not-within tight (body.OwnedInlineHtml x0) l d i j = refl
-not-within tight (body.SynthesizeText x0) l d i j = refl
-not-within tight (body.Link x0) l d i j = refl
-not-within tight (body.Image x0) l d i j = refl
-not-within tight (body.TaskListMarker x0) l d i j = refl
-not-within tight body.InlineHtml l d i j = refl
-not-within tight (body.SynthesizeChar x0) l d i j = refl
-not-within tight body.Html l d i j = refl
-not-within tight (body.Text x0) l d i j = refl
-not-within tight body.SoftBreak l d i j = refl
-not-within tight (body.HardBreak x0) l d i j = refl
-not-within tight body.Root l d i j = refl
-not-within tight body.Paragraph l d i j = refl
-not-within tight (body.ParagraphOf x0) l d i j = refl
-not-within tight body.TightParagraph l d i j = refl
-not-within tight body.Rule l d i j = refl
-not-within tight (body.Heading x0) l d i j = refl
-not-within tight (body.AttributedHeading x0 x1) l d i j = refl
-not-within tight (body.FencedCodeBlock x0) l d i j = refl
-not-within tight body.IndentCodeBlock l d i j = refl
-not-within tight body.HtmlBlock l d i j = refl
-not-within tight (body.BlockQuote x0) l d i j = refl
 not-within tight (body.List x0 x1 x2) l d i j = absurd (l x0 x1 x2 refl)
 not-within tight (body.ListItem x0) l d i j = absurd (i x0 refl)
-not-within tight (body.FootnoteDefinition x0) l d i j = refl
-not-within tight (body.MetadataBlock x0) l d i j = refl
 not-within tight (body.DefinitionList x0) l d i j = absurd (d x0 refl)
-not-within tight body.MaybeDefinitionListTitle l d i j = refl
-not-within tight body.DefinitionListTitle l d i j = refl
-not-within tight (body.DefinitionListTitleOf x0) l d i j = refl
 not-within tight (body.DefinitionListDefinition x0) l d i j = absurd (j x0 refl)
-not-within tight (body.Table x0) l d i j = refl
-not-within tight body.TableHead l d i j = refl
-not-within tight body.TableRow l d i j = refl
-not-within tight body.TableCell l d i j = refl
+not-within tight _ l d i j = refl

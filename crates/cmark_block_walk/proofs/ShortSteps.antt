@@ -38,9 +38,8 @@ goes-short old new s start end g goes = let first = g.gives goes.0 goes.1 in (fi
 -- the result of a step after steps without an event is the result from before these
 pub after-lasting : (old walk new : Walk) (b : Brief) (lines : List LeafLine) → Lasts old walk → GivesBrief walk b lines new → GivesBrief old b lines new
 after-lasting old walk new (brief.Short s start end) lines l g = record { gives = λ left r. g.gives left (l.remains left r); lent = subst (λ text. IsShortZeroCopy text s start end) l.text g.lent }
-after-lasting old walk new (brief.Leaf is_cell) lines l g = λ left r. g left (l.remains left r)
 after-lasting old walk new brief.Long lines l g = (λ left r. g.0 left (l.remains left r), g.1)
-after-lasting old walk new brief.Over lines l g = λ left r. g left (l.remains left r)
+after-lasting old walk new _ lines l g = λ left r. g left (l.remains left r)
 
 pub lasts-on : (old walk new : Walk) → Lasts old walk → ((left : List Segment) → Remains walk left → Remains new left) → Goes new → definitions_of new ≡ definitions_of walk → text_of new ≡ text_of walk → Lasts old new
 lasts-on old walk new l step goes definitions text = record { remains = λ left r. step left (l.remains left r); goes = goes; definitions = definitions ∙ l.definitions; text = text ∙ l.text }

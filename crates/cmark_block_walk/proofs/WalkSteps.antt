@@ -364,10 +364,7 @@ unchanged-remains walk t u left r = record {
 
 pub tag-around : (tag : _) (R : Reads) → Some tag ≡ tag_in R → reads.Around tag ≡ R
 tag-around tag (reads.Around t) e = ap reads.Around (same_Some tag t e)
-tag-around tag reads.Inside e = absurd (let q : Some tag ≡ None = e in cc)
-tag-around tag (reads.Alone ev) e = absurd (let q : Some tag ≡ None = e in cc)
-tag-around tag (reads.First ev) e = absurd (let q : Some tag ≡ None = e in cc)
-tag-around tag reads.Silent e = absurd (let q : Some tag ≡ None = e in cc)
+tag-around tag _ e = absurd (let q : Some tag ≡ None = e in cc)
 
 -- the facts that last while steps give nothing
 pub record Lasts (old walk : Walk) : Type 0 where

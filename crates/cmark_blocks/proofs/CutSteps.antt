@@ -52,10 +52,8 @@ missed-is None e = refl
 missed-is (Some r) e = absurd (true≢false (sym e))
 
 stops-is : (c : Continuation) → stops c ≡ true → c ≡ Stops
-stops-is GoesOn e = absurd (true≢false (sym e))
-stops-is Closes e = absurd (true≢false (sym e))
-stops-is Waits e = absurd (true≢false (sym e))
 stops-is Stops e = refl
+stops-is _ e = absurd (true≢false (sym e))
 
 zero-is : (n : ℕ) → (n == 0) ≡ true → n ≡ 0
 zero-is n e = grind (arith)
@@ -116,14 +114,8 @@ module _ (text : List ℕ) (options : Options) (lookup : Lookup) where
 
   -- a leaf of which no line is left ends
   none-left : (leaf : Leaf) (first : Row) (had : List Row) (n : ℕ) (by : Bool) (r : Row) (x : List Row) → FitsLeaf options leaf first had 0 (r ∷ x) n → ends_leaf options by (leaf_left leaf had 0) r ≡ true
-  none-left ThematicBreak first had n by r x f = refl
-  none-left (AtxHeading level) first had n by r x f = refl
-  none-left IndentedCode first had n by r x f = refl
-  none-left (FencedCode fence) first had n by r x f = refl
-  none-left (HtmlBlock kind) first had n by r x f = refl
-  none-left (MetadataBlock kind) first had n by r x f = refl
-  none-left (LinkDefinition definition) first had n by r x f = refl
   none-left (Table alignments) first had n by r x f = none-left_table (length alignments) had by r x f.1
+  none-left _ first had n by r x f = refl
 
   -- a line that ends all open blocks of the pass continues none of the model
   pub ends-parts : (o : OpenLines) (x : List Row) (l : Level) (n : ℕ) (r : Row) (ahead : List Row) → Steady Nil o → Fits options false o (r ∷ x) n → r.lazy ≡ false
@@ -219,10 +211,9 @@ module _ (text : List ℕ) (options : Options) (lookup : Lookup) where
       off = lines_begin options (join (join closed (LeafBlock (leaf_in v) first had Nil)) (blank_lines waiting)) r ahead
 
       go : (v : Verbatim) → ends_leaf options (ends_paragraph text options lookup r ahead) (verbatim_leaf text options lookup v first had waiting) r ≡ false → continuation_in v r ≡ Stops → ⊥
-      go Indented q t = true≢false (sym (ap stops t) ∙ q)
       go (Fenced fence) q t = chosen-stops (closes_fence fence r) t
-      go (HtmlLines kind) q t = true≢false (sym (ap stops t) ∙ q)
       go (Metadata kind) q t = chosen-stops (ends_metadata kind r) t
+      go _ q t = true≢false (sym (ap stops t) ∙ q)
   stays-list list (InContainer closed k first more inside) x l n r ahead s f whole e = go (keeps k bare r) (lazily options k r ahead && lines_take_lazy inside) same
     where
       bare : Bool

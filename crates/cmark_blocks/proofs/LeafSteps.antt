@@ -26,15 +26,12 @@ drawn-nothing d = ap (λ h. record d { here = h }) (join-nil d.here)
 pub verbatim-closes : (text : List ℕ) (options : Options) (lookup : Lookup) (l : OpenLeaf) (waits : Option Stretch) (blanks : List LineRest) (o : model.OpenLeaf) (m : model.Pass) →
     IsVerbatim l waits → ShowsLeaf text l blanks o →
     (blanks ≡ []) × (close_leaf text options lookup o m ≡ record m { drawing = closed_at m.line_end (drawn (texts_of (rest_of (shown_waits text waits))) m.drawing); leaf = model.Closed })
-verbatim-closes text options lookup leaf.Closed waits blanks o m v s = absurd v
-verbatim-closes text options lookup leaf.AfterTag waits blanks o m v s = absurd v
-verbatim-closes text options lookup (leaf.Paragraph from last) waits blanks o m v s = absurd v
-verbatim-closes text options lookup (leaf.Definition left) waits blanks o m v s = absurd v
 verbatim-closes text options lookup (leaf.Table columns left has_delimiter) waits blanks o m v s = (
   s.1,
   ap (λ x. close_leaf text options lookup x m) s.0
       ∙ ap {A = Drawing} {B = model.Pass} (λ d. record m { drawing = closed_at m.line_end d; leaf = model.Closed }) (sym (drawn-nothing m.drawing))
       ∙ ap {A = Option Stretch} {B = model.Pass} (λ w. record m { drawing = closed_at m.line_end (drawn (texts_of (rest_of (shown_waits text w))) m.drawing); leaf = model.Closed }) (sym v),
+verbatim-closes text options lookup _ waits blanks o m v s = absurd v
 )
 verbatim-closes text options lookup (leaf.Indented others end) waits blanks o m v s = absurd v
 verbatim-closes text options lookup (leaf.Fenced delimiter run_length indent others) waits blanks o m v s = (

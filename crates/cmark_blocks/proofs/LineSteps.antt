@@ -49,9 +49,8 @@ opened-fits options r open_as is opens_as e =
 
 -- the number of an item that begins is told by its character
 pub start-numbered : (options : Options) (r : Row) (open_as : Opening) (start : ContainerStart) → OpensAs options open_as r → open_as ≡ opening.Nests start → HasNumber start
-start-numbered options r open_as (begun.BlockQuote inside) opens_as e = tt
 start-numbered options r open_as (begun.Item item inside) opens_as e = opened-fits options r open_as (opening.Nests (begun.Item item inside)) opens_as e
-start-numbered options r open_as (begun.Footnote footnote inside) opens_as e = tt
+start-numbered options r open_as _ opens_as e = tt
 
 -- the label of a footnote definition that begins is between brackets
 pub start-marked : (r : Row) (open_as : Opening) (start : ContainerStart) → open_as ≡ opening.Nests start → IsMarked open_as r → HasMarker r start

@@ -33,7 +33,6 @@ ContainerNumbered (Some (Item delimiter number width task)) = Numbered delimiter
 
 -- an item has a number that its character tells, a heading this level
 abbrev pub Fits : (level : ℕ) → Opening → Type 0
-Fits level Blank = Unit {0}
 Fits level (Nests (BlockQuote alert)) = Unit {0}
 Fits level (Nests (Footnote label old size)) = Unit {0}
 Fits level (Nests (ListDefinition width)) = Unit {0}
@@ -46,7 +45,7 @@ Fits level (Takes (HtmlBlock kind) more) = Unit {0}
 Fits level (Takes (LinkDefinition definition) more) = Unit {0}
 Fits level (Takes (MetadataBlock kind) more) = Unit {0}
 Fits level (Takes (Table alignments) more) = Unit {0}
-Fits level Plain = Unit {0}
+Fits level _ = Unit {0}
 
 bullet_no_delimiter : (b : ℕ) → is_bullet b ≡ true → is_delimiter b ≡ false
 bullet_no_delimiter b e = go (b == 45) (b == 43) (b == 42) refl refl refl e
@@ -114,9 +113,7 @@ footnote-numbered Old r other n = by (footnote_in (words_of r))
 module _ (level : ℕ) where
   else-fits : (first second : Opening) → Fits level first → Fits level second → Fits level (or_else first second)
   else-fits Plain second f g = g
-  else-fits Blank second f g = f
-  else-fits (Nests k) second f g = f
-  else-fits (Takes leaf more) second f g = f
+  else-fits _ second f g = f
 
   nests-fits : (k : Option Container) → ContainerNumbered k → Fits level (nests_if k)
   nests-fits (Some (BlockQuote alert)) n = tt

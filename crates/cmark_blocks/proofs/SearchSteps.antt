@@ -147,9 +147,7 @@ module _ (text : List ℕ) (options : Options) (lookup : Lookup) (from : ℕ) (b
 
   nothing-left : (following : List Row) (o : OpenLines) (done : List Row) (left : Undecided) → is_nothing left ≡ true → Leaves options following o done left → Leaves options following o done Nothing
   nothing-left following o done Nothing e h = h
-  nothing-left following o done (Begun kind) e h = absurd (true≢false (sym e))
-  nothing-left following o done (Open kind) e h = absurd (true≢false (sym e))
-  nothing-left following o done Forever e h = absurd (true≢false (sym e))
+  nothing-left following o done _ e h = absurd (true≢false (sym e))
 
   module _ (n : ℕ) (m : model.Pass) (cut : ℕ) (is_resolved after_item : Bool) (left : Undecided) (s : Searched n m cut is_resolved after_item left) (lt : n < length text) (boundary : IsCharBoundary text n)
       (r : Row) (line : List ℕ) (others : List (List ℕ)) (lines_are : lines (drop n text) ≡ line ∷ others) (r_is : r ≡ row_at n line) (next : lines_at text n ≡ r ∷ lines_at text r.line_end)

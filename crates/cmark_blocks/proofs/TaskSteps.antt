@@ -94,11 +94,9 @@ following-box options r is_checked e = go (is_blank_line (without 3 r)) refl
 
 -- the line after an item's task marker contains text
 abbrev pub HasText : Container → Row → Type 0
-HasText (BlockQuote alert) r = Unit {0}
 HasText (Item delimiter number width None) r = Unit {0}
 HasText (Item delimiter number width (Some is_checked)) r = is_blank_line (enter (Item delimiter number width (Some is_checked)) r) ≡ false
-HasText (Footnote label old size) r = Unit {0}
-HasText (ListDefinition width) r = Unit {0}
+HasText _ r = Unit {0}
 
 item-text : (options : Options) (r s : Row) (delimiter : ℕ) (number : Option ℕ) (width : ℕ) (task : Option Bool) → s ≡ without width r → task_in options s ≡ task → HasText (Item delimiter number width task) r
 unfolding enter
@@ -107,10 +105,9 @@ item-text options r s delimiter number width (Some is_checked) is in_text =
     ap (λ cs. is_bare (without_indent cs)) (sym (drop-drop 3 width r.columns)) ∙ sym (ap (λ (x : Row). is_blank_line (without 3 x)) is) ∙ following-box options s is_checked in_text
 
 pub start-text : (options : Options) (r : Row) (start : ContainerStart) → Enters r start → HasText (shown_start options r start) r
-start-text options r (begun.BlockQuote inside) enters = tt
 start-text options r (begun.Item item inside) enters =
     item-text options r (row_of inside) item.delimiter item.number item.width (task_in options (row_of inside)) (enters options) refl
-start-text options r (begun.Footnote footnote inside) enters = tt
+start-text options r _ enters = tt
 
 -- text after a task marker is a paragraph
 text-opens : (options : Options) (r : Row) (ahead : List Row) → is_blank_line r ≡ false → opens_at options AfterTask r ahead ≡ Plain
@@ -145,8 +142,7 @@ module _ (text : List ℕ) (options : Options) (lookup : Lookup) (columns : ℕ)
   nested-on (BlockQuote (Some kind)) e = absurd (let q : true ≡ false = e in cc)
   nested-on (Item delimiter number width None) e = refl
   nested-on (Item delimiter number width (Some is_checked)) e = absurd (let q : true ≡ false = e in cc)
-  nested-on (Footnote label old size) e = refl
-  nested-on (ListDefinition width) e = refl
+  nested-on _ e = refl
 
 -- the container takes the whole line
 pub nested-taken : (text : List ℕ) (options : Options) (lookup : Lookup) (columns : ℕ) (next : List Row) (r : Row) (m : model.Pass) (k : Container) →
@@ -167,8 +163,7 @@ nested-taken text options lookup (suc n) next r m (Item delimiter number width (
     (begin_in text options lookup n (place_in k) (enter k (enter (Item delimiter number width (Some is_checked)) r)) next (is_item k) (container_begun k (enter (Item delimiter number width (Some is_checked)) r) p)))
     (enter (Item delimiter number width (Some is_checked)) r) ahead true p)
     (text-opens options (enter k r) ahead has)
-nested-taken text options lookup columns next r m (Footnote label old size) le has e = absurd (let q : false ≡ true = e in cc)
-nested-taken text options lookup columns next r m (ListDefinition width) le has e = absurd (let q : false ≡ true = e in cc)
+nested-taken text options lookup columns next r m _ le has e = absurd (let q : false ≡ true = e in cc)
 
 -- an item with no task marker is begun with nothing in it
 pub item-alone : (r : Row) (m : model.Pass) (delimiter : ℕ) (number : Option ℕ) (width : ℕ) → container_begun (Item delimiter number width None) r m ≡ item_begun_in delimiter number width None (begin_of r) m

@@ -16,8 +16,7 @@ ascends (x ∷ (y ∷ ys)) = is_lt (slice_cmp nat_cmp x y) && ascends (y ∷ ys)
 
 less_from : (o : Ordering) (b : Bool) → (is_lt o && b) ≡ true → o ≡ Less
 less_from Less b h = refl
-less_from Equal b h = cc
-less_from Greater b h = cc
+less_from _ b h = cc
 
 later_from : (a b : Bool) → (a && b) ≡ true → b ≡ true
 later_from true b h = h

@@ -40,9 +40,8 @@ module _ {X : Type 0} (name_of text_of : X → List ℕ) (rows : List X) (in_ord
   ord x = slice_cmp nat_cmp (name_of x) name
 
   not_less : (o : Ordering) → ordering_reverse o ≡ Less → is_lt o ≡ false
-  not_less Less e = cc
-  not_less Equal e = cc
   not_less Greater e = refl
+  not_less _ e = cc
 
   sorted : IsSortedBy (λ a b. is_lt (slice_cmp nat_cmp (name_of a) (name_of b))) rows
   sorted k d low high =

@@ -116,64 +116,28 @@ abbrev start_record : Tag → ℕ → ℕ → FlatRecord
 start_record t start end = own number.start_kind (tag_number t) (tag_datum t) start end (tag_text t)
 
 tag_again : (t : Tag) (start end : ℕ) → IsProperTag t → tag_of (start_record t start end) (tag_parts t) ≡ Some t
-tag_again tag.Paragraph start end proper = refl
 tag_again (tag.Heading level a) start end proper =
     ap (λ o. o >>= λ l. heading_parts_of (heading_parts a) >>= λ attributes. Some (tag.Heading l attributes)) (level_again level proper.0)
     ∙ ap (λ o. o >>= λ attributes. Some (tag.Heading level attributes)) (heading_again a)
 tag_again (tag.BlockQuote kind) start end proper = ap (λ o. o >>= λ k. Some (tag.BlockQuote k)) (quote_again kind)
 tag_again (tag.CodeBlock Indented) start end proper = refl
 tag_again (tag.CodeBlock (Fenced info)) start end proper = refl
-tag_again tag.HtmlBlock start end proper = refl
 tag_again (tag.Listing None) start end proper = refl
 tag_again (tag.Listing (Some first)) start end proper = refl
-tag_again tag.ListItem start end proper = refl
-tag_again (tag.FootnoteDefinition label) start end proper = refl
-tag_again tag.DefinitionList start end proper = refl
-tag_again tag.DefinitionListTitle start end proper = refl
-tag_again tag.DefinitionListDefinition start end proper = refl
 tag_again (tag.Table alignments) start end proper = ap (λ o. o >>= λ columns. Some (tag.Table columns)) (alignments_again alignments)
-tag_again tag.TableHead start end proper = refl
-tag_again tag.TableRow start end proper = refl
-tag_again tag.TableCell start end proper = refl
-tag_again tag.Emphasis start end proper = refl
-tag_again tag.Strong start end proper = refl
-tag_again tag.Strikethrough start end proper = refl
-tag_again tag.Superscript start end proper = refl
-tag_again tag.Subscript start end proper = refl
-tag_again tag.Highlight start end proper = refl
 tag_again (tag.Link linked) start end proper = ap (λ o. o >>= λ l. Some (tag.Link l)) (linked_again linked number.start_kind number.link_tag start end)
 tag_again (tag.Image linked) start end proper = ap (λ o. o >>= λ l. Some (tag.Image l)) (linked_again linked number.start_kind number.image_tag start end)
 tag_again (tag.MetadataBlock kind) start end proper = ap (λ o. o >>= λ k. Some (tag.MetadataBlock k)) (metadata_again kind)
+tag_again _ start end proper = refl
 
 abbrev end_record : TagEnd → ℕ → ℕ → FlatRecord
 end_record e start end = own number.end_kind (end_number e) (end_datum e) start end []
 
 end_again : (e : TagEnd) (start end : ℕ) → IsProperEnd e → end_of (end_record e start end) ≡ Some e
-end_again end.Paragraph start to proper = refl
 end_again (end.Heading level) start to proper = ap (λ o. o >>= λ l. Some (end.Heading l)) (level_again level proper)
 end_again (end.BlockQuote kind) start to proper = ap (λ o. o >>= λ k. Some (end.BlockQuote k)) (quote_again kind)
-end_again end.CodeBlock start to proper = refl
-end_again end.HtmlBlock start to proper = refl
-end_again (end.Listing true) start to proper = refl
-end_again (end.Listing false) start to proper = refl
-end_again end.ListItem start to proper = refl
-end_again end.FootnoteDefinition start to proper = refl
-end_again end.DefinitionList start to proper = refl
-end_again end.DefinitionListTitle start to proper = refl
-end_again end.DefinitionListDefinition start to proper = refl
-end_again end.Table start to proper = refl
-end_again end.TableHead start to proper = refl
-end_again end.TableRow start to proper = refl
-end_again end.TableCell start to proper = refl
-end_again end.Emphasis start to proper = refl
-end_again end.Strong start to proper = refl
-end_again end.Strikethrough start to proper = refl
-end_again end.Superscript start to proper = refl
-end_again end.Subscript start to proper = refl
-end_again end.Highlight start to proper = refl
-end_again end.Link start to proper = refl
-end_again end.Image start to proper = refl
 end_again (end.MetadataBlock kind) start to proper = ap (λ o. o >>= λ k. Some (end.MetadataBlock k)) (metadata_again kind)
+end_again _ start to proper = refl
 
 -- ---- events
 
@@ -183,18 +147,7 @@ at event start end = record { event = event; start = start; end = end }
 event_again : (event : Event) (start end : ℕ) → IsProperEvent event → event_of (event_record (at event start end)) (event_parts event) ≡ Some event
 event_again (Start t) start to proper = ap (λ o. o >>= λ x. Some (Start x)) (tag_again t start to proper)
 event_again (End e) start to proper = ap (λ o. o >>= λ x. Some (End x)) (end_again e start to proper)
-event_again (Text text) start to proper = refl
-event_again (Code text) start to proper = refl
-event_again (InlineMath text) start to proper = refl
-event_again (DisplayMath text) start to proper = refl
-event_again (Html text) start to proper = refl
-event_again (InlineHtml text) start to proper = refl
-event_again (FootnoteReference label) start to proper = refl
-event_again SoftBreak start to proper = refl
-event_again HardBreak start to proper = refl
-event_again Rule start to proper = refl
-event_again (TaskListMarker true) start to proper = refl
-event_again (TaskListMarker false) start to proper = refl
+event_again _ start to proper = refl
 
 pub ranged_again : (r : Ranged) → IsProper r → ranged_of (record { own = event_record r; parts = event_parts r.event }) ≡ Some r
 ranged_again r proper = ap (λ o. o >>= λ event. Some (at event r.start r.end)) (event_again r.event r.start r.end proper.2)
@@ -238,41 +191,11 @@ further_tag (tag.Listing None) = tt
 further_tag (tag.Listing (Some first)) = (refl, tt)
 further_tag (tag.Link linked) = (refl, (refl, tt))
 further_tag (tag.Image linked) = (refl, (refl, tt))
-further_tag tag.Paragraph = tt
-further_tag (tag.BlockQuote kind) = tt
-further_tag (tag.CodeBlock kind) = tt
-further_tag tag.HtmlBlock = tt
-further_tag tag.ListItem = tt
-further_tag (tag.FootnoteDefinition label) = tt
-further_tag tag.DefinitionList = tt
-further_tag tag.DefinitionListTitle = tt
-further_tag tag.DefinitionListDefinition = tt
-further_tag (tag.Table alignments) = tt
-further_tag tag.TableHead = tt
-further_tag tag.TableRow = tt
-further_tag tag.TableCell = tt
-further_tag tag.Emphasis = tt
-further_tag tag.Strong = tt
-further_tag tag.Strikethrough = tt
-further_tag tag.Superscript = tt
-further_tag tag.Subscript = tt
-further_tag tag.Highlight = tt
-further_tag (tag.MetadataBlock kind) = tt
+further_tag _ = tt
 
 further_event : (e : Event) → AreFurther (event_parts e)
 further_event (Start t) = further_tag t
-further_event (End e) = tt
-further_event (Text text) = tt
-further_event (Code text) = tt
-further_event (InlineMath text) = tt
-further_event (DisplayMath text) = tt
-further_event (Html text) = tt
-further_event (InlineHtml text) = tt
-further_event (FootnoteReference label) = tt
-further_event SoftBreak = tt
-further_event HardBreak = tt
-further_event Rule = tt
-further_event (TaskListMarker is_checked) = tt
+further_event _ = tt
 
 own_kind : (r : Ranged) (e : Event) → is_further (event_record (at e r.start r.end)) ≡ false
 own_kind r (Start t) = refl

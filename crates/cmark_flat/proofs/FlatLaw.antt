@@ -65,41 +65,11 @@ tag_parts_fit (tag.Listing None) proper = tt
 tag_parts_fit (tag.Listing (Some first)) proper = (record { start = proper; end = omega arith; size = omega arith; utf8 = nothing_holds.1 }, tt)
 tag_parts_fit (tag.Link linked) proper = two_fit linked proper.1 proper.2
 tag_parts_fit (tag.Image linked) proper = two_fit linked proper.1 proper.2
-tag_parts_fit tag.Paragraph proper = tt
-tag_parts_fit (tag.BlockQuote kind) proper = tt
-tag_parts_fit (tag.CodeBlock kind) proper = tt
-tag_parts_fit tag.HtmlBlock proper = tt
-tag_parts_fit tag.ListItem proper = tt
-tag_parts_fit (tag.FootnoteDefinition label) proper = tt
-tag_parts_fit tag.DefinitionList proper = tt
-tag_parts_fit tag.DefinitionListTitle proper = tt
-tag_parts_fit tag.DefinitionListDefinition proper = tt
-tag_parts_fit (tag.Table alignments) proper = tt
-tag_parts_fit tag.TableHead proper = tt
-tag_parts_fit tag.TableRow proper = tt
-tag_parts_fit tag.TableCell proper = tt
-tag_parts_fit tag.Emphasis proper = tt
-tag_parts_fit tag.Strong proper = tt
-tag_parts_fit tag.Strikethrough proper = tt
-tag_parts_fit tag.Superscript proper = tt
-tag_parts_fit tag.Subscript proper = tt
-tag_parts_fit tag.Highlight proper = tt
-tag_parts_fit (tag.MetadataBlock kind) proper = tt
+tag_parts_fit _ proper = tt
 
 parts_fit : (e : Event) → IsProperEvent e → AllFit (event_parts e)
 parts_fit (Start t) proper = tag_parts_fit t proper
-parts_fit (End e) proper = tt
-parts_fit (Text text) proper = tt
-parts_fit (Code text) proper = tt
-parts_fit (InlineMath text) proper = tt
-parts_fit (DisplayMath text) proper = tt
-parts_fit (Html text) proper = tt
-parts_fit (InlineHtml text) proper = tt
-parts_fit (FootnoteReference label) proper = tt
-parts_fit SoftBreak proper = tt
-parts_fit HardBreak proper = tt
-parts_fit Rule proper = tt
-parts_fit (TaskListMarker is_checked) proper = tt
+parts_fit _ proper = tt
 
 -- the numbers of alignments are ASCII
 small : (a : Alignment) → alignment_number a < 128
@@ -126,29 +96,10 @@ tag_text_holds (tag.FootnoteDefinition label) proper = text_holds label proper
 tag_text_holds (tag.Table alignments) proper = (rw (same_length alignments) proper, ascii_again alignments)
 tag_text_holds (tag.Link linked) proper = text_holds linked.destination proper.0
 tag_text_holds (tag.Image linked) proper = text_holds linked.destination proper.0
-tag_text_holds (tag.Heading level a) proper = nothing_holds
-tag_text_holds (tag.Listing first) proper = nothing_holds
-tag_text_holds tag.Paragraph proper = nothing_holds
-tag_text_holds (tag.BlockQuote kind) proper = nothing_holds
-tag_text_holds tag.HtmlBlock proper = nothing_holds
-tag_text_holds tag.ListItem proper = nothing_holds
-tag_text_holds tag.DefinitionList proper = nothing_holds
-tag_text_holds tag.DefinitionListTitle proper = nothing_holds
-tag_text_holds tag.DefinitionListDefinition proper = nothing_holds
-tag_text_holds tag.TableHead proper = nothing_holds
-tag_text_holds tag.TableRow proper = nothing_holds
-tag_text_holds tag.TableCell proper = nothing_holds
-tag_text_holds tag.Emphasis proper = nothing_holds
-tag_text_holds tag.Strong proper = nothing_holds
-tag_text_holds tag.Strikethrough proper = nothing_holds
-tag_text_holds tag.Superscript proper = nothing_holds
-tag_text_holds tag.Subscript proper = nothing_holds
-tag_text_holds tag.Highlight proper = nothing_holds
-tag_text_holds (tag.MetadataBlock kind) proper = nothing_holds
+tag_text_holds _ proper = nothing_holds
 
 event_text_holds : (e : Event) → IsProperEvent e → Holds (event_text e)
 event_text_holds (Start t) proper = tag_text_holds t proper
-event_text_holds (End e) proper = nothing_holds
 event_text_holds (Text text) proper = text_holds text proper
 event_text_holds (Code text) proper = text_holds text proper
 event_text_holds (InlineMath text) proper = text_holds text proper
@@ -156,10 +107,7 @@ event_text_holds (DisplayMath text) proper = text_holds text proper
 event_text_holds (Html text) proper = text_holds text proper
 event_text_holds (InlineHtml text) proper = text_holds text proper
 event_text_holds (FootnoteReference label) proper = text_holds label proper
-event_text_holds SoftBreak proper = nothing_holds
-event_text_holds HardBreak proper = nothing_holds
-event_text_holds Rule proper = nothing_holds
-event_text_holds (TaskListMarker is_checked) proper = nothing_holds
+event_text_holds _ proper = nothing_holds
 
 records_fit : (r : Ranged) → IsProper r → AllFit (records r)
 records_fit r proper =

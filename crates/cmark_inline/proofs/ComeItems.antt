@@ -44,16 +44,7 @@ says-own cell text texts start end (Quoted quote) k h = absurd h
 says-own cell text texts start end (Delimiters run) k h = absurd h
 says-own cell text texts start end (Autolink uri) k h = absurd h
 says-own cell text texts start end (FootnoteReference label) k h = absurd h
-says-own cell text texts start end Plain k h = refl
-says-own cell text texts start end Own k h = refl
-says-own cell text texts start end (Written bytes) k h = refl
-says-own cell text texts start end (Code bytes) k h = refl
-says-own cell text texts start end (InlineMath bytes) k h = refl
-says-own cell text texts start end (DisplayMath bytes) k h = refl
-says-own cell text texts start end Html k h = refl
-says-own cell text texts start end (OwnedHtml bytes) k h = refl
-says-own cell text texts start end SoftBreak k h = refl
-says-own cell text texts start end HardBreak k h = refl
+says-own cell text texts start end _ k h = refl
 
 -- a byte opens markup only if it is a `<` with a `!` or a `?` after it
 pub no-markup-at : (emails : Bool) (text : List ℕ) (at : ℕ) → at < length text → (get_or text at 0 ≡ 60 → opens_markup (drop (at + 1) text) ≡ false) → may_open_markup emails (drop at text) ≡ false

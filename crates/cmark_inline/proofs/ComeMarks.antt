@@ -51,19 +51,7 @@ last-same xs a b e = sym (get_or_push xs a a (length xs) refl) ∙ ap (λ l. get
 -- an item whose event is a text is no HTML
 no-html : (source : List ℕ) (x : Item) (bytes : List ℕ) (k : ItemKind) → event_of source x k ≡ event.Text bytes → false ≡ is_html k
 no-html source x bytes items.Html h = absurd (let z : ⊥ = cc in z)
-no-html source x bytes items.Plain h = refl
-no-html source x bytes items.Own h = refl
-no-html source x bytes (items.Written text) h = refl
-no-html source x bytes (items.Quoted quote) h = refl
-no-html source x bytes (items.Delimiters run) h = refl
-no-html source x bytes (items.Autolink uri) h = refl
-no-html source x bytes (items.Code text) h = refl
-no-html source x bytes (items.InlineMath text) h = refl
-no-html source x bytes (items.DisplayMath text) h = refl
-no-html source x bytes (items.OwnedHtml text) h = refl
-no-html source x bytes (items.FootnoteReference label) h = refl
-no-html source x bytes items.SoftBreak h = refl
-no-html source x bytes items.HardBreak h = refl
+no-html source x bytes _ h = refl
 
 module _ (leaf : LeafText) (reader : Reader) (read : Leaf) (place : ℕ → ℕ) (r : ReadsPlaces leaf reader read place) where
   abbrev text : List ℕ

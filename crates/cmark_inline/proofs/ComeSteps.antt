@@ -93,9 +93,7 @@ tick_kind other = false
 
 abbrev ticks : Token → Bool
 ticks (Stands x resume) = tick_kind x.kind
-ticks (Opens b) = false
-ticks (Closes b) = false
-ticks Ends = false
+ticks _ = false
 
 module _ (leaf : LeafText) (reader : Reader) (read : Leaf) (place : ℕ → ℕ) (r : ReadsPlaces leaf reader read place) (source : reader.source ≡ source_of leaf) where
   abbrev text : List ℕ

@@ -191,14 +191,7 @@ text-kind source bytes x (items.Quoted quote) c h = (tt, cc)
 text-kind source bytes x (items.Delimiters run) c h = (tt, cc)
 text-kind source bytes x (items.Autolink uri) c h = (tt, cc)
 text-kind source bytes x (items.Written text) c h = absurd c
-text-kind source bytes x (items.Code text) c h = absurd (let z : ⊥ = cc in z)
-text-kind source bytes x (items.InlineMath text) c h = absurd (let z : ⊥ = cc in z)
-text-kind source bytes x (items.DisplayMath text) c h = absurd (let z : ⊥ = cc in z)
-text-kind source bytes x items.Html c h = absurd (let z : ⊥ = cc in z)
-text-kind source bytes x (items.OwnedHtml text) c h = absurd (let z : ⊥ = cc in z)
-text-kind source bytes x (items.FootnoteReference label) c h = absurd (let z : ⊥ = cc in z)
-text-kind source bytes x items.SoftBreak c h = absurd (let z : ⊥ = cc in z)
-text-kind source bytes x items.HardBreak c h = absurd (let z : ⊥ = cc in z)
+text-kind source bytes x _ c h = absurd (let z : ⊥ = cc in z)
 
 text-event : (source : List ℕ) (x : Item) (k : ItemKind) → IsText k → event_of source x k ≡ event.Text (slice source x.start x.end)
 text-event source x items.Plain t = refl
@@ -206,31 +199,11 @@ text-event source x items.Own t = refl
 text-event source x (items.Quoted quote) t = refl
 text-event source x (items.Delimiters run) t = refl
 text-event source x (items.Autolink uri) t = refl
-text-event source x (items.Written text) t = absurd t
-text-event source x (items.Code text) t = absurd t
-text-event source x (items.InlineMath text) t = absurd t
-text-event source x (items.DisplayMath text) t = absurd t
-text-event source x items.Html t = absurd t
-text-event source x (items.OwnedHtml text) t = absurd t
-text-event source x (items.FootnoteReference label) t = absurd t
-text-event source x items.SoftBreak t = absurd t
-text-event source x items.HardBreak t = absurd t
+text-event source x _ t = absurd t
 
 text-html : (k : ItemKind) → IsText k → is_html k ≡ false
-text-html items.Plain t = refl
-text-html items.Own t = refl
-text-html (items.Quoted quote) t = refl
-text-html (items.Delimiters run) t = refl
-text-html (items.Autolink uri) t = refl
-text-html (items.Written text) t = refl
-text-html (items.Code text) t = refl
-text-html (items.InlineMath text) t = refl
-text-html (items.DisplayMath text) t = refl
 text-html items.Html t = absurd t
-text-html (items.OwnedHtml text) t = refl
-text-html (items.FootnoteReference label) t = refl
-text-html items.SoftBreak t = refl
-text-html items.HardBreak t = refl
+text-html _ t = refl
 
 -- an event that is neither a text nor inline HTML
 abbrev IsOther : Event → Type 0
@@ -246,30 +219,11 @@ other-event source x y (items.DisplayMath text) e o h = h
 other-event source x y (items.FootnoteReference label) e o h = h
 other-event source x y items.SoftBreak e o h = h
 other-event source x y items.HardBreak e o h = h
-other-event source x y items.Plain e o h = absurd (subst IsOther h o)
-other-event source x y items.Own e o h = absurd (subst IsOther h o)
-other-event source x y (items.Written text) e o h = absurd (subst IsOther h o)
-other-event source x y (items.Quoted quote) e o h = absurd (subst IsOther h o)
-other-event source x y (items.Delimiters run) e o h = absurd (subst IsOther h o)
-other-event source x y (items.Autolink uri) e o h = absurd (subst IsOther h o)
-other-event source x y items.Html e o h = absurd (subst IsOther h o)
-other-event source x y (items.OwnedHtml text) e o h = absurd (subst IsOther h o)
+other-event source x y _ e o h = absurd (subst IsOther h o)
 
 other-html : (source : List ℕ) (x : Item) (k : ItemKind) (e : Event) → IsOther e → e ≡ event_of source x k → is_html k ≡ false
 other-html source x items.Html e o h = absurd (subst IsOther h o)
-other-html source x items.Plain e o h = refl
-other-html source x items.Own e o h = refl
-other-html source x (items.Written text) e o h = refl
-other-html source x (items.Quoted quote) e o h = refl
-other-html source x (items.Delimiters run) e o h = refl
-other-html source x (items.Autolink uri) e o h = refl
-other-html source x (items.Code text) e o h = refl
-other-html source x (items.InlineMath text) e o h = refl
-other-html source x (items.DisplayMath text) e o h = refl
-other-html source x (items.OwnedHtml text) e o h = refl
-other-html source x (items.FootnoteReference label) e o h = refl
-other-html source x items.SoftBreak e o h = refl
-other-html source x items.HardBreak e o h = refl
+other-html source x _ e o h = refl
 
 -- inline HTML is a part of the source, or owns its bytes
 data HtmlKind (source bytes : List ℕ) (x : Item) (k : ItemKind) : Type 0 where
@@ -279,18 +233,7 @@ data HtmlKind (source bytes : List ℕ) (x : Item) (k : ItemKind) : Type 0 where
 html-kind : (source bytes : List ℕ) (x : Item) (k : ItemKind) → event.InlineHtml bytes ≡ event_of source x k → HtmlKind source bytes x k
 html-kind source bytes x items.Html h = Part refl cc
 html-kind source bytes x (items.OwnedHtml text) h = let e : text ≡ bytes = cc in Owned (ap items.OwnedHtml e)
-html-kind source bytes x items.Plain h = absurd (let z : ⊥ = cc in z)
-html-kind source bytes x items.Own h = absurd (let z : ⊥ = cc in z)
-html-kind source bytes x (items.Written text) h = absurd (let z : ⊥ = cc in z)
-html-kind source bytes x (items.Quoted quote) h = absurd (let z : ⊥ = cc in z)
-html-kind source bytes x (items.Delimiters run) h = absurd (let z : ⊥ = cc in z)
-html-kind source bytes x (items.Autolink uri) h = absurd (let z : ⊥ = cc in z)
-html-kind source bytes x (items.Code text) h = absurd (let z : ⊥ = cc in z)
-html-kind source bytes x (items.InlineMath text) h = absurd (let z : ⊥ = cc in z)
-html-kind source bytes x (items.DisplayMath text) h = absurd (let z : ⊥ = cc in z)
-html-kind source bytes x (items.FootnoteReference label) h = absurd (let z : ⊥ = cc in z)
-html-kind source bytes x items.SoftBreak h = absurd (let z : ⊥ = cc in z)
-html-kind source bytes x items.HardBreak h = absurd (let z : ⊥ = cc in z)
+html-kind source bytes x _ h = absurd (let z : ⊥ = cc in z)
 
 -- ## The slot that is cut
 

@@ -26,9 +26,7 @@ kind_marks other = false
 -- HTML, or a text of its own
 abbrev pub marks : Token → Bool
 marks (Stands x resume) = kind_marks x.kind
-marks (Opens b) = false
-marks (Closes b) = false
-marks Ends = false
+marks _ = false
 
 pub no-slash-there : (bs : List ℕ) → first_is (λ c. (c == 33) || (c == 63)) bs ≡ true → first_is (λ c. c == 92) bs ≡ false
 no-slash-there [] e = absurd (true≢false (sym e))

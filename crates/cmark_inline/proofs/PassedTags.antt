@@ -70,17 +70,5 @@ module _ (leaf : LeafText) (reader : Reader) (read : Leaf) (place : ℕ → ℕ)
 
   -- so an item of the text asks for no bytes of the source, if no markup opens at its first byte
   pub tag-passes : (from start end : ℕ) (kind : ItemKind) → from < length text → end ≤ length text → StartsAt from kind start → (get_or text from 0 ≡ 60 → opens_markup (drop (from + 1) text) ≡ false) → passed_in kind reader.source (place start) (suc (place (end - 1))) ≡ 0
-  tag-passes from start end Plain lt within h none = refl
-  tag-passes from start end Own lt within h none = refl
-  tag-passes from start end (Written bytes) lt within h none = refl
-  tag-passes from start end (Quoted quote) lt within h none = refl
-  tag-passes from start end (Delimiters run) lt within h none = refl
-  tag-passes from start end (Code bytes) lt within h none = refl
-  tag-passes from start end (InlineMath bytes) lt within h none = refl
-  tag-passes from start end (DisplayMath bytes) lt within h none = refl
-  tag-passes from start end (Autolink uri) lt within h none = refl
   tag-passes from start end Html lt within h none = html-passes from start end lt within h none
-  tag-passes from start end (OwnedHtml bytes) lt within h none = refl
-  tag-passes from start end (FootnoteReference label) lt within h none = refl
-  tag-passes from start end SoftBreak lt within h none = refl
-  tag-passes from start end HardBreak lt within h none = refl
+  tag-passes from start end _ lt within h none = refl

@@ -39,15 +39,11 @@ is_break _ = false
 -- a line break is read
 abbrev pub breaks : Token → Bool
 breaks (Stands x resume) = is_break x.kind
-breaks (Opens b) = false
-breaks (Closes b) = false
-breaks Ends = false
+breaks _ = false
 
 abbrev plain_token : Token → Bool
 plain_token (Stands x resume) = is_plain x.kind
-plain_token (Opens b) = false
-plain_token (Closes b) = false
-plain_token Ends = false
+plain_token _ = false
 
 module _ (o : Options) (l : Lookup) (cell : Bool) (text : List ℕ) (at : ℕ) (lt : at < length text) where
   abbrev r : Reader
@@ -68,9 +64,7 @@ module _ (o : Options) (l : Lookup) (cell : Bool) (text : List ℕ) (at : ℕ) (
   -- a literal text at `at` is one byte, or several equal bytes that are no blanks
   abbrev Same : Token → Type 0
   Same (Stands x resume) = is_plain x.kind ≡ true → x.start ≡ at → Bytes resume
-  Same (Opens c) = Unit {0}
-  Same (Closes c) = Unit {0}
-  Same Ends = Unit {0}
+  Same _ = Unit {0}
 
   when : (z : Bool) (x y : Token) → (z ≡ true → Same x) → (z ≡ false → Same y) → Same (if z then x else y)
   when true x y p q = p refl

@@ -31,9 +31,7 @@ use Rattle.cmark_inline.proofs.TokenSteps.{begins-with, code-begins}
 
 abbrev pub closers_at : Token → ℕ
 closers_at (Stands x resume) = closers_of x.kind
-closers_at (Opens b) = 0
-closers_at (Closes b) = 0
-closers_at Ends = 0
+closers_at _ = 0
 
 -- HTML of the source begins at the offset where it is read
 abbrev pub StartsAt : (at : ℕ) → ItemKind → (start : ℕ) → Type 0

@@ -32,8 +32,7 @@ module _ (text : List ℕ) where
   of-node (Around tag) node own r h = (r, both own (Given (over node (End (end_of tag))) ∷ []) h (r, tt))
   of-node Inside node own r h = h
   of-node (Alone event) node own r h = (r, tt)
-  of-node (First event) node own r h = tt
-  of-node Silent node own r h = tt
+  of-node _ node own r h = tt
 
   first : (starts : ℕ) (r : Ranged) (others : List Segment) → IsRange text r.start r.end → HaveRanges text others → HaveRanges text (first_of_segments starts (Given r) others)
   first zero r others x h = (x, h)
@@ -42,11 +41,8 @@ module _ (text : List ℕ) where
   first (suc starts) r (Content leaf ∷ others) x h = first starts r others x h
 
   with-first : (reads : Reads) (starts : ℕ) (node : BlockNode) (others : List Segment) → IsRange text node.start node.end → HaveRanges text others → HaveRanges text (with_first_segment (first_event reads) starts node others)
-  with-first (Around tag) starts node others r h = h
-  with-first Inside starts node others r h = h
-  with-first (Alone event) starts node others r h = h
   with-first (First event) starts node others r h = first starts (over node event) others r h
-  with-first Silent starts node others r h = h
+  with-first _ starts node others r h = h
 
   pub ranges-of : (from : ℕ) (document : BlockDocument) (to : ℕ) → InOrder from document to → to ≤ length text → AllAt (IsCharBoundary text) document → HaveRanges text (segments document)
   ranges-of from Nil to order within all = tt

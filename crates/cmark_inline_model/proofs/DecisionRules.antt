@@ -31,46 +31,27 @@ answered_more reader asked more written l h = record {
 }
 
 led_more : (reader : Reader) (asked more : List Exchange) (t : LinkType) (l : Linked) → LeadsBy t reader asked l → LeadsBy t reader (asked ++ more) l
-led_more reader asked more Inline l h = h
-led_more reader asked more Reference l h = h
 led_more reader asked more ReferenceUnknown l h = answered_more reader asked more Reference l h
-led_more reader asked more Collapsed l h = h
 led_more reader asked more CollapsedUnknown l h = answered_more reader asked more Collapsed l h
-led_more reader asked more Shortcut l h = h
 led_more reader asked more ShortcutUnknown l h = answered_more reader asked more Shortcut l h
-led_more reader asked more Autolink l h = h
-led_more reader asked more Email l h = h
-led_more reader asked more (WikiLink has_pothole) l h = h
+led_more reader asked more _ l h = h
 
 pub rightly-more : (reader : Reader) (asked more : List Exchange) (formed : Formed) → IsFormedRightly reader asked formed → IsFormedRightly reader (asked ++ more) formed
 rightly-more reader asked more (Linking target) h = led_more reader asked more target.linked.link_type target.linked h
-rightly-more reader asked more (Footnote label end) h = h
-rightly-more reader asked more (Wiki name display end) h = h
+rightly-more reader asked more _ h = h
 
 -- a reference in one of the three forms
 by_definition : (reader : Reader) (asked : List Exchange) (t : LinkType) (l : Linked) → IsReferenceForm t → IsDefined reader l → LeadsBy t reader asked l
-by_definition reader asked Inline l f h = absurd f
 by_definition reader asked Reference l f h = h
-by_definition reader asked ReferenceUnknown l f h = absurd f
 by_definition reader asked Collapsed l f h = h
-by_definition reader asked CollapsedUnknown l f h = absurd f
 by_definition reader asked Shortcut l f h = h
-by_definition reader asked ShortcutUnknown l f h = absurd f
-by_definition reader asked Autolink l f h = absurd f
-by_definition reader asked Email l f h = absurd f
-by_definition reader asked (WikiLink has_pothole) l f h = absurd f
+by_definition reader asked _ l f h = absurd f
 
 by_answer : (reader : Reader) (asked : List Exchange) (t : LinkType) (l : Linked) → IsReferenceForm t → IsAnswered reader asked t l → LeadsBy (to_unknown t) reader asked l
-by_answer reader asked Inline l f h = absurd f
 by_answer reader asked Reference l f h = h
-by_answer reader asked ReferenceUnknown l f h = absurd f
 by_answer reader asked Collapsed l f h = h
-by_answer reader asked CollapsedUnknown l f h = absurd f
 by_answer reader asked Shortcut l f h = h
-by_answer reader asked ShortcutUnknown l f h = absurd f
-by_answer reader asked Autolink l f h = absurd f
-by_answer reader asked Email l f h = absurd f
-by_answer reader asked (WikiLink has_pothole) l f h = absurd f
+by_answer reader asked _ l f h = absurd f
 
 module _ (reader : Reader) (leaf : Leaf) where
   pub asks-rightly : (s : State) (closer : Bracket) → AsksRightly reader s (decide reader leaf s closer)

@@ -56,9 +56,7 @@ inside_turn size (Html bytes) content others h k = k
 node_turn : (size : ℕ) (reads : Reads) (node : BlockNode) (inside : List Segment) → AreLeavesInTurn size inside → AreLeavesInTurn size (node_segments reads node inside)
 node_turn size (Around tag) node inside h = leaves_append size inside (Given _ ∷ []) h tt
 node_turn size Inside node inside h = h
-node_turn size (Alone event) node inside h = tt
-node_turn size (First event) node inside h = tt
-node_turn size Silent node inside h = tt
+node_turn size _ node inside h = tt
 
 first_turn : (size : ℕ) (element : ℕ) (r : Ranged) (others : List Segment) → AreLeavesInTurn size others → AreLeavesInTurn size (first_of_segments element (Given r) others)
 first_turn size zero r others h = h
@@ -67,11 +65,8 @@ first_turn size (suc element) r (Given x ∷ others) h = first_turn size element
 first_turn size (suc element) r (Content leaf ∷ others) h = (h.0, first_turn size element r others h.1)
 
 with_turn : (size : ℕ) (reads : Reads) (element : ℕ) (node : BlockNode) (others : List Segment) → AreLeavesInTurn size others → AreLeavesInTurn size (with_first_segment (first_event reads) element node others)
-with_turn size (Around tag) element node others h = h
-with_turn size Inside element node others h = h
-with_turn size (Alone event) element node others h = h
 with_turn size (First event) element node others h = first_turn size element (over node event) others h
-with_turn size Silent element node others h = h
+with_turn size _ element node others h = h
 
 pub segments-turn : (size from : ℕ) (document : BlockDocument) (to : ℕ) → to ≤ size → InOrder from document to → AreLeavesInTurn size (segments document)
 segments-turn size from Nil to u h = tt
@@ -97,10 +92,8 @@ titled-start (Node node inside after) e = go (is_title node.kind) refl (read_as 
         → (r : Ranged) × (others : List Segment) × (with_first_segment (first_event reads) (starts_before after) node (node_segments reads node own ++ segments after) ≡ Given r ∷ others) × (r.event ≡ Start tag.DefinitionListTitle)
     go true t (Around x) r own ih q = (over node (Start x), (own ++ (Given (over node (End (end_of x))) ∷ [])) ++ segments after, refl, ap Start (tag-of node.kind x t r))
     go false t (Around x) r own ih q = absurd (true≢false (sym q))
-    go z t Inside r own ih q = absurd (true≢false (sym q))
-    go z t (Alone event) r own ih q = absurd (true≢false (sym q))
-    go z t (First event) r own ih q = absurd (true≢false (sym q))
     go z t Silent r own ih q = ih q
+    go z t _ r own ih q = absurd (true≢false (sym q))
 
 starts-are : (kind : BlockKind) (titled : Bool) → (starts_of kind titled ≡ 0) ⊎ ((starts_of kind titled ≡ 1) ⊎ ((titled ≡ true) × (starts_of kind titled ≡ 2) × (is_leaf kind ≡ false)))
 starts-are (DefinitionList tight) true = inr (inr (refl, refl, refl))
@@ -108,26 +101,9 @@ starts-are (DefinitionList tight) false = inr (inl refl)
 starts-are Paragraph titled = inr (inl refl)
 starts-are TightParagraph titled = inr (inl refl)
 starts-are (Heading level attributes) titled = inr (inl refl)
-starts-are ThematicBreak titled = inl refl
-starts-are IndentedCode titled = inl refl
-starts-are (FencedCode info) titled = inl refl
-starts-are HtmlBlock titled = inl refl
-starts-are (MetadataBlock kind) titled = inl refl
-starts-are (Table alignments) titled = inl refl
-starts-are TableHead titled = inl refl
-starts-are TableRow titled = inl refl
 starts-are TableCell titled = inr (inl refl)
-starts-are (LinkDefinition reference) titled = inl refl
-starts-are (BlockQuote alert) titled = inl refl
-starts-are (FootnoteDefinition label) titled = inl refl
 starts-are DefinitionListTitle titled = inr (inl refl)
-starts-are DefinitionListDefinition titled = inl refl
-starts-are (BlockList number tight) titled = inl refl
-starts-are ListItem titled = inl refl
-starts-are (TaskMarker is_checked) titled = inl refl
-starts-are (Text bytes) titled = inl refl
-starts-are (OwnedText bytes) titled = inl refl
-starts-are (Html bytes) titled = inl refl
+starts-are _ titled = inl refl
 
 -- an element that begins gives its start first; if two begin, the second is a title
 abbrev pub StartsWith : ℕ → List Segment → Type 0
@@ -156,7 +132,5 @@ begins-start (Node node inside after) = go (read_as node.kind) (inside_of node.k
     go : (reads : Reads) (own : List Segment) → own ≡ inside_of node.kind inside (segments inside) → StartsWith (starts_before after) (segments after)
         → StartsWith (starts_as (starts_of node.kind (begins_title inside)) reads (starts_before after)) (with_first_segment (first_event reads) (starts_before after) node (node_segments reads node own ++ segments after))
     go (Around t) own e ih = around t own e (starts-are node.kind (begins_title inside))
-    go Inside own e ih = tt
-    go (Alone event) own e ih = tt
-    go (First event) own e ih = tt
     go Silent own e ih = ih
+    go _ own e ih = tt

@@ -79,19 +79,7 @@ slots-for _ = 1
 
 item-size : (kind : ItemKind) (x : Item) (after : List Slot) → length (item_slots kind x after) ≡ slots-for kind + length after
 item-size (Delimiters run) x after = run-size x.start run.run_length after
-item-size Plain x after = omega arith
-item-size Own x after = omega arith
-item-size (Written text) x after = omega arith
-item-size (Quoted quote) x after = omega arith
-item-size (Code text) x after = omega arith
-item-size (InlineMath text) x after = omega arith
-item-size (DisplayMath text) x after = omega arith
-item-size (Autolink uri) x after = omega arith
-item-size Html x after = omega arith
-item-size (OwnedHtml text) x after = omega arith
-item-size (FootnoteReference label) x after = omega arith
-item-size SoftBreak x after = omega arith
-item-size HardBreak x after = omega arith
+item-size _ x after = omega arith
 
 around-size : (inside : Inline) (after : List Slot) → length (slots_of inside ++ (EndSlot ∷ after)) ≡ suc (length (slots_of inside) + length after)
 around-size inside after = let e = length-append (slots_of inside) (EndSlot ∷ after) in omega arith
@@ -299,10 +287,7 @@ givens-append (Content leaf ∷ first) second = givens-append first second
 
 node-givens : (r : ReadsAs) (n : BlockNode) (l : List Segment) → givens (node_segments r n l) ≤ 2 + givens l
 node-givens (AroundNode tag) n l = let e = givens-append l (Given (over n (End (end_of_tag tag))) ∷ []) in omega arith
-node-givens Inside n l = omega arith
-node-givens (Alone event) n l = omega arith
-node-givens (First event) n l = omega arith
-node-givens Silent n l = omega arith
+node-givens _ n l = omega arith
 
 first-givens : (starts : ℕ) (r : Ranged) (others : List Segment) → givens (first_of_segments starts (Given r) others) ≡ suc (givens others)
 first-givens zero r others = refl
@@ -313,9 +298,8 @@ first-givens (suc starts) r (Content leaf ∷ others) = first-givens starts r ot
 with-givens : (r : ReadsAs) (starts : ℕ) (n : BlockNode) (l others : List Segment) → givens (with_first_segment (first_event r) starts n (node_segments r n l ++ others)) ≤ 2 + (givens l + givens others)
 with-givens (AroundNode tag) starts n l others = let e = givens-append (node_segments (AroundNode tag) n l) others in let f = node-givens (AroundNode tag) n l in omega arith
 with-givens Inside starts n l others = let e = givens-append l others in omega arith
-with-givens (Alone event) starts n l others = omega arith
 with-givens (First event) starts n l others = let f = first-givens starts (over n event) others in omega arith
-with-givens Silent starts n l others = omega arith
+with-givens _ starts n l others = omega arith
 
 inside-givens : (kind : BlockKind) (b : Bool) (content : BlockDocument) (others : List Segment) → givens (if b then Content (leaf_of kind content) ∷ [] else others) ≤ givens others
 inside-givens kind true content others = omega arith

@@ -88,8 +88,7 @@ siblings_some options (Form opener inside closer (Linking target) after) sibling
 siblings_some options (Form opener inside closer (Footnote label end) after) siblings some read h = subst AreSome (sym h.2) (footnote_some opener.is_image opener.start label end h.0)
 siblings_some options (Form opener inside closer (Wiki name None end) after) siblings some read h = subst AreSome (sym h.2) tt
 siblings_some options (Form opener inside closer (Wiki name (Some place) end) after) siblings some read h = subst AreSome (sym h.6) tt
-siblings_some options (Closing closer after) siblings some read h = subst AreSome (sym h.2) tt
-siblings_some options (Opening opener after) siblings some read h = subst AreSome (sym h.2) tt
+siblings_some options _ siblings some read h = subst AreSome (sym h.2) tt
 
 quoted_some : (siblings : Inline) (cs : List ℕ) → AreSome siblings → AreSome (with_characters siblings cs)
 quoted_some Nil cs h = h
@@ -106,18 +105,15 @@ quoted_some (Single x after) cs h = go x.kind (kind-view x.kind)
 
 abbrev IsSpan : Inline → Type 0
 IsSpan Nil = ⊥
-IsSpan (Single x after) = Unit {0}
-IsSpan (Around tag start end inside after) = Unit {0}
+IsSpan _ = Unit {0}
 
 span_left : (a b : Inline) → IsSpan a → IsSpan (append a b)
 span_left Nil b h = absurd h
-span_left (Single x after) b h = tt
-span_left (Around tag start end inside after) b h = tt
+span_left _ b h = tt
 
 span_right : (a b : Inline) → IsSpan b → IsSpan (append a b)
 span_right Nil b h = h
-span_right (Single x after) b h = tt
-span_right (Around tag start end inside after) b h = tt
+span_right _ b h = tt
 
 put_span : (put : Inline → Inline) (gaps : List Inline) → ((gap : Inline) → IsSpan (put gap)) → IsSpan (get_or (put_gap put gaps) 0 Nil)
 put_span put [] h = h Nil
@@ -137,10 +133,9 @@ first_span (Single x after) h e = go x.kind (kind-view x.kind) h e
     put = put_span (Single x) (gaps_of after) (λ gap. tt)
 
     go : (kind : ItemKind) → KindView kind → HasSize kind → 0 ≡ places_taken (run_then 0 kind (runs_from after)) → IsSpan (get_or (gap_then kind x (gaps_of after)) 0 Nil)
-    go _ (AQuote quote) s f = put
     go _ (ARun run) s f = absurd (let d : ⊥ = omega (arith, s, f) in d)
-    go _ (AnAutolink uri) s f = put
     go _ (AText kind t) s f = subst (λ l. IsSpan (get_or l 0 Nil)) (sym (t.gap x (gaps_of after))) put
+    go _ _ s f = put
 
 dressed_span : (options : Options) (siblings : Inline) (f : Spans) → AreSome siblings → TakePlaces 0 f (places_taken (runs_from siblings 0)) → IsSpan (dressed_all options siblings f)
 dressed_span options siblings spans.Nil h t = span_left (get_or (gaps_of siblings) 0 Nil) Nil (first_span siblings h t)
@@ -166,8 +161,7 @@ dress_span options siblings result h d =
 
 event_some : (source : List ℕ) (f : Inline) → IsSpan f → inline_events source f ≢ []
 event_some source Nil h e = h
-event_some source (Single x after) h e = cc
-event_some source (Around tag start end inside after) h e = cc
+event_some source _ h e = cc
 
 item_no_end : (source : List ℕ) (x : Item) (kind : ItemKind) → IsEnd (event_of source x kind) → ⊥
 item_no_end source x Plain h = h
@@ -186,9 +180,8 @@ item_no_end source x SoftBreak h = h
 item_no_end source x HardBreak h = h
 
 first_no_end : (source : List ℕ) (f : Inline) → BeginWithEnd (inline_events source f) → ⊥
-first_no_end source Nil h = h
 first_no_end source (Single x after) h = item_no_end source x x.kind h
-first_no_end source (Around tag start end inside after) h = h
+first_no_end source _ h = h
 
 -- ## Leaves
 

@@ -161,7 +161,6 @@ module _ (text : List ℕ) (options : Options) (Holds : List Stretch → Type 0)
   rows_held columns (r ∷ rs) = (no_leaf (row_cells text columns r), row_held columns r, rows_held columns rs)
 
   leaf_held : (lookup : Lookup) (leaf : Leaf) (first : Row) (more : List Row) (after : BlockDocument) → AreHeld after → AreHeld (leaf_then text options lookup leaf first more after)
-  leaf_held lookup ThematicBreakLeaf first more after a = (no_leaf Nil, tt, a)
   leaf_held lookup (AtxHeadingLeaf level) first more after a =
       let attributes = options.heading_attributes in
       let start = first_place first.content_end (after_hashes level first) in
@@ -172,11 +171,11 @@ module _ (text : List ℕ) (options : Options) (Holds : List Stretch → Type 0)
       let inside = code_tokens text fence.indented (fenced_lines fence more) in (no_leaf inside, texts_held inside (pieces_are_texts _ Nil tt), a)
   leaf_held lookup (HtmlBlockLeaf kind) first more after a =
       let inside = html_tokens text (first ∷ more) in (no_leaf inside, texts_held inside (html_tokens_are_texts text (first ∷ more)), a)
-  leaf_held lookup (LinkDefinitionLeaf definition) first more after a = (no_leaf Nil, tt, a)
   leaf_held lookup (MetadataBlockLeaf kind) first more after a =
       let inside = code_tokens text 0 (lines_before (ends_metadata kind) more) in (no_leaf inside, texts_held inside (pieces_are_texts _ Nil tt), a)
   leaf_held lookup (TableLeaf alignments) first more after a =
       (no_leaf (table_tokens text (length alignments) first more), (no_leaf (row_cells text (length alignments) first), row_held (length alignments) first, rows_held (length alignments) (drop 1 more)), a)
+  leaf_held lookup _ first more after a = (no_leaf Nil, tt, a)
 
   item_held : (joins : Bool) (list : BlockKind) (item : BlockNode) (inside after : BlockDocument) → is_leaf list ≡ false → (is_leaf item.kind ≡ true → Holds (stretches_of inside)) → AreHeld inside → AreHeld after
       → AreHeld (item_then joins list item inside after)
@@ -269,9 +268,7 @@ module _ (text : List ℕ) (options : Options) (Holds : List Stretch → Type 0)
   node_leaves : (reads : Reads) (node : BlockNode) (inside : List Segment) → AllLeaves Holds inside → AllLeaves Holds (node_segments reads node inside)
   node_leaves (Around tag) node inside h = leaves_append inside (Given _ ∷ []) h tt
   node_leaves Inside node inside h = h
-  node_leaves (Alone event) node inside h = tt
-  node_leaves (First event) node inside h = tt
-  node_leaves Silent node inside h = tt
+  node_leaves _ node inside h = tt
 
   first_leaves : (element : ℕ) (r : Ranged) (others : List Segment) → AllLeaves Holds others → AllLeaves Holds (first_of_segments element (Given r) others)
   first_leaves zero r others h = h
@@ -280,11 +277,8 @@ module _ (text : List ℕ) (options : Options) (Holds : List Stretch → Type 0)
   first_leaves (suc element) r (Content leaf ∷ others) h = (h.0, first_leaves element r others h.1)
 
   with_leaves : (reads : Reads) (element : ℕ) (at : BlockNode) (others : List Segment) → AllLeaves Holds others → AllLeaves Holds (with_first_segment (first_event reads) element at others)
-  with_leaves (Around tag) element at others h = h
-  with_leaves Inside element at others h = h
-  with_leaves (Alone event) element at others h = h
   with_leaves (First event) element at others h = first_leaves element (over at event) others h
-  with_leaves Silent element at others h = h
+  with_leaves _ element at others h = h
 
   segments_leaves : (document : BlockDocument) → AreHeld document → AllLeaves Holds (segments document)
   segments_leaves Nil h = tt

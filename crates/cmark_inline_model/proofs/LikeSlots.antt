@@ -14,27 +14,21 @@ use Rattle.cmark_inline_model.specs.SlotRows.{Slot, ItemSlot, BeginSlot, EndSlot
 module _ (source : List ℕ) where
   same-slot : (s : Slot) → IsLike source s s
   same-slot (ItemSlot x) = record { start = refl; end = refl; event = refl; lines = λ l. refl }
-  same-slot (BeginSlot tag start end) = refl
-  same-slot EndSlot = refl
-  same-slot NothingSlot = refl
+  same-slot _ = refl
 
   starts : (s t : Slot) → IsLike source s t → start_in s ≡ start_in t
   starts (ItemSlot x) (ItemSlot y) h = h.start
   starts (ItemSlot x) (BeginSlot tag start end) h = absurd h
   starts (ItemSlot x) EndSlot h = absurd h
   starts (ItemSlot x) NothingSlot h = absurd h
-  starts (BeginSlot tag start end) t h = sym (ap start_in h)
-  starts EndSlot t h = sym (ap start_in h)
-  starts NothingSlot t h = sym (ap start_in h)
+  starts _ t h = sym (ap start_in h)
 
   ends : (s t : Slot) → IsLike source s t → end_in s ≡ end_in t
   ends (ItemSlot x) (ItemSlot y) h = h.end
   ends (ItemSlot x) (BeginSlot tag start end) h = absurd h
   ends (ItemSlot x) EndSlot h = absurd h
   ends (ItemSlot x) NothingSlot h = absurd h
-  ends (BeginSlot tag start end) t h = sym (ap end_in h)
-  ends EndSlot t h = sym (ap end_in h)
-  ends NothingSlot t h = sym (ap end_in h)
+  ends _ t h = sym (ap end_in h)
 
   like-at : (slots others : List Slot) (at : ℕ) → AreLike source slots others → IsLike source (get_or slots at NothingSlot) (get_or others at NothingSlot)
   like-at [] others at h = subst (λ l. IsLike source NothingSlot (get_or l at NothingSlot)) (sym h) refl

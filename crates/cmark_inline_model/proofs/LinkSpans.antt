@@ -32,30 +32,9 @@ pub data TagView (t : Tag) : Type 0 where
   NoLink : of_tag t ≡ Neither → of_end (end_of t) ≡ Neither → TagView t
 
 pub tag-view : (t : Tag) → TagView t
-tag-view tag.Paragraph = NoLink refl refl
-tag-view (tag.Heading level attributes) = NoLink refl refl
-tag-view (tag.BlockQuote kind) = NoLink refl refl
-tag-view (tag.CodeBlock kind) = NoLink refl refl
-tag-view tag.HtmlBlock = NoLink refl refl
-tag-view (tag.Listing first) = NoLink refl refl
-tag-view tag.ListItem = NoLink refl refl
-tag-view (tag.FootnoteDefinition label) = NoLink refl refl
-tag-view tag.DefinitionList = NoLink refl refl
-tag-view tag.DefinitionListTitle = NoLink refl refl
-tag-view tag.DefinitionListDefinition = NoLink refl refl
-tag-view (tag.Table alignments) = NoLink refl refl
-tag-view tag.TableHead = NoLink refl refl
-tag-view tag.TableRow = NoLink refl refl
-tag-view tag.TableCell = NoLink refl refl
-tag-view tag.Emphasis = NoLink refl refl
-tag-view tag.Strong = NoLink refl refl
-tag-view tag.Strikethrough = NoLink refl refl
-tag-view tag.Superscript = NoLink refl refl
-tag-view tag.Subscript = NoLink refl refl
-tag-view tag.Highlight = NoLink refl refl
 tag-view (tag.Link linked) = ALink false linked refl refl
 tag-view (tag.Image linked) = ALink true linked refl refl
-tag-view (tag.MetadataBlock kind) = NoLink refl refl
+tag-view _ = NoLink refl refl
 
 -- the destination of a wikilink
 abbrev wiki_linked : (name : List ℕ) → (has_pothole : Bool) → Linked
@@ -99,9 +78,7 @@ item-neither source x HardBreak = refl
 -- a link, if it is one, is an autolink
 abbrev IsAuto : LinkEvent → Type 0
 IsAuto (Begins false linked) = IsOfAutolink linked.link_type
-IsAuto (Begins true linked) = Unit {0}
-IsAuto (Finishes is_image) = Unit {0}
-IsAuto Neither = Unit {0}
+IsAuto _ = Unit {0}
 
 address_auto : (address : List ℕ) → IsOfAutolink (address_type address)
 address_auto address = go (has_scheme address)
@@ -115,9 +92,7 @@ AreAutos spans = AllElements (λ t inside. IsAuto (of_tag t)) spans
 
 abbrev HoldsApart : LinkEvent → Inline → Type 0
 HoldsApart (Begins false linked) inside = AreAutos inside
-HoldsApart (Begins true linked) inside = Unit {0}
-HoldsApart (Finishes is_image) inside = Unit {0}
-HoldsApart Neither inside = Unit {0}
+HoldsApart _ inside = Unit {0}
 
 abbrev AreApart : Inline → Type 0
 AreApart spans = AllElements (λ t inside. HoldsApart (of_tag t) inside) spans

@@ -113,18 +113,7 @@ fills_later (Delimiters run) place start end h f k = go (nat_le place start) ref
     go true e = let l : place ≤ start = grind (arith) in omega arith
     go false e = absurd (f (let l : start < place = grind (arith) in omega arith) (omega arith))
 fills_later (Autolink uri) place start end h f k = absurd f
-fills_later Plain place start end h f k = tt
-fills_later Own place start end h f k = tt
-fills_later (Written text) place start end h f k = tt
-fills_later (Quoted quote) place start end h f k = tt
-fills_later (Code text) place start end h f k = tt
-fills_later (InlineMath text) place start end h f k = tt
-fills_later (DisplayMath text) place start end h f k = tt
-fills_later Html place start end h f k = tt
-fills_later (OwnedHtml text) place start end h f k = tt
-fills_later (FootnoteReference label) place start end h f k = tt
-fills_later SoftBreak place start end h f k = tt
-fills_later HardBreak place start end h f k = tt
+fills_later _ place start end h f k = tt
 
 link_tag : (is_image : Bool) (linked : Linked) → IsLinkOrImage (tag_by is_image linked)
 link_tag true linked = tt

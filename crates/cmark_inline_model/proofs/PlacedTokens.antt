@@ -239,11 +239,10 @@ module _ (reader : Reader) (leaf : Leaf) (text : List ℕ) (place : ℕ → ℕ)
           taken (x ∷ (y ∷ l)) = refl
 
           sliced : (n : ℕ) (l : List ℕ) → 2 ≤ n → get_or (take n l) 1 0 ≡ get_or l 1 0
-          sliced zero l w = absurd (omega arith)
-          sliced (suc zero) l w = absurd (omega arith)
           sliced (suc (suc n)) [] w = refl
           sliced (suc (suc n)) (x ∷ []) w = refl
           sliced (suc (suc n)) (x ∷ (y ∷ l)) w = refl
+          sliced _ l w = absurd (omega arith)
 
   -- ## At a byte of the text
   module _ (k b : ℕ) (bs : List ℕ) (here : drop k text ≡ b ∷ bs) where

@@ -37,9 +37,7 @@ module _ (reader : Reader) (leaf : Leaf) where
   -- ## After plain bytes reading continues where they end
   abbrev pub Shaped : Token → Type 0
   Shaped (Stands x resume) = is_plain x.kind ≡ true → x.end ≡ resume
-  Shaped (Opens b) = Unit {0}
-  Shaped (Closes b) = Unit {0}
-  Shaped Ends = Unit {0}
+  Shaped _ = Unit {0}
 
   when : (b : Bool) (x y : Token) → Shaped x → Shaped y → Shaped (if b then x else y)
   when true x y h k = h
@@ -146,9 +144,7 @@ module _ (reader : Reader) (leaf : Leaf) where
   -- ## Where markup may open, no text does
   abbrev pub NotPlain : Token → Type 0
   NotPlain (Stands x resume) = is_plain x.kind ≡ false
-  NotPlain (Opens b) = Unit {0}
-  NotPlain (Closes b) = Unit {0}
-  NotPlain Ends = Unit {0}
+  NotPlain _ = Unit {0}
 
   less_than_not : (at : ℕ) (bs : List ℕ) → first_is (λ c. (c == 33) || (c == 63)) bs ≡ true → NotPlain (less_than reader leaf at bs)
   less_than_not at [] e = absurd (true≢false (sym e))
@@ -190,9 +186,7 @@ module _ (reader : Reader) (leaf : Leaf) where
 
   pub goes-stop : (t : Token) (item_end : ℕ) (more : ℕ → ℕ) → NotPlain t → goes_on reader leaf t item_end more ≡ item_end
   goes-stop (Stands item resume) item_end more h = ap (λ z. if z && (item.start == item_end) then more resume else item_end) h
-  goes-stop (Opens b) item_end more h = refl
-  goes-stop (Closes b) item_end more h = refl
-  goes-stop Ends item_end more h = refl
+  goes-stop _ item_end more h = refl
 
 -- ## One text in the places of the source
 module _ (reader : Reader) (leaf : Leaf) (text : List ℕ) (place : ℕ → ℕ) (h : AreLeafPlaces reader leaf text place) where

@@ -157,8 +157,7 @@ module _ (reader : Reader) (Says : Saying) where
   node_matches Inside node inside fits k = k
   node_matches (Alone event) node inside fits k = λ before after events h.
       subst Matched (sym (h.2 ∙ ap (λ l. over node event ∷ l) h.1.0)) (AloneEvent (over node event) [] fits NoMore)
-  node_matches (First event) node inside fits k = λ before after events h. subst Matched (sym h.0) NoMore
-  node_matches Silent node inside fits k = λ before after events h. subst Matched (sym h.0) NoMore
+  node_matches _ node inside fits k = λ before after events h. subst Matched (sym h.0) NoMore
 
   first_matches : (element : ℕ) (r : Ranged) (others : List Segment) → IsSingle r.event → StartsWith element others → Balances others → Balances (first_of_segments element (Given r) others)
   first_matches zero r others fits begins k = λ before after events h. subst Matched (sym h.2) (AloneEvent r h.0 fits (k before after h.0 h.1))
@@ -175,11 +174,8 @@ module _ (reader : Reader) (Says : Saying) where
 
   with_matches : (reads : Reads) (node : BlockNode) (inside : List Segment) (following : BlockDocument) → IsFit reads → Balances (node_segments reads node inside ++ segments following)
       → Balances (with_first_segment (first_event reads) (starts_before following) node (node_segments reads node inside ++ segments following))
-  with_matches (Around tag) node inside following fits k = k
-  with_matches Inside node inside following fits k = k
-  with_matches (Alone event) node inside following fits k = k
   with_matches (First event) node inside following fits k = first_matches (starts_before following) (over node event) (segments following) fits (begins-start following) k
-  with_matches Silent node inside following fits k = k
+  with_matches _ node inside following fits k = k
 
   pub document-matched : (document : BlockDocument) → Balances (segments document)
   document-matched Nil = λ before after events h. subst Matched (sym h.0) NoMore

@@ -201,8 +201,7 @@ module _ (reader : Reader) (Says : Saying) where
   node_placed Inside node inside from fits a b k = λ bound lines before after events h. placed_lower reader.options reader.source from node.start events node.end a (k bound lines before after events h)
   node_placed (Alone event) node inside from fits a b k = λ bound lines before after events h.
       subst (λ es. Stand from es node.end) (sym (h.2 ∙ ap (λ l. over node event ∷ l) h.1.0)) (Single from node.end (over node event) [] fits a b (Nothing node.end node.end (omega arith)))
-  node_placed (First event) node inside from fits a b k = λ bound lines before after events h. subst (λ es. Stand from es node.end) (sym h.0) (Nothing from node.end (omega arith))
-  node_placed Silent node inside from fits a b k = λ bound lines before after events h. subst (λ es. Stand from es node.end) (sym h.0) (Nothing from node.end (omega arith))
+  node_placed _ node inside from fits a b k = λ bound lines before after events h. subst (λ es. Stand from es node.end) (sym h.0) (Nothing from node.end (omega arith))
 
   -- a task marker and the events after it
   first_placed : (m : Ranged) (document : BlockDocument) (from to : ℕ) → IsTask m.event → IsSingle m.event → from ≤ m.start → m.start ≤ m.end → Placed m.end to (segments document) → Placed from to (first_of_segments (starts_before document) (Given m) (segments document))

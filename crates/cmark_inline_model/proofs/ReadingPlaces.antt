@@ -57,10 +57,9 @@ take_get (suc n) (suc i) (b ∷ l) h = take_get n i l (omega arith)
 module _ (reader : Reader) where
   -- a display begins directly after a pipe, and not after the closing bracket
   abbrev pub DisplayBy : Formed → (closer : Bracket) → Type 0
-  DisplayBy (Linking target) closer = Unit {0}
-  DisplayBy (Footnote label end) closer = Unit {0}
   DisplayBy (Wiki name None end) closer = Unit {0}
   DisplayBy (Wiki name (Some place) end) closer = IsAfterPipe reader.options reader.source place × (place ≤ closer.start)
+  DisplayBy _ closer = Unit {0}
 
   abbrev pub HavePipes : Parts → Type 0
   HavePipes Nil = Unit {0}

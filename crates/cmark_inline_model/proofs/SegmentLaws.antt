@@ -92,60 +92,28 @@ abbrev pub AreNeither : List Segment → Type 0
 AreNeither others = AllGiven (λ e. link_event e ≡ Neither) others
 
 kind_neither : (kind : BlockKind) → GivenBy (λ e. link_event e ≡ Neither) (read_as kind)
-kind_neither Paragraph = (refl, refl)
 kind_neither TightParagraph = tt
-kind_neither (Heading level attributes) = (refl, refl)
 kind_neither ThematicBreak = refl
-kind_neither IndentedCode = (refl, refl)
-kind_neither (FencedCode info) = (refl, refl)
-kind_neither HtmlBlock = (refl, refl)
-kind_neither (MetadataBlock kind) = (refl, refl)
-kind_neither (Table alignments) = (refl, refl)
-kind_neither TableHead = (refl, refl)
-kind_neither TableRow = (refl, refl)
-kind_neither TableCell = (refl, refl)
 kind_neither (LinkDefinition reference) = tt
-kind_neither (BlockQuote alert) = (refl, refl)
-kind_neither (FootnoteDefinition label) = (refl, refl)
-kind_neither (DefinitionList tight) = (refl, refl)
-kind_neither DefinitionListTitle = (refl, refl)
-kind_neither DefinitionListDefinition = (refl, refl)
-kind_neither (BlockList number tight) = (refl, refl)
-kind_neither ListItem = (refl, refl)
 kind_neither (TaskMarker is_checked) = refl
 kind_neither (Text bytes) = refl
 kind_neither (OwnedText bytes) = refl
 kind_neither (Html bytes) = refl
+kind_neither _ = (refl, refl)
 
 pub segments-neither : (document : BlockDocument) → AreNeither (segments document)
 segments-neither document = segments_given (λ e. link_event e ≡ Neither) kind_neither document
 
 -- no event of these needs an option of spans
 kind_optionless : (options : Options) (kind : BlockKind) → GivenBy (IsGiven options) (read_as kind)
-kind_optionless options Paragraph = (tt, tt)
 kind_optionless options TightParagraph = tt
-kind_optionless options (Heading level attributes) = (tt, tt)
 kind_optionless options ThematicBreak = tt
-kind_optionless options IndentedCode = (tt, tt)
-kind_optionless options (FencedCode info) = (tt, tt)
-kind_optionless options HtmlBlock = (tt, tt)
-kind_optionless options (MetadataBlock kind) = (tt, tt)
-kind_optionless options (Table alignments) = (tt, tt)
-kind_optionless options TableHead = (tt, tt)
-kind_optionless options TableRow = (tt, tt)
-kind_optionless options TableCell = (tt, tt)
 kind_optionless options (LinkDefinition reference) = tt
-kind_optionless options (BlockQuote alert) = (tt, tt)
-kind_optionless options (FootnoteDefinition label) = (tt, tt)
-kind_optionless options (DefinitionList tight) = (tt, tt)
-kind_optionless options DefinitionListTitle = (tt, tt)
-kind_optionless options DefinitionListDefinition = (tt, tt)
-kind_optionless options (BlockList number tight) = (tt, tt)
-kind_optionless options ListItem = (tt, tt)
 kind_optionless options (TaskMarker is_checked) = tt
 kind_optionless options (Text bytes) = tt
 kind_optionless options (OwnedText bytes) = tt
 kind_optionless options (Html bytes) = tt
+kind_optionless options _ = (tt, tt)
 
 pub segments-optionless : (options : Options) (document : BlockDocument) → AllGiven (IsGiven options) (segments document)
 segments-optionless options document = segments_given (IsGiven options) (kind_optionless options) document
@@ -204,9 +172,7 @@ inside_rise from to (Html bytes) content others h k = k
 node_rise : (from to : ℕ) (reads : Reads) (node : BlockNode) (inside : List Segment) → from ≤ to → LeavesRise from inside to → LeavesRise from (node_segments reads node inside) to
 node_rise from to (Around tag) node inside e h = rise_append from to to inside (Given _ ∷ []) h (let x : to ≤ to = omega arith in x)
 node_rise from to Inside node inside e h = h
-node_rise from to (Alone event) node inside e h = e
-node_rise from to (First event) node inside e h = e
-node_rise from to Silent node inside e h = e
+node_rise from to _ node inside e h = e
 
 first_rise : (from to : ℕ) (element : ℕ) (r : Ranged) (others : List Segment) → LeavesRise from others to → LeavesRise from (first_of_segments element (Given r) others) to
 first_rise from to zero r others h = h
@@ -215,11 +181,8 @@ first_rise from to (suc element) r (Given x ∷ others) h = first_rise from to e
 first_rise from to (suc element) r (Content leaf ∷ others) h = (h.0, h.1, first_rise h.0 to element r others h.2)
 
 with_rise : (from to : ℕ) (reads : Reads) (element : ℕ) (node : BlockNode) (others : List Segment) → LeavesRise from others to → LeavesRise from (with_first_segment (first_event reads) element node others) to
-with_rise from to (Around tag) element node others h = h
-with_rise from to Inside element node others h = h
-with_rise from to (Alone event) element node others h = h
 with_rise from to (First event) element node others h = first_rise from to element (over node event) others h
-with_rise from to Silent element node others h = h
+with_rise from to _ element node others h = h
 
 pub segments-rise : (from : ℕ) (document : BlockDocument) (to : ℕ) → InOrder from document to → LeavesRise from (segments document) to
 segments-rise from Nil to h = h

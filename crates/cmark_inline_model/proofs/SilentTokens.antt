@@ -110,9 +110,7 @@ module _ (reader : Reader) (leaf : Leaf) where
 
   goes_same : (t : Token) (item_end : ℕ) (more other : ℕ → ℕ) → ((n : ℕ) → more n ≡ other n) → goes_on (silent reader) leaf t item_end more ≡ goes_on reader leaf t item_end other
   goes_same (Stands item resume) item_end more other e = if-same (is_plain item.kind && (item.start == item_end)) (more resume) item_end (other resume) item_end (e resume) refl
-  goes_same (Opens opener) item_end more other e = refl
-  goes_same (Closes closer) item_end more other e = refl
-  goes_same Ends item_end more other e = refl
+  goes_same _ item_end more other e = refl
 
   plain_same : (n item_end : ℕ) → plain_end (silent reader) leaf n item_end ≡ plain_end reader leaf n item_end
   plain_same zero item_end = refl
@@ -125,9 +123,7 @@ module _ (reader : Reader) (leaf : Leaf) where
       if-same (is_plain item.kind) (item_at Plain item.start (plain_end (silent reader) leaf (length (from reader leaf resume)) resume)) (Stands item resume)
       (item_at Plain item.start (plain_end reader leaf (length (from reader leaf resume)) resume)) (Stands item resume)
       (ap (item_at Plain item.start) (plain_same (length (from reader leaf resume)) resume)) refl
-  longest_same (Opens opener) = refl
-  longest_same (Closes closer) = refl
-  longest_same Ends = refl
+  longest_same _ = refl
 
   pub token-same : (at : ℕ) → token (silent reader) leaf at ≡ token reader leaf at
   unfolding token

@@ -28,8 +28,7 @@ use Rattle.cmark_inline_model.proofs.SpanElements.{quoted_then, other_then}
 
 abbrev pub begun_cost : LinkEvent → List ℕ
 begun_cost (Begins is_image linked) = own_cost linked
-begun_cost (Finishes is_image) = []
-begun_cost Neither = []
+begun_cost _ = []
 
 three : (a b c d : List ℕ) → (a ++ (b ++ c)) ++ d ≡ a ++ (b ++ (c ++ d))
 three a b c d = append_assoc a (b ++ c) d ∙ ap (λ l. a ++ l) (append_assoc b c d)
@@ -65,10 +64,9 @@ gaps_size (Single x after) n = go (λ m. gaps_size after m) x.kind (kind-view x.
 
     go : ((m : ℕ) → length (gaps_of after) ≡ suc (places_taken (runs_from after m))) → (kind : ItemKind) → KindView kind
         → length (gap_then kind x (gaps_of after)) ≡ suc (places_taken (run_then n kind (runs_from after)))
-    go i _ (AQuote quote) = put (i n)
     go i _ (ARun run) = let e = i (n + run.run_length) in let f = none_size run.run_length (gaps_of after) in omega arith
-    go i _ (AnAutolink uri) = put (i n)
     go i _ (AText kind t) = ap length (t.gap x (gaps_of after)) ∙ put (i n) ∙ ap (λ ss. suc (places_taken ss)) (sym (t.run n (runs_from after)))
+    go i _ _ = put (i n)
 
 pub takes-up : (f : Spans) (n m : ℕ) → TakePlaces n f m → n ≤ m
 takes-up spans.Nil n m h = omega (arith, h)

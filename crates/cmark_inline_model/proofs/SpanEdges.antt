@@ -124,19 +124,7 @@ module _ (Edge : ℕ → Type 0) (Ascii : ℕ → Type 0) (at-ascii : (i : ℕ) 
 
       by : GapEdges (gaps_of after) → (kind : ItemKind) → GapEdges (gap_then kind x (gaps_of after))
       by k (Delimiters run) = none-edges run.run_length (gaps_of after) k
-      by k Plain = put k
-      by k Own = put k
-      by k (Written text) = put k
-      by k (Quoted quote) = put k
-      by k (Code text) = put k
-      by k (InlineMath text) = put k
-      by k (DisplayMath text) = put k
-      by k (Autolink uri) = put k
-      by k Html = put k
-      by k (OwnedHtml text) = put k
-      by k (FootnoteReference label) = put k
-      by k SoftBreak = put k
-      by k HardBreak = put k
+      by k _ = put k
 
   run-edges : (start n : ℕ) (after : List Item) → ((i : ℕ) → i < n → Ascii (start + i)) → ByteEdges after → ByteEdges (bytes_then start n after)
   run-edges start zero after f h = h
@@ -209,18 +197,7 @@ module _ (Edge : ℕ → Type 0) (Ascii : ℕ → Type 0) (at-ascii : (i : ℕ) 
       go true e i k = let l : place ≤ start = grind (arith) in subst (λ s. Ascii (s + i)) (let m : start ≡ max start place = omega arith in m) (r i k)
       go false e i k = absurd (f (let l : start < place = grind (arith) in l) (omega arith))
   cut-run (Autolink uri) place start end lt f r = absurd f
-  cut-run Plain place start end lt f r = tt
-  cut-run Own place start end lt f r = tt
-  cut-run (Written text) place start end lt f r = tt
-  cut-run (Quoted quote) place start end lt f r = tt
-  cut-run (Code text) place start end lt f r = tt
-  cut-run (InlineMath text) place start end lt f r = tt
-  cut-run (DisplayMath text) place start end lt f r = tt
-  cut-run Html place start end lt f r = tt
-  cut-run (OwnedHtml text) place start end lt f r = tt
-  cut-run (FootnoteReference label) place start end lt f r = tt
-  cut-run SoftBreak place start end lt f r = tt
-  cut-run HardBreak place start end lt f r = tt
+  cut-run _ place start end lt f r = tt
 
   from-edges : (place : ℕ) → Edge place → (siblings : Inline) → IsFree place siblings → SiblingEdges siblings → SiblingEdges (from_place place siblings)
   from-edges place p Nil f h = tt
@@ -394,9 +371,7 @@ module _ (source : List ℕ) where
   node-leaves : (reads : ReadsAs) (node : BlockNode) (own : List Segment) → LeafEdges source own → LeafEdges source (node_segments reads node own)
   node-leaves (AroundNode tag) node own h = both-leaves own (Given (over node (End (end_of_tag tag))) ∷ []) h tt
   node-leaves Inside node own h = h
-  node-leaves (Alone event) node own h = tt
-  node-leaves (First event) node own h = tt
-  node-leaves Silent node own h = tt
+  node-leaves _ node own h = tt
 
   first-leaves : (starts : ℕ) (r : Ranged) (others : List Segment) → LeafEdges source others → LeafEdges source (first_of_segments starts (Given r) others)
   first-leaves zero r others h = h
@@ -405,11 +380,8 @@ module _ (source : List ℕ) where
   first-leaves (suc starts) r (Content leaf ∷ others) h = (h.0, first-leaves starts r others h.1)
 
   with-leaves : (reads : ReadsAs) (starts : ℕ) (node : BlockNode) (others : List Segment) → LeafEdges source others → LeafEdges source (with_first_segment (first_event reads) starts node others)
-  with-leaves (AroundNode tag) starts node others h = h
-  with-leaves Inside starts node others h = h
-  with-leaves (Alone event) starts node others h = h
   with-leaves (First event) starts node others h = first-leaves starts (over node event) others h
-  with-leaves Silent starts node others h = h
+  with-leaves _ starts node others h = h
 
   document-leaves : (document : BlockDocument) → AllAt (IsCharBoundary source) document → LeafEdges source (segments document)
   document-leaves NoNodes h = tt

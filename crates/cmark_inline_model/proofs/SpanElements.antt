@@ -63,10 +63,9 @@ module _ (Holds : Tag → Inline → Type 0) where
       put k = put_holds (Single x) (gaps_of after) (λ gap e. e) k
 
       go : AllGaps (gaps_of after) → (kind : ItemKind) → KindView kind → AllGaps (gap_then kind x (gaps_of after))
-      go k _ (AQuote quote) = put k
       go k _ (ARun run) = none_hold run.run_length (gaps_of after) k
-      go k _ (AnAutolink uri) = put k
       go k _ (AText kind t) = subst AllGaps (sym (t.gap x (gaps_of after))) (put k)
+      go k _ _ = put k
 
   gap_holds : (gaps : List Inline) (n : ℕ) → AllGaps gaps → AllElements (get_or gaps n Nil)
   gap_holds [] n h = tt

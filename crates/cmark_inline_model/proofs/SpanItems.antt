@@ -83,10 +83,9 @@ module _ (options : Options) where
       put k = put_read (Single x) (gaps_of after) (λ gap e. (h.0, e)) k
 
       go : GapsRead (gaps_of after) → (kind : ItemKind) → KindView kind → GapsRead (gap_then kind x (gaps_of after))
-      go k _ (AQuote quote) = put k
       go k _ (ARun run) = none_read run.run_length (gaps_of after) k
-      go k _ (AnAutolink uri) = put k
       go k _ (AText kind t) = subst GapsRead (sym (t.gap x (gaps_of after))) (put k)
+      go k _ _ = put k
 
   bytes_read : (start size : ℕ) (after : List Item) → ItemsRead after → ItemsRead (bytes_then start size after)
   bytes_read start zero after h = h
@@ -117,12 +116,10 @@ module _ (options : Options) where
 
   -- one tilde is an element with strikethrough or subscript, a caret with superscript, and two equals signs with highlight
   abbrev KindRead : SpanKind → Type 0
-  KindRead Emphasis = Unit {0}
-  KindRead Strong = Unit {0}
   KindRead SingleTilde = (options.strikethrough || options.subscript) ≡ true
-  KindRead DoubleTilde = Unit {0}
   KindRead Caret = options.superscript ≡ true
   KindRead DoubleEquals = options.highlight ≡ true
+  KindRead _ = Unit {0}
 
   tag_read : (kind : SpanKind) (t : Tag) → KindRead kind → span_tag options kind ≡ Some t → IsTagGiven options t
   tag_read Emphasis t h e = subst (IsTagGiven options) (some_is e) tt
@@ -269,16 +266,8 @@ module _ (reader : Reader) (asked : List Exchange) where
   wiki_linked name has_pothole = linked (link_type.WikiLink has_pothole) (record { url = name; title = [] }) []
 
   led_given : (t : link_type.LinkType) (l : Linked) → LeadsBy t reader asked l → IsLinkGiven reader.options t
-  led_given link_type.Inline l h = tt
-  led_given link_type.Reference l h = tt
-  led_given link_type.ReferenceUnknown l h = tt
-  led_given link_type.Collapsed l h = tt
-  led_given link_type.CollapsedUnknown l h = tt
-  led_given link_type.Shortcut l h = tt
-  led_given link_type.ShortcutUnknown l h = tt
-  led_given link_type.Autolink l h = tt
   led_given link_type.Email l h = h.0
-  led_given (link_type.WikiLink has_pothole) l h = tt
+  led_given _ l h = tt
 
   siblings_read : (parts : Parts) → AllItems (IsRead reader.options) parts → AllFormed (IsFormedRightly reader asked) parts → AreRead reader.options (siblings_of reader.options parts)
   siblings_read NoParts h k = tt
@@ -302,46 +291,17 @@ module _ (reader : Reader) (asked : List Exchange) where
 -- their events
 module _ (options : Options) (source : List ℕ) where
   event_given : (x : Item) (kind : ItemKind) → IsRead options kind → IsGiven options (event_of source x kind)
-  event_given x Plain h = tt
-  event_given x Own h = tt
-  event_given x (Written text) h = tt
-  event_given x (Quoted quote) h = tt
-  event_given x (Delimiters run) h = tt
-  event_given x (Code text) h = tt
   event_given x (InlineMath text) h = h
   event_given x (DisplayMath text) h = h
-  event_given x (Autolink uri) h = tt
-  event_given x Html h = tt
-  event_given x (OwnedHtml text) h = tt
   event_given x (FootnoteReference label) h = h
-  event_given x SoftBreak h = tt
-  event_given x HardBreak h = tt
+  event_given x _ h = tt
 
   end_given : (tag : Tag) → IsTagGiven options tag → IsEndGiven options (end_of tag)
-  end_given tag.Paragraph h = tt
-  end_given (tag.Heading level attributes) h = tt
-  end_given (tag.BlockQuote kind) h = tt
-  end_given (tag.CodeBlock kind) h = tt
-  end_given tag.HtmlBlock h = tt
-  end_given (tag.Listing first) h = tt
-  end_given tag.ListItem h = tt
-  end_given (tag.FootnoteDefinition label) h = tt
-  end_given tag.DefinitionList h = tt
-  end_given tag.DefinitionListTitle h = tt
-  end_given tag.DefinitionListDefinition h = tt
-  end_given (tag.Table alignments) h = tt
-  end_given tag.TableHead h = tt
-  end_given tag.TableRow h = tt
-  end_given tag.TableCell h = tt
-  end_given tag.Emphasis h = tt
-  end_given tag.Strong h = tt
   end_given tag.Strikethrough h = h
   end_given tag.Superscript h = h
   end_given tag.Subscript h = h
   end_given tag.Highlight h = h
-  end_given (tag.Link linked) h = tt
-  end_given (tag.Image linked) h = tt
-  end_given (tag.MetadataBlock kind) h = tt
+  end_given _ h = tt
 
   pub events-given : (spans : Inline) (rest : List Ranged) → AreRead options spans → AreGiven options rest → AreGiven options (inline_events source spans ++ rest)
   events-given Nil rest h k = k

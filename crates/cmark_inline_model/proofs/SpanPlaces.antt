@@ -14,23 +14,20 @@ widths [] = 0
 widths (kind ∷ kinds) = widths kinds + span_width kind
 
 widths-emphasis : (n : ℕ) → widths (emphasis_kinds n) ≡ n
-widths-emphasis zero = refl
-widths-emphasis (suc zero) = refl
 widths-emphasis (suc (suc n)) = let i = widths-emphasis n in omega (arith, i)
+widths-emphasis _ = refl
 
 widths-tilde : (n : ℕ) → widths (tilde_kinds n) ≡ n
-widths-tilde zero = refl
-widths-tilde (suc zero) = refl
 widths-tilde (suc (suc n)) = let i = widths-tilde n in omega (arith, i)
+widths-tilde _ = refl
 
 widths-caret : (n : ℕ) → widths (caret_kinds n) ≡ n
 widths-caret zero = refl
 widths-caret (suc n) = let i = widths-caret n in omega (arith, i)
 
 widths-equals : (n : ℕ) → widths (equals_kinds n) ≡ n
-widths-equals zero = refl
-widths-equals (suc zero) = refl
 widths-equals (suc (suc n)) = let i = widths-equals n in omega (arith, i)
+widths-equals _ = refl
 
 pub widths-kinds : (delimiter n : ℕ) → widths (kinds_of delimiter n) ≡ n
 unfolding kinds_of

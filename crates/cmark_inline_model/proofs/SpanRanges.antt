@@ -107,12 +107,11 @@ module _ (Pipe : ℕ → Type 0) where
 
       go : (kind : ItemKind) → KindView kind → Fills kind x.start x.end → Layout x.end (gaps_of after) (run_bytes after) to
           → Layout from (gap_then kind x (gaps_of after)) (run_bytes_then kind x.start (run_bytes after)) to
-      go _ (AQuote quote) f k = put k
       go _ (ARun run) f k = layout_run from x.start run.run_length x.end (gaps_of after) (run_bytes after) to h.0 f k
-      go _ (AnAutolink uri) f k = put k
       go _ (AText kind t) f k =
           subst (λ l. Layout from l (run_bytes_then kind x.start (run_bytes after)) to) (sym (t.gap x (gaps_of after)))
           (subst (λ l. Layout from (put_gap (Single x) (gaps_of after)) l to) (sym (t.bytes x.start (run_bytes after))) (put k))
+      go _ _ f k = put k
 
   bytes_size : (start size : ℕ) (after : List Item) → length (bytes_then start size after) ≡ size + length after
   bytes_size start zero after = omega arith

@@ -123,9 +123,7 @@ module _ (place : ℕ) where
       let p = price_later target.linked target.end h in
       let e = spent-form (prices priced_to price_to to-is-priced inside) (price_to target.linked target.end) (prices priced_to price_to to-is-priced after) in
       omega arith
-  spent-inside opener inside closer (Footnote label end) after h k =
-      let e = total-append (prices priced_to price_to to-is-priced inside) (prices priced_to price_to to-is-priced after) in omega arith
-  spent-inside opener inside closer (Wiki name display end) after h k =
+  spent-inside opener inside closer _ after h k =
       let e = total-append (prices priced_to price_to to-is-priced inside) (prices priced_to price_to to-is-priced after) in omega arith
 
   -- and no form costs more than is subtracted from the limit
@@ -135,9 +133,7 @@ module _ (place : ℕ) where
       let i = spent-less inside in let p = price_less target.linked target.end in
       let e = spent-form (prices priced_to price_to to-is-priced inside) (price_to target.linked target.end) (prices priced_to price_to to-is-priced after) in
       omega arith
-  spent-form-less opener inside closer (Footnote label end) after =
-      let i = spent-less inside in let e = total-append (prices priced_to price_to to-is-priced inside) (prices priced_to price_to to-is-priced after) in omega arith
-  spent-form-less opener inside closer (Wiki name display end) after =
+  spent-form-less opener inside closer _ after =
       let i = spent-less inside in let e = total-append (prices priced_to price_to to-is-priced inside) (prices priced_to price_to to-is-priced after) in omega arith
 
   -- ## Events

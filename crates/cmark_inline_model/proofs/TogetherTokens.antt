@@ -116,9 +116,7 @@ module _ (reader : Reader) (leaf : Leaf) (text : List ℕ) (place : ℕ → ℕ)
 
   abbrev pub Joined : Token → Type 0
   Joined (Stands x resume) = is_as_written x.kind ≡ true → Together x.start x.end
-  Joined (Opens b) = Unit {0}
-  Joined (Closes b) = Unit {0}
-  Joined Ends = Unit {0}
+  Joined _ = Unit {0}
 
   when : (b : Bool) (x y : Token) → (b ≡ true → Joined x) → (b ≡ false → Joined y) → Joined (if b then x else y)
   when true x y p q = p refl

@@ -47,9 +47,7 @@ module _ (reader : Reader) (leaf : Leaf) (Holds : ItemKind → (start end : ℕ)
 
   abbrev pub HoldsOf : Token → Type 0
   HoldsOf (Stands item resume) = Holds item.kind item.start item.end
-  HoldsOf (Opens opener) = Unit {0}
-  HoldsOf (Closes closer) = Unit {0}
-  HoldsOf Ends = Unit {0}
+  HoldsOf _ = Unit {0}
 
   when : (b : Bool) (x y : Token) → (b ≡ true → HoldsOf x) → HoldsOf y → HoldsOf (if b then x else y)
   when true x y h k = h refl
@@ -180,9 +178,7 @@ module _ (reader : Reader) (leaf : Leaf) (Holds : ItemKind → (start end : ℕ)
 
   longest_holds : HoldsOfItems → (t : Token) → HoldsOf t → HoldsOf (longest reader leaf t)
   longest_holds holds (Stands item resume) h = when (is_plain item.kind) (item_at Plain item.start (plain_end reader leaf (length (from reader leaf resume)) resume)) (Stands item resume) (λ e. holds.plain _ _) h
-  longest_holds holds (Opens opener) h = tt
-  longest_holds holds (Closes closer) h = tt
-  longest_holds holds Ends h = tt
+  longest_holds holds _ h = tt
 
   pub token-holds : HoldsOfItems → (at : ℕ) → HoldsOf (token reader leaf at)
   unfolding token

@@ -264,9 +264,8 @@ module _ (reader : Reader) (leaf : Leaf) (size : ℕ) (turn : InTurn 0 leaf.stre
       let p = plain_within (length (from reader leaf resume)) resume h.2 in
       let x = p.0 in let y = p.1 in let a = h.0.begins in let b = h.0.ordered in let c = h.0.ends in let d = h.1 in
       when at (is_plain item.kind) (item_at Plain item.start item_end) (Stands item resume) (λ e. item_onward at item.start item_end Plain a (omega arith) (omega arith) y) h
-  longest_onward at (Opens opener) h = h
-  longest_onward at (Closes closer) h = h
   longest_onward at Ends h = tt
+  longest_onward at _ h = h
 
   pub token-onward : (at : ℕ) → Onward at (token reader leaf at)
   unfolding token

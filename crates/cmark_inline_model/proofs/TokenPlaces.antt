@@ -419,9 +419,8 @@ module _ (reader : Reader) (leaf : Leaf) (size : ℕ) (turn : InTurn 0 leaf.stre
         plain_place (length (from reader leaf resume)) resume h.0,
         plain_content (length (from reader leaf resume)) item.start resume (subst (HaveContent item.start) (ends_there at resume item is e) (plain_is item.kind item.start item.end e h.1)) h.0,
       )) (λ e. h)
-  longest_sits at (Opens opener) is h = h
-  longest_sits at (Closes closer) is h = h
   longest_sits at Ends is h = tt
+  longest_sits at _ is h = h
 
   pub token-sits : (at : ℕ) → IsPlace at → Sits (token reader leaf at)
   unfolding token

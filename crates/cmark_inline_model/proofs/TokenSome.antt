@@ -23,10 +23,8 @@ use Rattle.cmark_grammar.specs.Tokens.{Entity, entity_in, is_punctuation}
 
 -- an item or a bracket
 abbrev IsSome : Token → Type 0
-IsSome (Stands item resume) = Unit {0}
-IsSome (Opens opener) = Unit {0}
-IsSome (Closes closer) = Unit {0}
 IsSome Ends = ⊥
+IsSome _ = Unit {0}
 
 -- one of two tokens
 when : (b : Bool) (x y : Token) → IsSome x → IsSome y → IsSome (if b then x else y)
@@ -129,9 +127,8 @@ module _ (reader : Reader) (leaf : Leaf) where
 
   longest_some : (t : Token) → IsSome t → IsSome (longest reader leaf t)
   longest_some (Stands item resume) h = when (is_plain item.kind) (item_at Plain item.start (plain_end reader leaf (length (from reader leaf resume)) resume)) (Stands item resume) tt tt
-  longest_some (Opens opener) h = tt
-  longest_some (Closes closer) h = tt
   longest_some Ends h = h
+  longest_some _ h = tt
 
   -- the text ends exactly if no byte is left
   pub ends-following-bytes : (at : ℕ) → from reader leaf at ≡ [] → token reader leaf at ≡ Ends

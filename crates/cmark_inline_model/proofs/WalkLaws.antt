@@ -122,8 +122,7 @@ module _ (text : List ℕ) where
       (Pair tag node.start node.end s.first [] (k s.first s.gives_first) NoMore)
   node_matches Inside node inside fits k = k
   node_matches (Alone event) node inside fits k = λ events h. subst Matched (sym (h.1 ∙ ap (λ l. over node event ∷ l) h.2)) (AloneEvent (over node event) [] fits NoMore)
-  node_matches (First event) node inside fits k = λ events h. subst Matched (sym h) NoMore
-  node_matches Silent node inside fits k = λ events h. subst Matched (sym h) NoMore
+  node_matches _ node inside fits k = λ events h. subst Matched (sym h) NoMore
 
   first_matches : (element : ℕ) (r : Ranged) (others : List Segment) → IsSingle r.event → StartsWith element others → Balances others → Balances (first_of_segments element (Given r) others)
   first_matches zero r others fits begins k = λ events h. subst Matched (sym h.1) (AloneEvent r h.0 fits (k h.0 h.2))
@@ -140,11 +139,8 @@ module _ (text : List ℕ) where
 
   with_matches : (reads : Reads) (node : BlockNode) (inside : List Segment) (after : BlockDocument) → IsFit reads → Balances (node_segments reads node inside ++ segments after)
       → Balances (with_first_segment (first_event reads) (starts_before after) node (node_segments reads node inside ++ segments after))
-  with_matches (Around tag) node inside after fits k = k
-  with_matches Inside node inside after fits k = k
-  with_matches (Alone event) node inside after fits k = k
   with_matches (First event) node inside after fits k = first_matches (starts_before after) (over node event) (segments after) fits (begins-start after) k
-  with_matches Silent node inside after fits k = k
+  with_matches _ node inside after fits k = k
 
   pub walk-matched : (document : BlockDocument) (events : List Ranged) → AreGiven text (segments document) events → Matched events
   walk-matched Nil = λ events h. subst Matched (sym h) NoMore
@@ -200,8 +196,7 @@ module _ (text : List ℕ) where
   node_edges (Around tag) node inside a b k = (a, b, edges_append inside (Given (over node (End (end_of tag))) ∷ []) k (a, b, tt))
   node_edges Inside node inside a b k = k
   node_edges (Alone event) node inside a b k = (a, b, tt)
-  node_edges (First event) node inside a b k = tt
-  node_edges Silent node inside a b k = tt
+  node_edges _ node inside a b k = tt
 
   first_edges : (element : ℕ) (r : Ranged) (others : List Segment) → Edge r.start → Edge r.end → EdgesGiven others → EdgesGiven (first_of_segments element (Given r) others)
   first_edges zero r others a b k = (a, b, k)
@@ -210,11 +205,8 @@ module _ (text : List ℕ) where
   first_edges (suc element) r (Content leaf ∷ others) a b k = first_edges element r others a b k
 
   with_edges : (reads : Reads) (element : ℕ) (node : BlockNode) (others : List Segment) → Edge node.start → Edge node.end → EdgesGiven others → EdgesGiven (with_first_segment (first_event reads) element node others)
-  with_edges (Around tag) element node others a b k = k
-  with_edges Inside element node others a b k = k
-  with_edges (Alone event) element node others a b k = k
   with_edges (First event) element node others a b k = first_edges element (over node event) others a b k
-  with_edges Silent element node others a b k = k
+  with_edges _ element node others a b k = k
 
   segments_edges : (document : BlockDocument) → AllAt Edge document → EdgesGiven (segments document)
   segments_edges Nil h = tt

@@ -16,9 +16,8 @@ use Rattle.cmark_inline_model.proofs.LinkNesting.{always-comes}
 
 -- at least one byte is between the brackets of a wikilink
 abbrev GapBy : Formed → (opener closer : Bracket) → Type 0
-GapBy (Linking target) opener closer = Unit {0}
-GapBy (Footnote label end) opener closer = Unit {0}
 GapBy (Wiki name display end) opener closer = opener.end < closer.start
+GapBy _ opener closer = Unit {0}
 
 abbrev pub HaveGaps : Parts → Type 0
 HaveGaps Nil = Unit {0}
@@ -29,9 +28,8 @@ HaveGaps (Opening opener after) = HaveGaps after
 
 -- its opening bracket has a nearer one
 abbrev FarBy : (nearer : ℕ) → Formed → Type 0
-FarBy nearer (Linking target) = Unit {0}
-FarBy nearer (Footnote label end) = Unit {0}
 FarBy nearer (Wiki name display end) = 1 ≤ nearer
+FarBy nearer _ = Unit {0}
 
 abbrev pub IsFarResult : Result → Type 0
 IsFarResult StaysText = Unit {0}

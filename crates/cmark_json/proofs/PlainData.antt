@@ -78,68 +78,20 @@ heading-plain name level a =
     ∙ ap (λ b. b || false) (attributes-plain a.others)
 
 tag-plain : (t : Tag) → IsPlain (tag_data t)
-tag-plain tag.Paragraph = refl
 tag-plain (tag.Heading level a) = heading-plain [] level a
 tag-plain (tag.BlockQuote kind) = one-plain [] (quote_kind_data kind) (quote-plain kind)
 tag-plain (tag.CodeBlock kind) = one-plain [] (code_kind_data kind) (code-plain kind)
-tag-plain tag.HtmlBlock = refl
 tag-plain (tag.Listing first) = one-plain [] (number_or_null first) (number-plain first)
-tag-plain tag.ListItem = refl
-tag-plain (tag.FootnoteDefinition label) = refl
-tag-plain tag.DefinitionList = refl
-tag-plain tag.DefinitionListTitle = refl
-tag-plain tag.DefinitionListDefinition = refl
 tag-plain (tag.Table columns) = ap (λ b. b || false) (alignments-plain columns)
-tag-plain tag.TableHead = refl
-tag-plain tag.TableRow = refl
-tag-plain tag.TableCell = refl
-tag-plain tag.Emphasis = refl
-tag-plain tag.Strong = refl
-tag-plain tag.Strikethrough = refl
-tag-plain tag.Superscript = refl
-tag-plain tag.Subscript = refl
-tag-plain tag.Highlight = refl
 tag-plain (tag.Link l) = linked-plain [] l
 tag-plain (tag.Image l) = linked-plain [] l
-tag-plain (tag.MetadataBlock kind) = refl
+tag-plain _ = refl
 
 end-plain : (t : TagEnd) → IsPlain (end_data t)
-end-plain end.Paragraph = refl
-end-plain (end.Heading level) = refl
 end-plain (end.BlockQuote kind) = one-plain [] (quote_kind_data kind) (quote-plain kind)
-end-plain end.CodeBlock = refl
-end-plain end.HtmlBlock = refl
-end-plain (end.Listing is_ordered) = refl
-end-plain end.ListItem = refl
-end-plain end.FootnoteDefinition = refl
-end-plain end.DefinitionList = refl
-end-plain end.DefinitionListTitle = refl
-end-plain end.DefinitionListDefinition = refl
-end-plain end.Table = refl
-end-plain end.TableHead = refl
-end-plain end.TableRow = refl
-end-plain end.TableCell = refl
-end-plain end.Emphasis = refl
-end-plain end.Strong = refl
-end-plain end.Strikethrough = refl
-end-plain end.Superscript = refl
-end-plain end.Subscript = refl
-end-plain end.Highlight = refl
-end-plain end.Link = refl
-end-plain end.Image = refl
-end-plain (end.MetadataBlock kind) = refl
+end-plain _ = refl
 
 pub event-plain : (e : Event) → has_float (event_data e) ≡ false
 event-plain (Start t) = one-plain [] (tag_data t) (tag-plain t)
 event-plain (End t) = one-plain [] (end_data t) (end-plain t)
-event-plain (Text text) = refl
-event-plain (Code text) = refl
-event-plain (InlineMath text) = refl
-event-plain (DisplayMath text) = refl
-event-plain (Html text) = refl
-event-plain (InlineHtml text) = refl
-event-plain (FootnoteReference label) = refl
-event-plain SoftBreak = refl
-event-plain HardBreak = refl
-event-plain Rule = refl
-event-plain (TaskListMarker is_checked) = refl
+event-plain _ = refl

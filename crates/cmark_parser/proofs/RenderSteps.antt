@@ -66,14 +66,7 @@ plain-opens-none (plain.MetadataBlock kind) = refl
 -- no event that owns nothing opens an image
 short-opens-none : (short : Short) → opened_image (shown_short short) ≡ None
 short-opens-none (short.Start tag) = plain-opens-none tag
-short-opens-none (short.End tag) = refl
-short-opens-none (short.Text text) = refl
-short-opens-none (short.Code text) = refl
-short-opens-none (short.Html text) = refl
-short-opens-none (short.InlineHtml text) = refl
-short-opens-none short.SoftBreak = refl
-short-opens-none short.HardBreak = refl
-short-opens-none short.Rule = refl
+short-opens-none _ = refl
 
 -- no image is open after such an event
 pub none-open : (w next : Writing) (short : Short) → next ≡ moved_outside w (shown_short short) → next.image ≡ None

@@ -74,11 +74,9 @@ alt_value further names (DisplayMath text) = Byte 36 _ refl (Byte 36 _ refl (val
 alt_value further names (Html text) = html_value text
 alt_value further names (InlineHtml text) = html_value text
 alt_value further names (FootnoteReference label) = Byte 91 _ refl (value_then _ _ (decimal_value (footnote_number names (own_prefix ++ label))) (Byte 93 [] refl Empty))
-alt_value further names SoftBreak = Byte 32 [] refl Empty
-alt_value further names HardBreak = Byte 32 [] refl Empty
-alt_value further names Rule = Byte 32 [] refl Empty
 alt_value further names (TaskListMarker true) = Byte 91 _ refl (Byte 120 _ refl (Byte 93 [] refl Empty))
 alt_value further names (TaskListMarker false) = Byte 91 _ refl (Byte 32 _ refl (Byte 93 [] refl Empty))
+alt_value further names _ = Byte 32 [] refl Empty
 
 module _ (further : List ℕ) where
   abbrev safes : List Event → List Event

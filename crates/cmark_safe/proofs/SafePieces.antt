@@ -132,11 +132,9 @@ IsNoImage (tag.Image linked) = ⊥
 IsNoImage _ = Unit {0}
 
 pub start_safe : (further : List ℕ) (w : Writing) (t : Tag) → IsNoImage t → IsSafe further (start_piece w (safe_tag further t))
-start_safe further w tag.Paragraph i = fresh w.line_start _ (plain (codes "<p>") refl)
 start_safe further w (tag.Heading level attributes) i = fresh w.line_start _ (heading_safe level attributes.id)
 start_safe further w (tag.BlockQuote kind) i = fresh w.line_start _ (quote_safe kind)
 start_safe further w (tag.CodeBlock kind) i = fresh w.line_start _ (code_safe kind)
-start_safe further w tag.HtmlBlock i = fresh w.line_start _ (plain (codes "<p>") refl)
 start_safe further w (tag.Listing first) i = fresh w.line_start _ (list_safe further first)
 start_safe further w tag.ListItem i = fresh w.line_start _ (plain (codes "<li>") refl)
 start_safe further w (tag.FootnoteDefinition label) i = fresh w.line_start _ (footnote_safe further label (footnote_number w.names (own_prefix ++ label)))
@@ -156,6 +154,7 @@ start_safe further w tag.Highlight i = plain (codes "<mark>") refl
 start_safe further w (tag.Link l) i = link_safe further l.link_type l.destination l.title
 start_safe further w (tag.Image l) i = elim i [ ]
 start_safe further w (tag.MetadataBlock kind) i = Nothing
+start_safe further w _ i = fresh w.line_start _ (plain (codes "<p>") refl)
 
 list_end_safe : {further : List ℕ} (is_ordered : Bool) → IsSafe further (list_end is_ordered)
 list_end_safe true = line (codes "</ol>") refl
@@ -166,11 +165,9 @@ cell_end_safe true = plain (codes "</th>") refl
 cell_end_safe false = plain (codes "</td>") refl
 
 pub end_safe : {further : List ℕ} (in_head : Bool) (e : TagEnd) → IsSafe further (end_piece in_head (safe_end e))
-end_safe h end.Paragraph = line (codes "</p>") refl
 end_safe h (end.Heading level) = Tagged _ (10 ∷ []) (HeadingEnd (safe_level level) (level_safe level)) feed
 end_safe h (end.BlockQuote kind) = line (codes "</blockquote>") refl
 end_safe h end.CodeBlock = plain_then (codes "</code>") _ refl (line (codes "</pre>") refl)
-end_safe h end.HtmlBlock = line (codes "</p>") refl
 end_safe h (end.Listing is_ordered) = list_end_safe is_ordered
 end_safe h end.ListItem = line (codes "</li>") refl
 end_safe h end.FootnoteDefinition = line (codes "</div>") refl
@@ -190,6 +187,7 @@ end_safe h end.Highlight = plain (codes "</mark>") refl
 end_safe h end.Link = plain (codes "</a>") refl
 end_safe h end.Image = Nothing
 end_safe h (end.MetadataBlock kind) = Nothing
+end_safe h _ = line (codes "</p>") refl
 
 text_safe : {further : List ℕ} (in_metadata : Bool) (text : List ℕ) → IsSafe further (text_piece in_metadata text)
 text_safe true text = Nothing

@@ -23,8 +23,7 @@ module _ (lookup : Lookup) where
   -- a literal byte
   plain_one : (what : Does) (b : ℕ) (bs : List ℕ) → part_of what bs ≡ None → add_bytes what b (resolved_from lookup (is_escape what) (size_after what) bs) ≡ b ∷ resolved_from lookup false 0 bs
   plain_one Stands b bs e = refl
-  plain_one EscapesNext b bs e = cc
-  plain_one (Begins entity) b bs e = cc
+  plain_one _ b bs e = cc
 
   -- an escape or an entity
   plain_escaped : (bs : List ℕ) → resolved_from lookup true 0 bs ≡ take 1 bs ++ resolved_from lookup false 0 (drop 1 bs)

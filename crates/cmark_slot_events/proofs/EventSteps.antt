@@ -117,24 +117,16 @@ module _ (leaf : LeafText) (texts : List CowStr) (links : List Link) (slot : Slo
   -- a slot with a text, whose range is the range of its bytes
   single-kind : (k : SlotKind) → is_long k ≡ true → ((end : ℕ) → k ≡ kind.SourceHtml end → ⊥) → ((end : ℕ) → k ≡ kind.SourceText end → ⊥) → (k ≡ kind.Empty → ⊥) → ((e : Element) → k ≡ kind.Begin e → ⊥)
       → (rows : List row.Slot) (ends : List Ranged) → slot_events (source_of leaf) (slot_as leaf texts links slot k ∷ rows) ends ≡ over (source_of leaf) (first_of leaf slot) (slot_end leaf slot) (event_as k (held_in leaf texts slot k)) ∷ slot_events (source_of leaf) rows ends
-  single-kind kind.Text long html text empty begin rows ends = refl
-  single-kind (kind.OwnedText index) long html text empty begin rows ends = refl
-  single-kind (kind.Character character) long html text empty begin rows ends = refl
   single-kind (kind.Whole last) long html text empty begin rows ends = cc
   single-kind kind.SoftBreak long html text empty begin rows ends = cc
   single-kind kind.HardBreak long html text empty begin rows ends = cc
-  single-kind (kind.Code from to) long html text empty begin rows ends = refl
-  single-kind (kind.InlineMath from to) long html text empty begin rows ends = refl
-  single-kind (kind.DisplayMath from to) long html text empty begin rows ends = refl
-  single-kind kind.InlineHtml long html text empty begin rows ends = refl
   single-kind (kind.SourceHtml place) long html text empty begin rows ends = absurd (html place refl)
-  single-kind (kind.CutHtml from) long html text empty begin rows ends = refl
   single-kind (kind.SourceText place) long html text empty begin rows ends = absurd (text place refl)
   single-kind kind.Empty long html text empty begin rows ends = absurd (empty refl)
-  single-kind (kind.FootnoteReference index) long html text empty begin rows ends = refl
   single-kind (kind.Begin e) long html text empty begin rows ends = absurd (begin e refl)
   single-kind kind.End long html text empty begin rows ends = cc
   single-kind kind.Nothing long html text empty begin rows ends = cc
+  single-kind _ long html text empty begin rows ends = refl
 
   single-first : (texts1 : List CowStr) (links1 : List Link) (opened1 : List Opened) (given : Given) → is_long slot.kind ≡ true → ((end : ℕ) → slot.kind ≡ kind.SourceHtml end → ⊥) → ((end : ℕ) → slot.kind ≡ kind.SourceText end → ⊥) → (slot.kind ≡ kind.Empty → ⊥)
       → ((e : Element) → slot.kind ≡ kind.Begin e → ⊥) → CanBeGiven leaf texts links (slot ∷ slots) → KeepsOthers (text_named slot.kind) texts texts1 → links1 ≡ links → opened1 ≡ opened

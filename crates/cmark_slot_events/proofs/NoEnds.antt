@@ -22,24 +22,10 @@ use Rattle.cmark_slot_events.proofs.ShortSteps.{get_or-any}
 
 module _ (leaf : LeafText) (texts : List CowStr) (links : List Link) (slot : Slot) where
   alone_no_end : (k : SlotKind) → IsAlone k → (rows : List row.Slot) (ends : List Ranged) → BeginWithoutEnd (slot_events (source_of leaf) (slot_as leaf texts links slot k ∷ rows) ends)
-  alone_no_end kind.Text a rows ends = λ h. h
-  alone_no_end (kind.OwnedText index) a rows ends = λ h. h
-  alone_no_end (kind.Character character) a rows ends = λ h. h
-  alone_no_end (kind.Whole last) a rows ends = λ h. h
-  alone_no_end kind.SoftBreak a rows ends = λ h. h
-  alone_no_end kind.HardBreak a rows ends = λ h. h
-  alone_no_end (kind.Code from to) a rows ends = λ h. h
-  alone_no_end (kind.InlineMath from to) a rows ends = λ h. h
-  alone_no_end (kind.DisplayMath from to) a rows ends = λ h. h
-  alone_no_end kind.InlineHtml a rows ends = λ h. h
-  alone_no_end (kind.SourceHtml end) a rows ends = λ h. h
-  alone_no_end (kind.CutHtml from) a rows ends = λ h. h
-  alone_no_end (kind.SourceText end) a rows ends = λ h. h
-  alone_no_end kind.Empty a rows ends = λ h. h
-  alone_no_end (kind.FootnoteReference index) a rows ends = λ h. h
   alone_no_end (kind.Begin element) a rows ends = absurd a
   alone_no_end kind.End a rows ends = absurd a
   alone_no_end kind.Nothing a rows ends = absurd a
+  alone_no_end _ a rows ends = λ h. h
 
   long_no_end : (k : SlotKind) → is_long k ≡ true → (rows : List row.Slot) (ends : List Ranged) → BeginWithoutEnd (slot_events (source_of leaf) (slot_as leaf texts links slot k ∷ rows) ends)
   long_no_end (kind.Begin element) long rows ends = λ h. h

@@ -73,10 +73,7 @@ module _ (leaf : LeafText) (texts : List CowStr) (links : List Link) (slot : Slo
   short-first (short.InlineHtml part) h i = ap (λ k. from k (shown_opened opened)) h.0 ∙ ap (λ p. here (event.InlineHtml p) ∷ following (shown_opened opened)) (sym h.1)
   short-first short.SoftBreak h i = ap (λ k. from k (shown_opened opened)) h
   short-first short.HardBreak h i = ap (λ k. from k (shown_opened opened)) h
-  short-first (short.Start tag) h i = absurd i
-  short-first (short.End tag) h i = absurd i
-  short-first (short.Html part) h i = absurd i
-  short-first short.Rule h i = absurd i
+  short-first _ h i = absurd i
 
   -- an event of its own
   pub single-first-short : (s : Short) → IsRead leaf → IsPart (text_of leaf) slot.start slot.end → StandsFor leaf slot s → IsInline (shown_short s)
@@ -95,24 +92,10 @@ module _ (leaf : LeafText) (texts : List CowStr) (links : List Link) (slot : Slo
   }
 
   alone-some : (k : SlotKind) (ends : List Ranged) → IsAlone k → AreSome (from k ends)
-  alone-some kind.Text ends h = (_, following ends, refl)
-  alone-some (kind.OwnedText index) ends h = (_, following ends, refl)
-  alone-some (kind.Character character) ends h = (_, following ends, refl)
-  alone-some (kind.Whole last) ends h = (_, following ends, refl)
-  alone-some kind.SoftBreak ends h = (_, following ends, refl)
-  alone-some kind.HardBreak ends h = (_, following ends, refl)
-  alone-some (kind.Code start end) ends h = (_, following ends, refl)
-  alone-some (kind.InlineMath start end) ends h = (_, following ends, refl)
-  alone-some (kind.DisplayMath start end) ends h = (_, following ends, refl)
-  alone-some kind.InlineHtml ends h = (_, following ends, refl)
-  alone-some (kind.SourceHtml end) ends h = (_, following ends, refl)
-  alone-some (kind.CutHtml start) ends h = (_, following ends, refl)
-  alone-some (kind.SourceText end) ends h = (_, following ends, refl)
-  alone-some kind.Empty ends h = (_, following ends, refl)
-  alone-some (kind.FootnoteReference index) ends h = (_, following ends, refl)
   alone-some (kind.Begin element) ends h = absurd h
   alone-some kind.End ends h = absurd h
   alone-some kind.Nothing ends h = absurd h
+  alone-some _ ends h = (_, following ends, refl)
 
   -- an event of another kind
   pub single-some : IsAlone slot.kind → AreSome (events_of leaf texts links (slot ∷ slots) opened)
@@ -177,24 +160,10 @@ end-first-short source one old new part last = record {
 }
 
 pub alone : (k : SlotKind) → ((e : Element) → k ≡ kind.Begin e → ⊥) → (k ≡ kind.End → ⊥) → (k ≡ kind.Nothing → ⊥) → IsAlone k
-alone kind.Text b e n = tt
-alone (kind.OwnedText index) b e n = tt
-alone (kind.Character character) b e n = tt
-alone (kind.Whole last) b e n = tt
-alone kind.SoftBreak b e n = tt
-alone kind.HardBreak b e n = tt
-alone (kind.Code start end) b e n = tt
-alone (kind.InlineMath start end) b e n = tt
-alone (kind.DisplayMath start end) b e n = tt
-alone kind.InlineHtml b e n = tt
-alone (kind.SourceHtml end) b e n = tt
-alone (kind.CutHtml start) b e n = tt
-alone (kind.SourceText end) b e n = tt
-alone kind.Empty b e n = tt
-alone (kind.FootnoteReference index) b e n = tt
 alone (kind.Begin element) b e n = b element refl
 alone kind.End b e n = e refl
 alone kind.Nothing b e n = n refl
+alone _ b e n = tt
 
 -- ## The slots one after the other
 

@@ -20,15 +20,11 @@ use Rattle.cmark_slots.proofs.Lending.{there}
 
 -- the elements that are open stay so
 pub short-opens : (s : Short) (opened : List Opened) (start end : ℕ) → IsInline (shown_short s) → Opens opened (shown_short s) start end opened
-short-opens (short.Text text) opened start end inline = (tt, refl)
-short-opens (short.Code text) opened start end inline = (tt, refl)
-short-opens (short.InlineHtml text) opened start end inline = (tt, refl)
-short-opens short.SoftBreak opened start end inline = (tt, refl)
-short-opens short.HardBreak opened start end inline = (tt, refl)
 short-opens (short.Start tag) opened start end inline = absurd inline
 short-opens (short.End tag) opened start end inline = absurd inline
 short-opens (short.Html text) opened start end inline = absurd inline
 short-opens short.Rule opened start end inline = absurd inline
+short-opens _ opened start end inline = (tt, refl)
 
 pub part-range : (source : List ℕ) (start end : ℕ) → IsPart source start end → IsRange source start end
 part-range source start end part = record { ordered = let h = part.some in omega (arith, h); within = part.within; starts = part.starts; ends = part.ends }
@@ -73,12 +69,10 @@ get_or-any (x ∷ xs) (suc i) d e lt = get_or-any xs i d e (omega (arith, lt))
 
 -- an end, or nothing
 pub passes : (source : List ℕ) (old new : List Opened) (n : Next) → GivesNext source old n new → PassesShort source old n new
-passes source old new (next.Short s start end) h = h
-passes source old new next.Long h = h
 passes source old new next.Over h = h.1 ∙ sym h.0
+passes source old new _ h = h
 
 -- a short event that belongs to any slot
 pub any-slot : (n : Next) (leaf : LeafText) (slots : List Slot) (i : ℕ) → ((text : LeafText) (slot : Slot) → IfShort n (StandsFor text slot)) → IfShort n (λ s. (d : Slot) → StandsFor leaf (get_or slots i d) s)
 any-slot (next.Short s start end) leaf slots i h = λ d. h leaf (get_or slots i d)
-any-slot next.Long leaf slots i h = tt
-any-slot next.Over leaf slots i h = tt
+any-slot _ leaf slots i h = tt

@@ -107,9 +107,7 @@ module _ (leaf : LeafText) (source : List ℕ) (texts : List CowStr) (links : Li
 
   item-end : (x : Item) (y : row.Slot) → IsLike source (row.ItemSlot x) y → row_shows.ends_by display y ≡ nat_le x.end display
   item-end x (row.ItemSlot y) h = ap (λ n. nat_le n display) (sym h.end)
-  item-end x (row.BeginSlot tag start end) h = absurd h
-  item-end x row.EndSlot h = absurd h
-  item-end x row.NothingSlot h = absurd h
+  item-end x _ h = absurd h
 
   -- a slot has some bytes of the text
   pub record IsGood (slot : Slot) : Type 0 where
@@ -128,24 +126,13 @@ module _ (leaf : LeafText) (source : List ℕ) (texts : List CowStr) (links : Li
   -- the slot ends by the offset in the text if its slot of the model ends by the offset in the source
   ends-kind : (slot : Slot) (k : SlotKind) (y : row.Slot) → slot.start < slot.end → slot.end ≤ length (text_of leaf) → EndsIn leaf slot.end (source_end k) → IsLike source (slot_as leaf texts links slot k) y
       → row_shows.ends_by display y ≡ (has_none_after t slot.start k || nat_le slot.end t)
-  ends-kind slot kind.Text y some fits e h = item-end _ y h ∙ past-same slot.end (omega (arith, some)) fits
-  ends-kind slot (kind.OwnedText index) y some fits e h = item-end _ y h ∙ past-same slot.end (omega (arith, some)) fits
-  ends-kind slot (kind.Character character) y some fits e h = item-end _ y h ∙ past-same slot.end (omega (arith, some)) fits
-  ends-kind slot (kind.Whole last) y some fits e h = item-end _ y h ∙ past-same slot.end (omega (arith, some)) fits
-  ends-kind slot kind.SoftBreak y some fits e h = item-end _ y h ∙ past-same slot.end (omega (arith, some)) fits
-  ends-kind slot kind.HardBreak y some fits e h = item-end _ y h ∙ past-same slot.end (omega (arith, some)) fits
-  ends-kind slot (kind.Code from to) y some fits e h = item-end _ y h ∙ past-same slot.end (omega (arith, some)) fits
-  ends-kind slot (kind.InlineMath from to) y some fits e h = item-end _ y h ∙ past-same slot.end (omega (arith, some)) fits
-  ends-kind slot (kind.DisplayMath from to) y some fits e h = item-end _ y h ∙ past-same slot.end (omega (arith, some)) fits
-  ends-kind slot kind.InlineHtml y some fits e h = item-end _ y h ∙ past-same slot.end (omega (arith, some)) fits
   ends-kind slot (kind.SourceHtml past) y some fits e h = item-end _ y h ∙ source-same slot.end past e
-  ends-kind slot (kind.CutHtml from) y some fits e h = item-end _ y h ∙ past-same slot.end (omega (arith, some)) fits
   ends-kind slot (kind.SourceText past) y some fits e h = item-end _ y h ∙ source-same slot.end past e
   ends-kind slot kind.Empty y some fits e h = item-end _ y h ∙ first-same slot.start (omega (arith, some, fits)) ∙ sym (either slot.start slot.end some)
-  ends-kind slot (kind.FootnoteReference index) y some fits e h = item-end _ y h ∙ past-same slot.end (omega (arith, some)) fits
   ends-kind slot (kind.Begin element) y some fits e h = ap (row_shows.ends_by display) h ∙ past-same slot.end (omega (arith, some)) fits
   ends-kind slot kind.End y some fits e h = ap (row_shows.ends_by display) h
   ends-kind slot kind.Nothing y some fits e h = ap (row_shows.ends_by display) h
+  ends-kind slot _ y some fits e h = item-end _ y h ∙ past-same slot.end (omega (arith, some)) fits
 
   ends-same : (slot : Slot) (y : row.Slot) → IsGood slot → IsLike source (shown_slot leaf texts links slot) y → row_shows.ends_by display y ≡ ends_by t slot
   ends-same slot y g h = ends-kind slot slot.kind y g.some g.within g.ends h
@@ -167,24 +154,10 @@ module _ (leaf : LeafText) (source : List ℕ) (texts : List CowStr) (links : Li
   -- ## The slot that is cut
 
   item-start : (slot : Slot) (k : SlotKind) (x : Item) → IsLike source (slot_as leaf texts links slot k) (row.ItemSlot x) → x.start ≡ place_of leaf slot.start
-  item-start slot kind.Text x h = sym h.start
-  item-start slot (kind.OwnedText index) x h = sym h.start
-  item-start slot (kind.Character character) x h = sym h.start
-  item-start slot (kind.Whole last) x h = sym h.start
-  item-start slot kind.SoftBreak x h = sym h.start
-  item-start slot kind.HardBreak x h = sym h.start
-  item-start slot (kind.Code from to) x h = sym h.start
-  item-start slot (kind.InlineMath from to) x h = sym h.start
-  item-start slot (kind.DisplayMath from to) x h = sym h.start
-  item-start slot kind.InlineHtml x h = sym h.start
-  item-start slot (kind.SourceHtml past) x h = sym h.start
-  item-start slot (kind.CutHtml from) x h = sym h.start
-  item-start slot (kind.SourceText past) x h = sym h.start
-  item-start slot kind.Empty x h = sym h.start
-  item-start slot (kind.FootnoteReference index) x h = sym h.start
   item-start slot (kind.Begin element) x h = absurd (let z : ⊥ = cc in z)
   item-start slot kind.End x h = absurd (let z : ⊥ = cc in z)
   item-start slot kind.Nothing x h = absurd (let z : ⊥ = cc in z)
+  item-start slot _ x h = sym h.start
 
   -- the begin of an element
   record IsBegin (slot : Slot) (k : SlotKind) (tag : Tag) (start end : ℕ) : Type 0 where
@@ -193,21 +166,6 @@ module _ (leaf : LeafText) (source : List ℕ) (texts : List CowStr) (links : Li
     cut : (text : List ℕ) → row.BeginSlot tag display end ≡ slot_as leaf texts links (record { kind = cut_kind text slot.start slot.end k; start = t; end = slot.end }) (cut_kind text slot.start slot.end k)
 
   begin-start : (slot : Slot) (k : SlotKind) (tag : Tag) (start end : ℕ) → IsLike source (slot_as leaf texts links slot k) (row.BeginSlot tag start end) → IsBegin slot k tag start end
-  begin-start slot kind.Text tag start end h = absurd h
-  begin-start slot (kind.OwnedText index) tag start end h = absurd h
-  begin-start slot (kind.Character character) tag start end h = absurd h
-  begin-start slot (kind.Whole last) tag start end h = absurd h
-  begin-start slot kind.SoftBreak tag start end h = absurd h
-  begin-start slot kind.HardBreak tag start end h = absurd h
-  begin-start slot (kind.Code from to) tag start end h = absurd h
-  begin-start slot (kind.InlineMath from to) tag start end h = absurd h
-  begin-start slot (kind.DisplayMath from to) tag start end h = absurd h
-  begin-start slot kind.InlineHtml tag start end h = absurd h
-  begin-start slot (kind.SourceHtml past) tag start end h = absurd h
-  begin-start slot (kind.CutHtml from) tag start end h = absurd h
-  begin-start slot (kind.SourceText past) tag start end h = absurd h
-  begin-start slot kind.Empty tag start end h = absurd h
-  begin-start slot (kind.FootnoteReference index) tag start end h = absurd h
   begin-start slot (kind.Begin element) tag start end h =
       let a : tag ≡ shown_element links element = cc in
       let b : start ≡ place_of leaf slot.start = cc in
@@ -219,6 +177,7 @@ module _ (leaf : LeafText) (source : List ℕ) (texts : List CowStr) (links : Li
       }
   begin-start slot kind.End tag start end h = absurd (let z : ⊥ = cc in z)
   begin-start slot kind.Nothing tag start end h = absurd (let z : ⊥ = cc in z)
+  begin-start slot _ tag start end h = absurd h
 
   module _ (text : List ℕ) (slot : Slot) (good : IsGood slot) (following : t < slot.end)
       (cuts : (x : Item) → IsLike source (shown_slot leaf texts links slot) (row.ItemSlot x) → slot.start < t → display < x.end → CutFacts source x → IsLike source (shown_slot leaf texts links (cut_slot text t slot)) (row.ItemSlot (item x.kind display x.end))) where
@@ -258,10 +217,8 @@ module _ (leaf : LeafText) (source : List ℕ) (texts : List CowStr) (links : Li
         b = begin-start slot slot.kind tag start end h
 
         like-begin : (x y : row.Slot) (n m : ℕ) → n ≡ m → row.BeginSlot tag n end ≡ x → IsLike source x (row.BeginSlot tag m end)
-        like-begin (row.ItemSlot x) y n m e f = absurd (let z : ⊥ = cc in z)
         like-begin (row.BeginSlot tag1 start1 end1) y n m e f = ap (λ k. row.BeginSlot tag k end) (sym e) ∙ f
-        like-begin row.EndSlot y n m e f = absurd (let z : ⊥ = cc in z)
-        like-begin row.NothingSlot y n m e f = absurd (let z : ⊥ = cc in z)
+        like-begin _ y n m e f = absurd (let z : ⊥ = cc in z)
 
         go : (c : Bool) → nat_lt slot.start t ≡ c → IsLike source (shown_slot leaf texts links (cut_slot text t slot)) (row.BeginSlot tag (max start display) end)
         go false f =

@@ -13,10 +13,9 @@ use Rattle.cmark_values.specs.declared.text.CowStr.TheVariants.{Boxed, Borrowed,
 
 -- a text of its own that is not these bytes
 pub own-unlent : (made : CowStr) (bytes : List ℕ) → IsBoxed made ⊎ IsInlined made → text_bytes made ≢ bytes → IsLentBy bytes made
-own-unlent (Boxed text) bytes own differ = differ
 own-unlent (Borrowed text) bytes (inl none) differ = absurd none
 own-unlent (Borrowed text) bytes (inr none) differ = absurd none
-own-unlent (Inlined text) bytes own differ = differ
+own-unlent _ bytes own differ = differ
 
 -- bytes with gaps in the source differ from the source between the first and the last of them
 apart-differs : (text source : List ℕ) (from to first last : ℕ) → from < to → to ≤ length text → first < last → last ≤ length source → last ≢ first + (to - from) → slice text from to ≢ slice source first last
@@ -56,9 +55,8 @@ part-in bytes content source first last ordered inside is p =
     }
 
 borrowed-in : (made : CowStr) (content source : List ℕ) (first last : ℕ) → first ≤ last → last ≤ length source → content ≡ slice source first last → IsPartIfBorrowed content made → IsPartIfBorrowed source made
-borrowed-in (Boxed text) content source first last ordered inside is p = tt
 borrowed-in (Borrowed text) content source first last ordered inside is p = part-in text.now content source first last ordered inside is p
-borrowed-in (Inlined text) content source first last ordered inside is p = tt
+borrowed-in _ content source first last ordered inside is p = tt
 
 -- the bytes of a leaf's text from one place to another, in the source
 abbrev pub bytes_over : LeafText → (from to : ℕ) → List ℕ
@@ -87,9 +85,8 @@ code-part (Err e) content leaf from to read part is p = tt
 
 -- a text that these bytes of the source lend is a part of the source
 lent-made : (made : CowStr) (source : List ℕ) (first last : ℕ) → IsPart source first last → IsLentBy (slice source first last) made → IsPartIfBorrowed source made
-lent-made (Boxed text) source first last part lent = tt
 lent-made (Borrowed text) source first last part lent = let some = part.some in record { start = first; end = last; ordered = omega (arith, some); within = part.within; are = lent }
-lent-made (Inlined text) source first last part lent = tt
+lent-made _ source first last part lent = tt
 
 pub lent-part-of : (made : CowStr) (leaf : LeafText) (from to : ℕ) → IsRead leaf → IsPart (text_of leaf) from to → IsLentBy (bytes_over leaf from to) made → IsPartIfBorrowed (source_of leaf) made
 lent-part-of made leaf from to read part lent = lent-made made (source_of leaf) (place_of leaf from) (place_of leaf (to - 1) + 1) (there leaf from to read part) lent

@@ -142,12 +142,10 @@ record IsTwo (k : SpanKind) : Type 0 where
   closes : closing k ≡ Blank ∷ (Ends k ∷ [])
 
 shape : (k : SpanKind) → IsOne k ⊎ IsTwo k
-shape Emphasis = inl (record { width = refl; opens = refl; closes = refl })
 shape Strong = inr (record { width = refl; opens = refl; closes = refl })
-shape SingleTilde = inl (record { width = refl; opens = refl; closes = refl })
 shape DoubleTilde = inr (record { width = refl; opens = refl; closes = refl })
-shape Caret = inl (record { width = refl; opens = refl; closes = refl })
 shape DoubleEquals = inr (record { width = refl; opens = refl; closes = refl })
+shape _ = inl (record { width = refl; opens = refl; closes = refl })
 
 regroup : (x m y v r : List Mark) → ((x ++ (m ++ y)) ++ v) ++ r ≡ x ++ (m ++ (y ++ (v ++ r)))
 regroup x m y v r = simp append_assoc

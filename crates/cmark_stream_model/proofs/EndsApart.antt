@@ -30,15 +30,12 @@ other-number m d q = grind (arith)
 
 -- whether blocks begin with a definition decides whether they continue a list
 title-list : (one other : Option ℕ) (a : Blocks) → is_title a ≡ true → last_list one a ≡ last_list other a
-title-list one other NoBlocks e = absurd (true≢false (sym e))
 title-list one other (BlankLine line after) e = title-list one other after e
-title-list one other (ParagraphBlock first more after) e = absurd (true≢false (sym e))
-title-list one other (SetextHeading level first more underline after) e = absurd (true≢false (sym e))
-title-list one other (LeafBlock leaf first more after) e = absurd (true≢false (sym e))
 title-list one other (ContainerBlock (BlockQuotePrefix alert) first more inside after) e = absurd (true≢false (sym e))
 title-list one other (ContainerBlock (Footnote label old size) first more inside after) e = absurd (true≢false (sym e))
 title-list one other (ContainerBlock (Item m number width task) first more inside after) e = absurd (true≢false (sym e))
 title-list one other (ContainerBlock (ListDefinition width) first more inside after) e = refl
+title-list one other _ e = absurd (true≢false (sym e))
 
 -- a list that does not continue is not made loose by the blocks after it
 ended-loose : (d : ℕ) (blank : Bool) (b : Blocks) → goes_on d b ≡ false → loose_from d blank b ≡ false
@@ -50,36 +47,32 @@ ended-loose d blank (ParagraphBlock first more after) e = go (definition_delimit
     go true true q = absurd (true≢false q)
     go true false q = refl
     go false t q = refl
-ended-loose d blank (SetextHeading level first more underline after) e = refl
-ended-loose d blank (LeafBlock leaf first more after) e = refl
 ended-loose d blank (ContainerBlock (BlockQuotePrefix alert) first more inside after) e = refl
 ended-loose d blank (ContainerBlock (Footnote label old size) first more inside after) e = refl
 ended-loose d blank (ContainerBlock (Item m number width task) first more inside after) e = ap (λ z. z && (blank || (is_parted_item inside || loose_from d (ends_blank true false inside) after))) e
 ended-loose d blank (ContainerBlock (ListDefinition width) first more inside after) e = ap (λ z. z && (blank || (is_parted_item inside || loose_from d (ends_blank true false inside) after))) e
+ended-loose d blank _ e = refl
 
 -- blocks that begin with no definition
 module _ (c : Blocks) (untitled : is_title c ≡ false) where
   titled-same : (a : Blocks) → is_title (join_blocks a c) ≡ is_title a
   titled-same NoBlocks = untitled
   titled-same (BlankLine line after) = titled-same after
-  titled-same (ParagraphBlock first more after) = refl
-  titled-same (SetextHeading level first more underline after) = refl
-  titled-same (LeafBlock leaf first more after) = refl
   titled-same (ContainerBlock (BlockQuotePrefix alert) first more inside after) = refl
   titled-same (ContainerBlock (Footnote label old size) first more inside after) = refl
   titled-same (ContainerBlock (Item m number width task) first more inside after) = refl
   titled-same (ContainerBlock (ListDefinition width) first more inside after) = refl
+  titled-same _ = refl
 
   goes-same : (d : ℕ) (a : Blocks) → continues (last_list (Some d) a) c ≡ false → goes_on d (join_blocks a c) ≡ goes_on d a
   goes-same d NoBlocks e = e
   goes-same d (BlankLine line after) e = goes-same d after e
   goes-same d (ParagraphBlock first more after) e = ap (λ t. (definition_delimiter == d) && t) (titled-same after)
-  goes-same d (SetextHeading level first more underline after) e = refl
-  goes-same d (LeafBlock leaf first more after) e = refl
   goes-same d (ContainerBlock (BlockQuotePrefix alert) first more inside after) e = refl
   goes-same d (ContainerBlock (Footnote label old size) first more inside after) e = refl
   goes-same d (ContainerBlock (Item m number width task) first more inside after) e = refl
   goes-same d (ContainerBlock (ListDefinition width) first more inside after) e = refl
+  goes-same d _ e = refl
 
   -- the list of a title continues after it
   after-title : (d : ℕ) (a : Blocks) → is_title a ≡ true → continues (last_list None a) c ≡ false → continues (last_list (Some d) a) c ≡ false
@@ -162,14 +155,13 @@ module _ (c : Blocks) (untitled : is_title c ≡ false) where
         go false z p q = refl
         go true true p q = absurd (true≢false q)
         go true false p q = ap (λ z. texted direct first more true (if z then before.tight else title_tight_after None after) after) (other-number definition_delimiter before.delimiter p)
-    list-ended direct before (SetextHeading level first more underline after) e = refl
-    list-ended direct before (LeafBlock leaf first more after) e = refl
     list-ended direct before (ContainerBlock (BlockQuotePrefix alert) first more inside after) e = refl
     list-ended direct before (ContainerBlock (Footnote label old size) first more inside after) e = refl
     list-ended direct before (ContainerBlock (Item m number width task) first more inside after) e =
         ap (λ z. itemed direct m number width task first more inside (goes_on m after) (if z then before.tight else is_tight m inside after) after) (other-number m before.delimiter e)
     list-ended direct before (ContainerBlock (ListDefinition width) first more inside after) e =
         ap (λ z. defined direct first more inside (goes_on definition_delimiter after) (if z then before.tight else is_tight definition_delimiter inside after) after) (other-number definition_delimiter before.delimiter e)
+    list-ended direct before _ e = refl
 
     document-ends : (direct : Bool) (list : Option ListBefore) (a : Blocks) → continues (last_list (character list) a) c ≡ false
         → document_of text options lookup direct list (join_blocks a c) ≡ join (document_of text options lookup direct list a) (document_of text options lookup direct None c)

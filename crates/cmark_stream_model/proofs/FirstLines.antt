@@ -57,9 +57,8 @@ either-blank b e = go (b == space) refl e
 
 not-blank-or : (x y : Opening) → is_blank x ≡ false → is_blank y ≡ false → is_blank (or_else x y) ≡ false
 not-blank-or Blank y e f = e
-not-blank-or (Nests k) y e f = refl
-not-blank-or (Takes leaf more) y e f = refl
 not-blank-or Plain y e f = f
+not-blank-or _ y e f = refl
 
 not-blank-nests : (o : Option Container) → is_blank (nests_if o) ≡ false
 not-blank-nests None = refl
@@ -239,14 +238,11 @@ module _ (options : Options) where
 
   pub parts-any : (o : OpenLines) (r : Row) (a b : List Row) → ((ahead : List Row) → table_interrupts options r ahead ≡ false) → Parts options o r a → Parts options o r b
   unfolding texts lazily
-  parts-any (Between closed) r a b e h = h
-  parts-any AfterTag r a b e h = h
   parts-any (InParagraph closed first more) r a b e h =
       (h.0, ap (λ t. not (interrupts options (not r.lazy) r b || (t || begins_definition options r))) (e b ∙ sym (e a)) ∙ h.1)
-  parts-any (InLeaf closed leaf first had left) r a b e h = h
-  parts-any (InVerbatim closed verbatim first had waiting) r a b e h = h
   parts-any (InContainer closed k first more inside) r a b e h =
       (h.0, ap (λ t. not (interrupts options false r b || (t || (is_definition k && begins_definition options r))) && lines_take_lazy inside) (e b ∙ sym (e a)) ∙ h.1)
+  parts-any _ r a b e h = h
 
   -- ## Lines that look at none ahead
 

@@ -201,9 +201,7 @@ module _ (profile : Profile) (size : ℕ) (s t : List ℕ) (agree : Agree size s
 
   goes_on-same : (x : Token) (end : ℕ) (more others : ℕ → ℕ) → ((n : ℕ) → more n ≡ others n) → goes_on one leaf x end more ≡ goes_on other leaf x end others
   goes_on-same (Stands item resume) end more others h = either-place (is_plain item.kind && (item.start == end)) _ _ _ _ (h resume) refl
-  goes_on-same (Opens opener) end more others h = refl
-  goes_on-same (Closes closer) end more others h = refl
-  goes_on-same Ends end more others h = refl
+  goes_on-same _ end more others h = refl
 
   plain_end-same : (n end : ℕ) → plain_end one leaf n end ≡ plain_end other leaf n end
   plain_end-same zero end = refl
@@ -213,9 +211,7 @@ module _ (profile : Profile) (size : ℕ) (s t : List ℕ) (agree : Agree size s
   longest-same : (x : Token) → longest one leaf x ≡ longest other leaf x
   longest-same (Stands item resume) =
       either-token (is_plain item.kind) _ _ _ _ (ap (λ n. item_at items.Plain item.start n) (ap (λ (l : List ℕ). plain_end one leaf (length l) resume) (from-same resume) ∙ plain_end-same (length (from other leaf resume)) resume)) refl
-  longest-same (Opens opener) = refl
-  longest-same (Closes closer) = refl
-  longest-same Ends = refl
+  longest-same _ = refl
 
   token-same : (at : ℕ) → token one leaf at ≡ token other leaf at
   unfolding token
@@ -449,20 +445,13 @@ module _ (profile : Profile) (size : ℕ) (s t : List ℕ) (agree : Agree size s
   -- ## Events
 
   event-same : (x : Item) (kind : ItemKind) → slice s x.start x.end ≡ slice t x.start x.end → event_of s x kind ≡ event_of t x kind
-  event-same x (items.Written text) h = refl
-  event-same x (items.Code text) h = refl
-  event-same x (items.InlineMath text) h = refl
-  event-same x (items.DisplayMath text) h = refl
   event-same x items.Html h = ap InlineHtml h
-  event-same x (items.OwnedHtml text) h = refl
-  event-same x (items.FootnoteReference label) h = refl
-  event-same x items.SoftBreak h = refl
-  event-same x items.HardBreak h = refl
   event-same x items.Plain h = ap Text h
   event-same x items.Own h = ap Text h
   event-same x (items.Quoted quote) h = ap Text h
   event-same x (items.Delimiters run) h = ap Text h
   event-same x (items.Autolink uri) h = ap Text h
+  event-same x _ h = refl
 
   inline-same : (Pipe : ℕ → Type 0) (low : ℕ) (spans : Inline) (to : ℕ) → InlineOrder Pipe low spans to → to ≤ size → inline_events s spans ≡ inline_events t spans
   inline-same Pipe low NoSpans to h w = refl

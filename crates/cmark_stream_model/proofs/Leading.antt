@@ -27,20 +27,16 @@ use Rattle.cmark_stream_model.proofs.GrowingTables.{no-task}
 -- ## No line begins a definition
 
 abbrev NoDefinition : Opening → Type 0
-NoDefinition Blank = Unit {0}
 NoDefinition (Nests k) = is_definition k ≡ false
-NoDefinition (Takes leaf n) = Unit {0}
-NoDefinition Plain = Unit {0}
+NoDefinition _ = Unit {0}
 
 abbrev NoneOrOther : Option Container → Type 0
 NoneOrOther None = Unit {0}
 NoneOrOther (Some k) = is_definition k ≡ false
 
 no-or : (x y : Opening) → NoDefinition x → NoDefinition y → NoDefinition (or_else x y)
-no-or Blank y h k = h
-no-or (Nests c) y h k = h
-no-or (Takes leaf n) y h k = h
 no-or Plain y h k = k
+no-or _ y h k = h
 
 no-nests : (o : Option Container) → NoneOrOther o → NoDefinition (nests_if o)
 no-nests None h = tt
@@ -160,35 +156,26 @@ NoDefinitions (ContainerBlock k first more inside after) = (is_definition k ≡ 
 -- ## The first block that is no blank line: an item only if `other` holds of its character, and a paragraph only if `text` holds
 
 abbrev leads_in : (other : ℕ → Bool) → Container → Bool
-leads_in other (BlockQuote alert) = true
 leads_in other (Item delimiter number width task) = other delimiter
-leads_in other (Footnote label old size) = true
 leads_in other (ListDefinition width) = false
+leads_in other _ = true
 
 abbrev first_leads : (other : ℕ → Bool) (text : Bool) → (so : Bool) → Blocks → Bool
 first_leads other text so Nil = so
 first_leads other text so (BlankLine line after) = first_leads other text so after
 first_leads other text so (Paragraph first more after) = text
-first_leads other text so (SetextHeading level first more underline after) = true
-first_leads other text so (LeafBlock leaf first more after) = true
 first_leads other text so (ContainerBlock k first more inside after) = leads_in other k
+first_leads other text so _ = true
 
 leads-join : (other : ℕ → Bool) (text : Bool) → (so : Bool) (a b : Blocks) → first_leads other text so (join a b) ≡ first_leads other text (first_leads other text so b) a
-leads-join other text so Nil b = refl
 leads-join other text so (BlankLine line after) b = leads-join other text so after b
-leads-join other text so (Paragraph first more after) b = refl
-leads-join other text so (SetextHeading level first more underline after) b = refl
-leads-join other text so (LeafBlock leaf first more after) b = refl
-leads-join other text so (ContainerBlock k first more inside after) b = refl
+leads-join other text so _ b = refl
 
 -- if some blocks have a first block of this kind, `so` does not matter
 leads-more : (other : ℕ → Bool) (text : Bool) → (so : Bool) (a : Blocks) → first_leads other text false a ≡ true → first_leads other text so a ≡ true
 leads-more other text so Nil h = absurd (true≢false (sym h))
 leads-more other text so (BlankLine line after) h = leads-more other text so after h
-leads-more other text so (Paragraph first more after) h = h
-leads-more other text so (SetextHeading level first more underline after) h = h
-leads-more other text so (LeafBlock leaf first more after) h = h
-leads-more other text so (ContainerBlock k first more inside after) h = h
+leads-more other text so _ h = h
 
 -- if a paragraph may be open after some blocks, so may each other block
 leads-text : (other : ℕ → Bool) (text : Bool) (a : Blocks) → first_leads other text text a ≡ true → first_leads other text true a ≡ true
@@ -197,15 +184,12 @@ leads-text other false a h = leads-more other false true a h
 
 -- such blocks begin with no definition
 untitled-of : (other : ℕ → Bool) (text : Bool) (a : Blocks) → first_leads other text false a ≡ true → is_title a ≡ false
-untitled-of other text Nil h = refl
 untitled-of other text (BlankLine line after) h = untitled-of other text after h
-untitled-of other text (Paragraph first more after) h = refl
-untitled-of other text (SetextHeading level first more underline after) h = refl
-untitled-of other text (LeafBlock leaf first more after) h = refl
 untitled-of other text (ContainerBlock (BlockQuote alert) first more inside after) h = refl
 untitled-of other text (ContainerBlock (Item delimiter number width task) first more inside after) h = refl
 untitled-of other text (ContainerBlock (Footnote label old size) first more inside after) h = refl
 untitled-of other text (ContainerBlock (ListDefinition width) first more inside after) h = absurd (true≢false (sym h))
+untitled-of other text _ h = refl
 
 pub no-join : (a b : Blocks) → NoDefinitions a → NoDefinitions b → NoDefinitions (join a b)
 no-join Nil b h k = k
@@ -216,15 +200,12 @@ no-join (LeafBlock leaf first more after) b h k = no-join after b h k
 no-join (ContainerBlock c first more inside after) b h k = (h.0, no-join after b h.1 k)
 
 pub no-title : (a : Blocks) → NoDefinitions a → is_title a ≡ false
-no-title Nil h = refl
 no-title (BlankLine line after) h = no-title after h
-no-title (Paragraph first more after) h = refl
-no-title (SetextHeading level first more underline after) h = refl
-no-title (LeafBlock leaf first more after) h = refl
 no-title (ContainerBlock (BlockQuote alert) first more inside after) h = refl
 no-title (ContainerBlock (Item delimiter number width task) first more inside after) h = refl
 no-title (ContainerBlock (Footnote label old size) first more inside after) h = refl
 no-title (ContainerBlock (ListDefinition width) first more inside after) h = absurd (true≢false h.0)
+no-title _ h = refl
 
 and-false : (z : Bool) → (z && false) ≡ false
 and-false true = refl
@@ -235,39 +216,33 @@ not-true true e = absurd (true≢false (sym e))
 not-true false e = refl
 
 apart-of : (a : Blocks) → NoDefinitions a → first_leads (λ m. false) true false a ≡ true → begins_apart a ≡ true
-apart-of Nil h e = refl
 apart-of (BlankLine line after) h e = apart-of after h e
 apart-of (Paragraph first more after) h e = ap not (no-title after h)
-apart-of (SetextHeading level first more underline after) h e = refl
-apart-of (LeafBlock leaf first more after) h e = refl
 apart-of (ContainerBlock (BlockQuote alert) first more inside after) h e = refl
 apart-of (ContainerBlock (Item delimiter number width task) first more inside after) h e = absurd (true≢false (sym e))
 apart-of (ContainerBlock (Footnote label old size) first more inside after) h e = refl
 apart-of (ContainerBlock (ListDefinition width) first more inside after) h e = absurd (true≢false (sym e))
+apart-of _ h e = refl
 
 -- the same for a list that is not a definition list, or if no paragraph is first
 goes-firm : (d : ℕ) (a : Blocks) → first_leads (λ m. not (m == d)) (not (definition_delimiter == d)) false a ≡ true → goes_on d a ≡ false
-goes-firm d Nil e = refl
 goes-firm d (BlankLine line after) e = goes-firm d after e
 goes-firm d (Paragraph first more after) e = ap (λ z. z && is_title after) (not-true (definition_delimiter == d) e)
-goes-firm d (SetextHeading level first more underline after) e = refl
-goes-firm d (LeafBlock leaf first more after) e = refl
 goes-firm d (ContainerBlock (BlockQuote alert) first more inside after) e = refl
 goes-firm d (ContainerBlock (Item m number width task) first more inside after) e = not-true (m == d) e
 goes-firm d (ContainerBlock (Footnote label old size) first more inside after) e = refl
 goes-firm d (ContainerBlock (ListDefinition width) first more inside after) e = absurd (true≢false (sym e))
+goes-firm d _ e = refl
 
 -- if the first block is no item of the list with this character, the blocks do not continue the list
 goes-of : (d : ℕ) (a : Blocks) → NoDefinitions a → first_leads (λ m. not (m == d)) true false a ≡ true → goes_on d a ≡ false
-goes-of d Nil h e = refl
 goes-of d (BlankLine line after) h e = goes-of d after h e
 goes-of d (Paragraph first more after) h e = ap (λ t. (definition_delimiter == d) && t) (no-title after h) ∙ and-false (definition_delimiter == d)
-goes-of d (SetextHeading level first more underline after) h e = refl
-goes-of d (LeafBlock leaf first more after) h e = refl
 goes-of d (ContainerBlock (BlockQuote alert) first more inside after) h e = refl
 goes-of d (ContainerBlock (Item m number width task) first more inside after) h e = not-true (m == d) e
 goes-of d (ContainerBlock (Footnote label old size) first more inside after) h e = refl
 goes-of d (ContainerBlock (ListDefinition width) first more inside after) h e = absurd (true≢false h.0)
+goes-of d _ h e = refl
 
 -- ## The open blocks
 
@@ -319,28 +294,16 @@ html-none true closed kind r h = h
 html-none false closed kind r h = h
 
 leaf-none : (leaf : Leaf) (n : ℕ) (closed : Blocks) (r : Row) → NoDefinitions closed → NoneOpen (leaf_begun leaf n closed r)
-leaf-none ThematicBreak n closed r h = h
-leaf-none (AtxHeading level) n closed r h = h
-leaf-none IndentedCode n closed r h = h
-leaf-none (FencedCode fence) n closed r h = h
 leaf-none (HtmlBlock kind) n closed r h = html-none (nat_le kind 5 && holds_end kind (words_of r)) closed kind r h
-leaf-none (LinkDefinition definition) n closed r h = h
-leaf-none (MetadataBlock kind) n closed r h = h
-leaf-none (Table alignments) n closed r h = h
+leaf-none _ n closed r h = h
 
 html-leads : (other : ℕ → Bool) (text : Bool) → (z : Bool) (closed : Blocks) (kind : ℕ) (r : Row) → first_leads other text true closed ≡ true → LeadsOpen other text (html_begun z closed kind r)
 html-leads other text true closed kind r h = h
 html-leads other text false closed kind r h = h
 
 leaf-leads : (other : ℕ → Bool) (text : Bool) → (leaf : Leaf) (n : ℕ) (closed : Blocks) (r : Row) → first_leads other text true closed ≡ true → LeadsOpen other text (leaf_begun leaf n closed r)
-leaf-leads other text ThematicBreak n closed r h = h
-leaf-leads other text (AtxHeading level) n closed r h = h
-leaf-leads other text IndentedCode n closed r h = h
-leaf-leads other text (FencedCode fence) n closed r h = h
 leaf-leads other text (HtmlBlock kind) n closed r h = html-leads other text (nat_le kind 5 && holds_end kind (words_of r)) closed kind r h
-leaf-leads other text (LinkDefinition definition) n closed r h = h
-leaf-leads other text (MetadataBlock kind) n closed r h = h
-leaf-leads other text (Table alignments) n closed r h = h
+leaf-leads other text _ n closed r h = h
 
 pub begun-none : (o : Opening) (inside : Container → OpenLines) (closed : Blocks) (r : Row) → NoDefinition o → NoDefinitions closed → NoneOpen (lines_begin_as o inside closed r)
 begun-none Blank inside closed r n h = no-join closed (BlankLine r Nil) h tt
@@ -363,9 +326,8 @@ Leads other text Plain = text ≡ true
 
 first-leads : (other : ℕ → Bool) (text : Bool) → (o : Opening) (inside : Container → OpenLines) (r : Row) → Leads other text o → LeadsOpen other text (lines_begin_as o inside Nil r)
 first-leads other text Blank inside r e = absurd e
-first-leads other text (Nests k) inside r e = e
 first-leads other text (Takes leaf m) inside r e = leaf-leads other text leaf m Nil r refl
-first-leads other text Plain inside r e = e
+first-leads other text _ inside r e = e
 
 -- the line begins no item
 outside-leads : (o : Opening) → is_outside_of_lists o ≡ true → Leads (λ m. false) true o

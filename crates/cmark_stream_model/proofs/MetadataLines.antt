@@ -45,19 +45,14 @@ expand-further n at (b ∷ bs) = go (b == tab) (expand-Runs 0 at (b ∷ bs))
 
 -- each container but a footnote definition of the old kind takes a column
 abbrev HasPrefix : Container → Type 0
-HasPrefix (BlockQuote alert) = Unit {0}
 HasPrefix (Item delimiter number width task) = 0 < width
-HasPrefix (Footnote label old size) = Unit {0}
 HasPrefix (ListDefinition width) = 0 < width
+HasPrefix _ = Unit {0}
 
 -- all open containers take columns
 abbrev pub ArePrefixed : OpenLines → Type 0
-ArePrefixed (Between closed) = Unit {0}
-ArePrefixed AfterTag = Unit {0}
-ArePrefixed (InParagraph closed first more) = Unit {0}
-ArePrefixed (InLeaf closed leaf first had left) = Unit {0}
-ArePrefixed (InVerbatim closed verbatim first had waiting) = Unit {0}
 ArePrefixed (InContainer closed k first more inside) = HasPrefix k × ArePrefixed inside
+ArePrefixed _ = Unit {0}
 
 module _ (options : Options) where
   -- no metadata begins on what is left of a line if a column is taken
@@ -148,10 +143,9 @@ module _ (options : Options) where
   enter-wholly k r h = without-wholly (width_of k r) r h
 
   opened-prefix : (k : Container) (r : Row) → indent_of r < marker_width k r → HasPrefix k
-  opened-prefix (BlockQuote alert) r lt = tt
   opened-prefix (Item delimiter number width task) r lt = omega (arith, lt)
-  opened-prefix (Footnote label old size) r lt = tt
   opened-prefix (ListDefinition width) r lt = omega (arith, lt)
+  opened-prefix _ r lt = tt
 
   pub enter-none : (k : Container) (place : Place) (r : Row) (ahead : List Row) → opens_at options place r ahead ≡ Nests k → IsWholly r → metadata_kind options (enter k r) ≡ None
   unfolding enter
@@ -167,14 +161,8 @@ module _ (options : Options) where
   html-prefixed false closed kind r = tt
 
   leaf-prefixed : (leaf : Leaf) (n : ℕ) (closed : Blocks) (r : Row) → ArePrefixed (leaf_begun leaf n closed r)
-  leaf-prefixed ThematicBreak n closed r = tt
-  leaf-prefixed (AtxHeading level) n closed r = tt
-  leaf-prefixed IndentedCode n closed r = tt
-  leaf-prefixed (FencedCode fence) n closed r = tt
   leaf-prefixed (HtmlBlock kind) n closed r = html-prefixed (nat_le kind 5 && holds_end kind (words_of r)) closed kind r
-  leaf-prefixed (LinkDefinition definition) n closed r = tt
-  leaf-prefixed (MetadataBlock kind) n closed r = tt
-  leaf-prefixed (Table alignments) n closed r = tt
+  leaf-prefixed _ n closed r = tt
 
   begun-prefixed : (o : Opening) (inside : Container → OpenLines) (closed : Blocks) (r : Row) → IsWide options r o → ((k : Container) → ArePrefixed (inside k)) → ArePrefixed (lines_begin_as o inside closed r)
   begun-prefixed Blank inside closed r w h = tt

@@ -284,14 +284,11 @@ module _ (options : Options) where
   -- ## The block that a line begins, without the number of its lines if these are judged one by one
 
   abbrev quiet_leaf : Leaf → ℕ → ℕ
-  quiet_leaf ThematicBreak n = n
-  quiet_leaf (AtxHeading level) n = n
   quiet_leaf IndentedCode n = 0
   quiet_leaf (FencedCode fence) n = 0
   quiet_leaf (HtmlBlock kind) n = 0
-  quiet_leaf (LinkDefinition definition) n = n
   quiet_leaf (MetadataBlock kind) n = 0
-  quiet_leaf (Table alignments) n = n
+  quiet_leaf _ n = n
 
   abbrev quiet : Opening → Opening
   quiet Blank = Blank
@@ -310,10 +307,8 @@ module _ (options : Options) where
   quiet-begun (Table alignments) n closed r = refl
 
   quiet-begins : (o : Opening) (inside : Container → OpenLines) (closed : Blocks) (r : Row) → lines_begin_as (quiet o) inside closed r ≡ lines_begin_as o inside closed r
-  quiet-begins Blank inside closed r = refl
-  quiet-begins (Nests k) inside closed r = refl
   quiet-begins (Takes leaf n) inside closed r = quiet-begun leaf n closed r
-  quiet-begins Plain inside closed r = refl
+  quiet-begins _ inside closed r = refl
 
   quiet-or : (x y : Opening) → quiet (or_else x y) ≡ or_else (quiet x) (quiet y)
   quiet-or Blank y = refl
@@ -394,10 +389,8 @@ module _ (options : Options) where
       go false None = opens-quiet r a b told h
 
   begins-inside : (o : Opening) (one other : Container → OpenLines) (closed : Blocks) (r : Row) → ((k : Container) → o ≡ Nests k → one k ≡ other k) → lines_begin_as o one closed r ≡ lines_begin_as o other closed r
-  begins-inside Blank one other closed r e = refl
   begins-inside (Nests k) one other closed r e = ap (λ x. InContainer closed k r [] (lines_inside_begun (is_alert k) x)) (e k refl)
-  begins-inside (Takes leaf n) one other closed r e = refl
-  begins-inside Plain one other closed r e = refl
+  begins-inside _ one other closed r e = refl
 
   begin_in-same : (n : ℕ) (place : Place) (closed : Blocks) (r : Row) (a b : List Row) → IsWholly options r → Told r a b → Sees r a b → lines_begin_in options n place closed r a ≡ lines_begin_in options n place closed r b
   begin_in-same zero place closed r a b w told h = refl
@@ -420,12 +413,11 @@ module _ (options : Options) where
 
   -- the line begins a block, or is the first one after an alert's tag
   abbrev Begins : OpenLines → Row → List Row → Type 0
-  Begins (Between closed) r ahead = Unit {0}
-  Begins AfterTag r ahead = Unit {0}
   Begins (InParagraph closed first more) r ahead = Parts options (InParagraph closed first more) r ahead
   Begins (InLeaf closed leaf first had left) r ahead = left ≡ 0
   Begins (InVerbatim closed verbatim first had waiting) r ahead = Parts options (InVerbatim closed verbatim first had waiting) r ahead
   Begins (InContainer closed k first more inside) r ahead = Parts options (InContainer closed k first more inside) r ahead
+  Begins _ r ahead = Unit {0}
 
   feed-same : (o : OpenLines) (r : Row) (a b : List Row) → ArePrefixed o → IsWholly options r → (Begins o r a → Told r a b) → Sees r a b → lines_feed options o r a ≡ lines_feed options o r b
   feed-same (Between closed) r a b p w told h = begin-same closed r a b w (told tt) h
@@ -457,10 +449,8 @@ module _ (options : Options) where
 
       go : (c : Continuation) → continuation_if r.lazy verbatim r ≡ c
           → verbatim_line c closed verbatim first had waiting r (lines_begin options off r a) ≡ verbatim_line c closed verbatim first had waiting r (lines_begin options off r b)
-      go GoesOn e = refl
-      go Closes e = refl
-      go Waits e = refl
       go Stops e = begin-same off r a b w (told e) h
+      go _ e = refl
   feed-same (InContainer closed k first more inside) r a b p w told h =
       ap (λ z. lines_kept_or (keeps k bare r) (z && lines_take_lazy inside) (on (lines_feed options inside (strip k bare r) (within k false a))) (lines_begin options off r a)) (lazily-same k r a b h)
       ∙ ap (λ x. lines_kept_or (keeps k bare r) (lazily options k r b && lines_take_lazy inside) (on x) (lines_begin options off r a))
@@ -526,10 +516,7 @@ module _ (options : Options) where
   begins-parts : (o : OpenLines) (r : Row) (ahead : List Row) → Steady Nil o → Begins o r ahead → Parts options o r ahead
   begins-parts (Between closed) r ahead s h = tt
   begins-parts AfterTag r ahead s h = absurd s
-  begins-parts (InParagraph closed first more) r ahead s h = h
-  begins-parts (InLeaf closed leaf first had left) r ahead s h = h
-  begins-parts (InVerbatim closed verbatim first had waiting) r ahead s h = h
-  begins-parts (InContainer closed k first more inside) r ahead s h = h
+  begins-parts _ r ahead s h = h
 
   -- the state after the lines does not depend on the lines after them
   pub fed-same : (o : OpenLines) (rs x y : List Row) → Steady Nil o → ArePrefixed o → AreLines options rs → are_resolved rs ≡ true → AreDecided options x o rs → fed_before options x o rs ≡ fed_before options y o rs
