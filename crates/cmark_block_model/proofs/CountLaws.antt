@@ -2,11 +2,12 @@
 use Rattle.std.proofs.Common.{◌≡◌, inl, inr, ℕ, zero, suc, ◌+◌, ◌-◌, ◌*◌, ◌≤◌, ◌<◌, Bool, true, false, ◌==◌, List, [], ◌∷◌, ◌++◌, length, drop, take_while, refl, sym, ap, ◌∙◌, subst, arith, Option, Some, None, true≢false, drop-drop, ◌&&◌}
 use Rattle.std.proofs.lemmas.List.Sums.{take_while-cons}
 use Rattle.std.specs.Prelude.{if◌then◌else◌, cond, nat_lt}
+use Rattle.cmark_grammar.specs.Characters.{tab}
 use Rattle.cmark_grammar.specs.Answers.{Lookup}
 use Rattle.cmark_grammar.specs.Options.{Options}
 use Rattle.cmark_grammar.specs.Places.{Place, Apart, AfterTitle, over_blank}
 use Rattle.cmark_grammar.specs.Lines.{lines, ends_line, onto, content}
-use Rattle.cmark_grammar.specs.Columns.{Column, tab, expand, tab_columns, to_tab_stop, indent, without_indent, is_blank, is_blank_byte, drop_end}
+use Rattle.cmark_grammar.specs.Columns.{Column, expand, tab_columns, to_tab_stop, indent, without_indent, is_blank, is_blank_byte, drop_end}
 use Rattle.cmark_grammar.specs.Rows.{Row, rows, rows_from, without, place, first_place, begin_of, start_of, last_line_end, is_bare, is_blank_line, words_of}
 use Rattle.cmark_grammar.specs.Leaves.{closes_fence}
 use Rattle.cmark_grammar.specs.Containers.{marker_width, Container, BlockQuote, Item, Footnote, ListDefinition, is_alert, unless_tag, keeps, strip_as, strip, strips, enter, width_of, is_bare_start, insides}

@@ -1,11 +1,12 @@
 -- Metadata blocks are outside of all containers: a line in a container has lost a column, is held, lacks a prefix, or has no column left.
 use Rattle.std.proofs.Common.{◌≡◌, ◌⊎◌, inl, inr, ⊎_elim, ℕ, zero, suc, ◌+◌, ◌≤◌, ◌<◌, Bool, true, false, ◌==◌, ◌&&◌, ◌||◌, not, List, [], ◌∷◌, ◌++◌, length, drop, refl, sym, ap, ◌∙◌, subst, Option, Some, None, arith, ne_eqb, true≢false}
 use Rattle.std.specs.Prelude.{if◌then◌else◌, nat_le}
+use Rattle.cmark_grammar.specs.Characters.{tab}
 use Rattle.cmark_grammar.specs.Options.{Options}
 use Rattle.cmark_grammar.specs.Places.{Place, Apart, AfterTitle, over_blank}
 use Rattle.cmark_grammar.specs.Alignment.{Alignment}
 use Rattle.cmark_grammar.specs.Lines.{lines, content}
-use Rattle.cmark_grammar.specs.Columns.{Column, tab, expand, tab_columns, to_tab_stop, bytes_of}
+use Rattle.cmark_grammar.specs.Columns.{Column, expand, tab_columns, to_tab_stop, bytes_of}
 use Rattle.cmark_grammar.specs.Rows.{Row, rows, rows_from, without, hold, place, first_place, begin_of, is_blank_line, is_whole_line, indent_of, words_of, shown}
 use Rattle.cmark_grammar.specs.Leaves.{Fence, counted, is_thematic_break, is_atx_heading, run, fence_of, code_continuation}
 use Rattle.cmark_grammar.specs.HtmlBlocks.{html_kind}

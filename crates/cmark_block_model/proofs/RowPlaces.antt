@@ -1,8 +1,9 @@
 -- The places of lines' columns in the text.
 use Rattle.std.proofs.Common.{◌≡◌, ℕ, zero, suc, ◌+◌, ◌≤◌, ◌<◌, Bool, true, false, ◌==◌, ◌||◌, nat_le, if◌then◌else◌, List, [], ◌∷◌, ◌++◌, length, drop, take, refl, sym, ap, ◌∙◌, subst, arith, Option, Some, None, ne_eqb}
 use Rattle.std.specs.Prelude.{if◌then◌else◌}
+use Rattle.cmark_grammar.specs.Characters.{tab}
 use Rattle.cmark_grammar.specs.Lines.{lines, ends_line, onto, content}
-use Rattle.cmark_grammar.specs.Columns.{Column, tab, expand, tab_columns, to_tab_stop, indent, without_indent}
+use Rattle.cmark_grammar.specs.Columns.{Column, expand, tab_columns, to_tab_stop, indent, without_indent}
 use Rattle.cmark_grammar.specs.Rows.{Row, rows, rows_from, row_at, without, hold, is_blank_line, indent_of, place, first_place, begin_of, start_of, last_line_end}
 use Rattle.cmark_grammar.specs.Containers.{Container, BlockQuote, Item, Footnote, ListDefinition, keeps, keep_as, strip_as, strip, strips, is_block_quote, block_quote_width}
 

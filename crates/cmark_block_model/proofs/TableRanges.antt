@@ -2,14 +2,15 @@
 use Rattle.std.proofs.Common.{◌≡◌, ℕ, zero, suc, ◌+◌, ◌-◌, ◌*◌, ◌≤◌, ◌<◌, Bool, true, false, ◌==◌, ◌&&◌, not, List, [], ◌∷◌, length, take_while, refl, sym, ap, ◌∙◌, subst, arith}
 use Rattle.std.specs.Prelude.{if◌then◌else◌, cond, nat_lt}
 use Rattle.std.proofs.lemmas.List.Sums.{take_while-cons}
+use Rattle.cmark_grammar.specs.Characters.{backslash, pipe}
 use Rattle.cmark_grammar.specs.Lines.{onto}
 use Rattle.cmark_grammar.specs.Columns.{Column, is_blank_byte, indent, without_indent, drop_end, put_before, bytes_of}
 use Rattle.cmark_grammar.specs.Leaves.{are_blank}
 use Rattle.cmark_grammar.specs.Rows.{Row, words_of, start_of, begin_of}
 use Rattle.cmark_grammar.specs.BlockDocument.{Nil}
 use Rattle.cmark_block_model.specs.Ranges.{InOrder, AllAt, count_nodes}
-use Rattle.cmark_grammar.specs.TableRows.{backslash, parts, without_blank_end, cells_of, cells_start, count_missing}
-use Rattle.cmark_grammar.specs.Tables.{pipe, without_first_pipe}
+use Rattle.cmark_grammar.specs.TableRows.{parts, without_blank_end, cells_of, cells_start, count_missing}
+use Rattle.cmark_grammar.specs.Tables.{without_first_pipe}
 use Rattle.cmark_grammar.specs.TableTokens.{cell_tokens, cells_then, row_cells, row_tokens}
 use Rattle.cmark_grammar.specs.Tokens.{slice, Piece, texts_then}
 use Rattle.cmark_block_model.proofs.RowPlaces.{Runs, drop-Runs, Lies, start-Runs, Along}

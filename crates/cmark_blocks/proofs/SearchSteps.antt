@@ -5,8 +5,9 @@ use Rattle.std.specs.Prelude.{nat_le, nat_lt, IsCharBoundary}
 use Rattle.std.proofs.lemmas.Bool.{ltb-true}
 use Rattle.std.proofs.lemmas.List.{take-append-drop, length-take-le}
 use Rattle.std.proofs.Math.Seq.{take-append_seam, drop-append_seam}
+use Rattle.cmark_grammar.specs.Characters.{tab}
 use Rattle.cmark_grammar.specs.Answers.{Lookup}
-use Rattle.cmark_grammar.specs.Columns.{Column, tab, tab_columns, to_tab_stop, expand, bytes_of}
+use Rattle.cmark_grammar.specs.Columns.{Column, tab_columns, to_tab_stop, expand, bytes_of}
 use Rattle.cmark_grammar.specs.DefinitionLists.{begins_definition}
 use Rattle.cmark_grammar.specs.Lines.{lines, content}
 use Rattle.cmark_grammar.specs.Openings.{opens_at}

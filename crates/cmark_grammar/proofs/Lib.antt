@@ -1,6 +1,7 @@
 mod AlertSamples
 mod AttributeSamples
 mod BlockReadingSamples
+mod CharacterSamples
 mod EmailSamples
 pub mod HtmlSamples
 pub mod InlineSamples

@@ -1,6 +1,7 @@
 -- The attributes of a heading (this profile's own): words between braces at the end of its content.
 use Rattle.std.specs.Prelude.{ℕ, Bool, true, false, ◌==◌, ◌&&◌, ◌||◌, not, if◌then◌else◌, List, [], ◌∷◌, ◌++◌, length, drop, take_while, fold, Option, None, Some}
 use Rattle.std.specs.Char.{is_ascii_whitespace}
+use Rattle.cmark_grammar.specs.Characters.{equals_sign, left_brace, number_sign, period, right_brace}
 
 -- a name with a value, if it has one
 pub record Attribute : Type 0 where
@@ -28,7 +29,7 @@ words [] = [] ∷ []
 words (b ∷ bs) = put_byte (is_ascii_whitespace b) b (words bs)
 
 abbrev pub is_no_equals : ℕ → Bool
-is_no_equals b = not (b == 61)
+is_no_equals b = not (b == equals_sign)
 
 -- the bytes after `=`, if the bytes begin with it
 abbrev pub value_after : List ℕ → Option (List ℕ)
@@ -44,8 +45,8 @@ abbrev pub with_word : Attributes → List ℕ → Attributes
 with_word a [] = a
 with_word a (b ∷ []) = a
 with_word a (b ∷ (c ∷ bs)) =
-    if b == 35 then record a { id = Some (c ∷ bs) }
-    else if b == 46 then record a { classes = a.classes ++ (c ∷ bs) ∷ [] }
+    if b == number_sign then record a { id = Some (c ∷ bs) }
+    else if b == period then record a { classes = a.classes ++ (c ∷ bs) ∷ [] }
     else record a { others = a.others ++ attribute_of (b ∷ (c ∷ bs)) ∷ [] }
 
 -- the attributes that the words between the braces give. Example: `#top .wide lang=en`
@@ -60,18 +61,18 @@ without_last (x ∷ (y ∷ ys)) = x ∷ without_last (y ∷ ys)
 -- elements, each with the byte that it is
 module _ {A : Type 0} (byte : A → ℕ) where
   abbrev pub is_brace : A → Bool
-  is_brace x = (byte x == 123) || (byte x == 125)
+  is_brace x = (byte x == left_brace) || (byte x == right_brace)
 
   -- a `}` at the end, and no other brace
   abbrev pub closes : List A → Bool
   closes [] = false
-  closes (x ∷ []) = byte x == 125
+  closes (x ∷ []) = byte x == right_brace
   closes (x ∷ (y ∷ ys)) = not (is_brace x) && closes (y ∷ ys)
 
   -- a `{` at the beginning, a `}` at the end, and no other brace
   abbrev pub is_braced : List A → Bool
   is_braced [] = false
-  is_braced (x ∷ xs) = (byte x == 123) && closes xs
+  is_braced (x ∷ xs) = (byte x == left_brace) && closes xs
 
   -- the elements before the braces at the end; all elements, if there are no braces
   abbrev pub before_braces : List A → List A

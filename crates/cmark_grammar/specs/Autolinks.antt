@@ -1,6 +1,7 @@
 -- Autolinks (CommonMark 6.5), and the names of wikilinks (this profile's own).
 use Rattle.std.specs.Prelude.{ℕ, suc, ◌-◌, Bool, true, ◌==◌, ◌&&◌, ◌||◌, not, nat_le, if◌then◌else◌, List, [], ◌∷◌, length, drop, take, get_or, Option, Some, None}
 use Rattle.std.specs.List.{prefix_len}
+use Rattle.cmark_grammar.specs.Characters.{apostrophe, asterisk, at_sign, backtick, caret, colon, delete, equals_sign, exclamation_mark, greater_than_sign, hyphen, left_brace, less_than_sign, number_sign, period, pipe, plus_sign, question_mark, slash, space, tilde}
 use Rattle.cmark_grammar.specs.Letters.{is_letter, is_alphanumeric, first_is}
 use Rattle.cmark_grammar.specs.LinkDefinitions.{Parsed}
 use Rattle.cmark_grammar.specs.Tags.{is_name_byte}
@@ -10,24 +11,24 @@ abbrev pub closed_by : (closer size : ℕ) → List ℕ → Option Parsed
 closed_by closer size bs = if first_is (λ b. b == closer) (drop size bs) then Some (record { bytes = take size bs; following = drop (suc size) bs }) else None
 
 abbrev pub is_scheme_byte : ℕ → Bool
-is_scheme_byte b = is_alphanumeric b || ((b == 43) || ((b == 45) || (b == 46)))
+is_scheme_byte b = is_alphanumeric b || ((b == plus_sign) || ((b == hyphen) || (b == period)))
 
 -- a scheme of 2 to 32 bytes that begins with a letter, and a colon (CommonMark 6.5)
 abbrev pub has_scheme : List ℕ → Bool
 has_scheme bs =
-    first_is is_letter bs && (nat_le 2 (prefix_len is_scheme_byte bs) && (nat_le (prefix_len is_scheme_byte bs) 32 && first_is (λ b. b == 58) (drop (prefix_len is_scheme_byte bs) bs)))
+    first_is is_letter bs && (nat_le 2 (prefix_len is_scheme_byte bs) && (nat_le (prefix_len is_scheme_byte bs) 32 && first_is (λ b. b == colon) (drop (prefix_len is_scheme_byte bs) bs)))
 
 -- no ASCII control, space, `<` or `>`
 abbrev pub is_uri_byte : ℕ → Bool
-is_uri_byte b = not (nat_le b 32 || ((b == 127) || ((b == 60) || (b == 62))))
+is_uri_byte b = not (nat_le b space || ((b == delete) || ((b == less_than_sign) || (b == greater_than_sign))))
 
 -- ## Email addresses
 
 -- a byte of ".!#$%&'*+/=?^_`{|}~-"
 abbrev pub is_local_mark : ℕ → Bool
 is_local_mark b =
-    (b == 33) || ((nat_le 35 b && nat_le b 39) || ((b == 42) || ((b == 43) || ((nat_le 45 b && nat_le b 47)
-    || ((b == 61) || ((b == 63) || ((nat_le 94 b && nat_le b 96) || (nat_le 123 b && nat_le b 126))))))))
+    (b == exclamation_mark) || ((nat_le number_sign b && nat_le b apostrophe) || ((b == asterisk) || ((b == plus_sign) || ((nat_le hyphen b && nat_le b slash)
+    || ((b == equals_sign) || ((b == question_mark) || ((nat_le caret b && nat_le b backtick) || (nat_le left_brace b && nat_le b tilde))))))))
 
 abbrev pub is_local_byte : ℕ → Bool
 is_local_byte b = is_alphanumeric b || is_local_mark b
@@ -36,7 +37,7 @@ is_local_byte b = is_alphanumeric b || is_local_mark b
 abbrev pub is_domain_label : List ℕ → Bool
 is_domain_label bs =
     nat_le 1 (length bs) && (nat_le (length bs) 63 && ((prefix_len is_name_byte bs == length bs)
-    && (not (get_or bs 0 0 == 45) && not (get_or bs (length bs - 1) 0 == 45))))
+    && (not (get_or bs 0 0 == hyphen) && not (get_or bs (length bs - 1) 0 == hyphen))))
 
 abbrev pub are_domain_labels : List (List ℕ) → Bool
 are_domain_labels [] = true
@@ -49,7 +50,7 @@ onto_first b (label ∷ labels) = (b ∷ label) ∷ labels
 -- the parts between the periods
 abbrev pub between_periods : List ℕ → List (List ℕ)
 between_periods [] = [] ∷ []
-between_periods (b ∷ bs) = if b == 46 then [] ∷ between_periods bs else onto_first b (between_periods bs)
+between_periods (b ∷ bs) = if b == period then [] ∷ between_periods bs else onto_first b (between_periods bs)
 
 -- labels, with a period between each two
 abbrev pub is_domain : List ℕ → Bool
@@ -59,7 +60,7 @@ is_domain bs = are_domain_labels (between_periods bs)
 abbrev pub is_email : List ℕ → Bool
 is_email bs =
     nat_le 1 (prefix_len is_local_byte bs)
-    && (first_is (λ b. b == 64) (drop (prefix_len is_local_byte bs) bs) && is_domain (drop (suc (prefix_len is_local_byte bs)) bs))
+    && (first_is (λ b. b == at_sign) (drop (prefix_len is_local_byte bs) bs) && is_domain (drop (suc (prefix_len is_local_byte bs)) bs))
 
 -- ## Both
 
@@ -69,8 +70,8 @@ has_address emails bs = has_scheme bs || (emails && is_email (take (prefix_len i
 
 -- the address of an autolink after its `<`; a `>` closes it. Example: `https://a.b>`
 abbrev pub autolink_in : (emails : Bool) → List ℕ → Option Parsed
-autolink_in emails bs = if has_address emails bs then closed_by 62 (prefix_len is_uri_byte bs) bs else None
+autolink_in emails bs = if has_address emails bs then closed_by greater_than_sign (prefix_len is_uri_byte bs) bs else None
 
 -- the name of a wikilink before the first `|`
 abbrev pub piped_name_in : List ℕ → Option Parsed
-piped_name_in bs = closed_by 124 (prefix_len (λ b. not (b == 124)) bs) bs
+piped_name_in bs = closed_by pipe (prefix_len (λ b. not (b == pipe)) bs) bs

@@ -1,5 +1,6 @@
 -- The result of a closing bracket (CommonMark 6.3 and 6.4). All places are places of the source.
 use Rattle.std.specs.Prelude.{ℕ, suc, ◌-◌, Bool, true, false, not, ◌==◌, ◌&&◌, ◌||◌, if◌then◌else◌, List, [], ◌∷◌, ◌++◌, length, drop, map, take, Option, Some, None}
+use Rattle.cmark_grammar.specs.Characters.{caret, pipe, right_bracket}
 use Rattle.cmark_grammar.specs.Answers.{Destination}
 use Rattle.cmark_grammar.specs.BlockDocument as block
 use Rattle.cmark_grammar.specs.BracketStates.{Opener, State, moved, StaysText, Forms, Outcome, Decision, Settled, Asks}
@@ -43,11 +44,11 @@ pub record Named : Type 0 where
 -- the bytes before the first `|`, if there is one, and the place after it
 abbrev pub name_in : List ℕ → List ℕ
 name_in [] = []
-name_in (b ∷ bs) = if b == 124 then [] else b ∷ name_in bs
+name_in (b ∷ bs) = if b == pipe then [] else b ∷ name_in bs
 
 abbrev pub after_pipe : (at : ℕ) → List ℕ → Option ℕ
 after_pipe at [] = None
-after_pipe at (b ∷ bs) = if b == 124 then Some (suc at) else after_pipe (suc at) bs
+after_pipe at (b ∷ bs) = if b == pipe then Some (suc at) else after_pipe (suc at) bs
 
 module _ (reader : Reader) (leaf : Leaf) where
   abbrev pub following : ℕ → List ℕ
@@ -130,7 +131,7 @@ module _ (reader : Reader) (leaf : Leaf) where
   -- a `^` and a label, which is on one line except for old footnotes
   abbrev pub is_footnote_label : List ℕ → Bool
   is_footnote_label [] = false
-  is_footnote_label (b ∷ bs) = reader.options.footnotes && ((b == 94) && (is_bracketed_label bs && (reader.options.old_footnotes || is_one_line bs)))
+  is_footnote_label (b ∷ bs) = reader.options.footnotes && ((b == caret) && (is_bracketed_label bs && (reader.options.old_footnotes || is_one_line bs)))
 
   -- its label needs a footnote definition, except for old footnotes; all brackets before it are dropped
   abbrev pub footnote_reference : (label : List ℕ) → Taken → Bracket → State → Decision
@@ -206,7 +207,7 @@ module _ (reader : Reader) (leaf : Leaf) where
   -- doubled one first
   abbrev pub taking : Option Taken → Bracket → State → Decision
   taking taken closer s =
-      if reader.options.wikilinks && first_is (λ b. b == 93) (following closer.end) then wikilink_or (doubled s.openers) taken closer s
+      if reader.options.wikilinks && first_is (λ b. b == right_bracket) (following closer.end) then wikilink_or (doubled s.openers) taken closer s
       else with_taken taken closer s
 
   -- the decision about a closing bracket

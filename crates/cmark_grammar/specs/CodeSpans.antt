@@ -1,13 +1,14 @@
 -- Code spans (CommonMark 6.1).
 use Rattle.std.specs.Prelude.{ℕ, ◌-◌, Bool, false, ◌==◌, ◌&&◌, not, nat_lt, if◌then◌else◌, List, [], ◌∷◌, ◌++◌, codes, length, drop, get_or, count_by, Option, Some, None, option_map}
 use Rattle.std.specs.List.{prefix_len}
+use Rattle.cmark_grammar.specs.Characters.{backtick, carriage_return, space}
 use Rattle.cmark_grammar.specs.Letters.{after_while}
-use Rattle.cmark_grammar.specs.Lines.{carriage_return, ends_line}
+use Rattle.cmark_grammar.specs.Lines.{ends_line}
 use Rattle.cmark_grammar.specs.LinkDefinitions.{Parsed, put}
 use Rattle.cmark_grammar.specs.Tokens.{slice}
 
 abbrev pub is_backtick : ℕ → Bool
-is_backtick b = b == 96
+is_backtick b = b == backtick
 
 -- the number of backticks at the beginning
 abbrev pub backticks : List ℕ → ℕ
@@ -38,7 +39,7 @@ with_line_ends mark (b ∷ bs) =
     else b ∷ with_line_ends mark bs
 
 abbrev pub is_space : ℕ → Bool
-is_space b = b == 32
+is_space b = b == space
 
 -- a space is at both ends, and not all bytes are spaces
 abbrev pub is_padded : List ℕ → Bool

@@ -1,12 +1,7 @@
 -- The columns of a line (CommonMark 2.2: a tab is as wide as the spaces up to the next tab stop; tab stops are four columns apart).
 -- Example: after two columns a tab is two columns wide.
 use Rattle.std.specs.Prelude.{ℕ, zero, suc, ◌+◌, ◌-◌, ◌%◌, Bool, true, ◌==◌, ◌||◌, if◌then◌else◌, List, [], ◌∷◌, ◌++◌, length, drop, take_while}
-
-abbrev pub tab : ℕ
-tab = 9
-
-abbrev pub space : ℕ
-space = 32
+use Rattle.cmark_grammar.specs.Characters.{space, tab}
 
 -- a column of a line: its byte, and the place of that byte in the text. Part: the number of columns of the same byte before it, which is
 -- zero except in a tab

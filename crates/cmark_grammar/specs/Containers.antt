@@ -1,5 +1,6 @@
 -- Container blocks, and the prefixes that their lines have (CommonMark 5).
 use Rattle.std.specs.Prelude.{ℕ, suc, ◌+◌, ◌-◌, ◌*◌, Bool, true, false, ◌==◌, ◌&&◌, ◌||◌, not, nat_lt, nat_le, if◌then◌else◌, List, [], ◌∷◌, length, drop, take_while, fold, Option, Some, None}
+use Rattle.cmark_grammar.specs.Characters.{asterisk, digit_nine, digit_zero, greater_than_sign, hyphen, period, plus_sign, right_parenthesis}
 use Rattle.cmark_grammar.specs.Columns.{Column, is_blank, indent, without_indent}
 use Rattle.cmark_grammar.specs.Rows.{Row, without, lazy_row, hold, is_bare, is_blank_line, indent_of, words_of}
 use Rattle.cmark_grammar.specs.Leaves.{is_parted, is_thematic_break}
@@ -25,13 +26,13 @@ pub data Container : Type 0 where
   ListDefinition : (width : ℕ) → Container
 
 abbrev pub is_bullet : ℕ → Bool
-is_bullet b = (b == 45) || ((b == 43) || (b == 42))
+is_bullet b = (b == hyphen) || ((b == plus_sign) || (b == asterisk))
 
 abbrev pub is_digit : ℕ → Bool
-is_digit b = nat_le 48 b && nat_le b 57
+is_digit b = nat_le digit_zero b && nat_le b digit_nine
 
 abbrev pub is_delimiter : ℕ → Bool
-is_delimiter b = (b == 46) || (b == 41)
+is_delimiter b = (b == period) || (b == right_parenthesis)
 
 -- a list marker: its character, its number, and its number of columns (CommonMark 5.2)
 pub record Marker : Type 0 where
@@ -43,7 +44,7 @@ abbrev pub digits : List ℕ → List ℕ
 digits bs = take_while is_digit bs
 
 abbrev pub number_of : List ℕ → ℕ
-number_of ds = fold (λ n d. n * 10 + (d - 48)) 0 ds
+number_of ds = fold (λ n d. n * 10 + (d - digit_zero)) 0 ds
 
 -- one to nine digits, and then `.` or `)`
 abbrev pub delimited : List ℕ → List ℕ → Option Marker
@@ -84,7 +85,7 @@ begins_with b (c ∷ cs) = c == b
 
 -- at most three columns of indent, and `>` (CommonMark 5.1). Example: `> a`
 abbrev pub is_block_quote : Row → Bool
-is_block_quote r = nat_le (indent_of r) 3 && begins_with 62 (words_of r)
+is_block_quote r = nat_le (indent_of r) 3 && begins_with greater_than_sign (words_of r)
 
 -- a column of space, if there is one
 abbrev pub one_blank : List Column → ℕ

@@ -1,5 +1,6 @@
 -- Dashes in place of hyphens, if smart punctuation is on (this profile's own). Example: `--` becomes an en dash, and `---` an em dash.
 use Rattle.std.specs.Prelude.{ℕ, zero, suc, ◌==◌, ◌-◌, ◌/◌, ◌%◌, if◌then◌else◌, encode_utf8, List, [], ◌++◌}
+use Rattle.cmark_grammar.specs.Characters.{em_dash, en_dash}
 
 -- the number of em dashes (U+2014) and of the en dashes (U+2013) after them
 pub record Dashes : Type 0 where
@@ -22,4 +23,4 @@ repeated character (suc times) = encode_utf8 character ++ repeated character tim
 
 -- the text of dashes
 abbrev pub dash_text : Dashes → List ℕ
-dash_text dashes = repeated 8212 dashes.em ++ repeated 8211 dashes.en
+dash_text dashes = repeated em_dash dashes.em ++ repeated en_dash dashes.en

@@ -1,5 +1,6 @@
 -- Definition lists: the marker of a definition, and the places at which it begins one (this profile's own).
 use Rattle.std.specs.Prelude.{ℕ, Bool, true, false, ◌&&◌, not, nat_le, if◌then◌else◌, Option, Some, None}
+use Rattle.cmark_grammar.specs.Characters.{colon}
 use Rattle.cmark_grammar.specs.Rows.{Row, indent_of, words_of}
 use Rattle.cmark_grammar.specs.Containers.{Container, BlockQuote, Item, Footnote, ListDefinition, begins_with, width_with}
 use Rattle.cmark_grammar.specs.Options.{Options}
@@ -8,7 +9,7 @@ use Rattle.cmark_grammar.specs.Places.{Place, is_after_title}
 -- the width of the prefix that a definition's later lines have, if the line begins with the marker `:`. It is the indent, the marker and
 -- the blanks after it, as for a list item, but no blank is required. Example: 2 for `: text`, 1 for `:text`
 abbrev pub definition_width : Row → Option ℕ
-definition_width r = if begins_with 58 (words_of r) then Some (width_with 1 r) else None
+definition_width r = if begins_with colon (words_of r) then Some (width_with 1 r) else None
 
 -- the width of the definition that a line may begin, if definition lists are asked for: the line lacks no prefix, and is indented by at
 -- most three columns

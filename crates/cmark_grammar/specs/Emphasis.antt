@@ -1,5 +1,6 @@
 -- The delimiter runs of a list of siblings that pair, and the spans of these pairs (CommonMark 6.2, GFM 6.5).
 use Rattle.std.specs.Prelude.{◌≡◌, ℕ, zero, suc, ◌+◌, ◌-◌, ◌%◌, Bool, true, false, not, ◌==◌, ◌&&◌, ◌||◌, nat_lt, if◌then◌else◌, List, [], ◌∷◌, ◌++◌, map}
+use Rattle.cmark_grammar.specs.Characters.{caret, equals_sign, tilde}
 use Rattle.cmark_grammar.specs.Spans.{SpanKind, Emphasis, Strong, SingleTilde, DoubleTilde, Caret, DoubleEquals, span_width, Spans, Nil, Single, Around, join, singles}
 
 -- the rest of a delimiter run: its delimiter and its original length; the place of the first byte that is left, and the number of bytes
@@ -59,7 +60,7 @@ keeps_rule_of_three opener closer =
 
 -- for `~` and `=` both runs have equal lengths (GFM 6.5, and this profile's own)
 abbrev pub is_tilde_or_equals : ℕ → Bool
-is_tilde_or_equals delimiter = (delimiter == 126) || (delimiter == 61)
+is_tilde_or_equals delimiter = (delimiter == tilde) || (delimiter == equals_sign)
 
 abbrev pub has_same_delimiter : (opener closer : Run) → Bool
 has_same_delimiter opener closer = (opener.delimiter == closer.delimiter) && (not (is_tilde_or_equals closer.delimiter) || (opener.run_length == closer.run_length))
@@ -110,7 +111,7 @@ equals_kinds (suc (suc n)) = DoubleEquals ∷ equals_kinds n
 
 -- the spans of a pair, by its delimiter
 unfoldable pub kinds_of : (delimiter count : ℕ) → List SpanKind
-kinds_of delimiter count = if delimiter == 126 then tilde_kinds count else if delimiter == 94 then caret_kinds count else if delimiter == 61 then equals_kinds count else emphasis_kinds count
+kinds_of delimiter count = if delimiter == tilde then tilde_kinds count else if delimiter == caret then caret_kinds count else if delimiter == equals_sign then equals_kinds count else emphasis_kinds count
 
 -- spans around the spans between two places
 abbrev pub nest : List SpanKind → (from to : ℕ) → Spans → Spans
@@ -145,7 +146,7 @@ keep run pieces = if nat_lt 0 run.left then Standing run ∷ pieces else pieces
 
 -- a tilde or a caret
 abbrev pub is_tilde_or_caret : ℕ → Bool
-is_tilde_or_caret delimiter = (delimiter == 126) || (delimiter == 94)
+is_tilde_or_caret delimiter = (delimiter == tilde) || (delimiter == caret)
 
 -- if bytes of a closing run of `~` or `^` are left, no open run agrees with it: then all open runs of these delimiters become inactive
 -- (this profile's own)

@@ -1,14 +1,15 @@
 -- Escapes in HTML, as the original writes them: each byte of a text is mapped, and the results are joined. Example: `a<b` becomes `a&lt;b`.
-use Rattle.std.specs.Prelude.{ℕ, ◌+◌, ◌/◌, ◌%◌, Bool, ◌||◌, ◌==◌, nat_lt, if◌then◌else◌, List, [], ◌∷◌, flat_map, codes}
+use Rattle.std.specs.Prelude.{ℕ, ◌+◌, ◌-◌, ◌/◌, ◌%◌, Bool, ◌||◌, ◌==◌, nat_lt, if◌then◌else◌, List, [], ◌∷◌, flat_map, codes}
 use Rattle.std.specs.Char.{is_ascii_alphanumeric}
 use Rattle.std.specs.List.{list_any}
+use Rattle.cmark_grammar.specs.Characters.{ampersand, apostrophe, capital_a, digit_zero, greater_than_sign, less_than_sign, percent_sign, quotation_mark}
 
 -- in body text `&`, `<` and `>` are written as entities
 abbrev pub body_text_byte : ℕ → List ℕ
 body_text_byte b =
-    if b == 38 then codes "&amp;"
-    else if b == 60 then codes "&lt;"
-    else if b == 62 then codes "&gt;"
+    if b == ampersand then codes "&amp;"
+    else if b == less_than_sign then codes "&lt;"
+    else if b == greater_than_sign then codes "&gt;"
     else b ∷ []
 
 abbrev pub escaped_body_text : List ℕ → List ℕ
@@ -17,8 +18,8 @@ escaped_body_text text = flat_map body_text_byte text
 -- in the value of an attribute `"` and `'` too
 abbrev pub html_byte : ℕ → List ℕ
 html_byte b =
-    if b == 34 then codes "&quot;"
-    else if b == 39 then codes "&#x27;"
+    if b == quotation_mark then codes "&quot;"
+    else if b == apostrophe then codes "&#x27;"
     else body_text_byte b
 
 abbrev pub escaped_html : List ℕ → List ℕ
@@ -30,18 +31,18 @@ is_url_byte b = is_ascii_alphanumeric b || list_any (λ sign. sign == b) (codes 
 
 -- the upper-case digit of a number below 16
 abbrev pub hexadecimal_digit : ℕ → ℕ
-hexadecimal_digit n = if nat_lt n 10 then 48 + n else 55 + n
+hexadecimal_digit n = if nat_lt n 10 then digit_zero + n else (capital_a - 10) + n
 
 -- `%` and two digits
 abbrev pub percent_encoded : ℕ → List ℕ
-percent_encoded b = 37 ∷ hexadecimal_digit (b / 16) ∷ hexadecimal_digit (b % 16) ∷ []
+percent_encoded b = percent_sign ∷ hexadecimal_digit (b / 16) ∷ hexadecimal_digit (b % 16) ∷ []
 
 -- in the URL of a link `&` and `'` are written as entities. Each other byte that a URL does not keep is percent-encoded
 abbrev pub href_byte : ℕ → List ℕ
 href_byte b =
     if is_url_byte b then b ∷ []
-    else if b == 38 then codes "&amp;"
-    else if b == 39 then codes "&#x27;"
+    else if b == ampersand then codes "&amp;"
+    else if b == apostrophe then codes "&#x27;"
     else percent_encoded b
 
 abbrev pub escaped_href : List ℕ → List ℕ

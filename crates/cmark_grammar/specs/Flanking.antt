@@ -5,12 +5,13 @@ use Rattle.ucd_category.specs.GeneralCategory.{general_category, general_categor
 use Rattle.ucd_category.specs.GeneralCategoryGroup.{in_group}
 use Rattle.ucd_category.specs.declared.GeneralCategory.TheVariants.{SpaceSeparator}
 use Rattle.ucd_category.specs.declared.GeneralCategoryGroup.TheVariants.{Punctuation, Symbol}
+use Rattle.cmark_grammar.specs.Characters.{asterisk, caret, carriage_return, equals_sign, form_feed, line_feed, tab, tilde, underscore}
 use Rattle.cmark_grammar.specs.Options.{Options}
 
 -- Unicode white space (CommonMark 2.1): the general category Zs, a tab, LF, FF or CR
 unfoldable pub is_unicode_white_space : ℕ → Bool
 is_unicode_white_space c =
-    (c == 9) || ((c == 10) || ((c == 12) || ((c == 13) || general_category_eq (general_category c) SpaceSeparator)))
+    (c == tab) || ((c == line_feed) || ((c == form_feed) || ((c == carriage_return) || general_category_eq (general_category c) SpaceSeparator)))
 
 -- Unicode punctuation (CommonMark 2.1): the general categories P and S
 unfoldable pub is_unicode_punctuation : ℕ → Bool
@@ -39,21 +40,21 @@ is_right_flanking before after =
 
 -- a byte of delimiter runs
 abbrev pub is_run_delimiter : ℕ → Bool
-is_run_delimiter b = (b == 42) || ((b == 95) || ((b == 126) || ((b == 94) || (b == 61))))
+is_run_delimiter b = (b == asterisk) || ((b == underscore) || ((b == tilde) || ((b == caret) || (b == equals_sign))))
 
 -- `run_length` bytes of a delimiter are a delimiter run. There may be any number of `*` or `_`, one or two `~` with strikethrough or
 -- subscript, one `^` with superscript, and two `=` with highlight (GFM 6.5, and this profile's own)
 abbrev pub is_delimiter_run : Options → (delimiter run_length : ℕ) → Bool
 is_delimiter_run options delimiter run_length =
-    (((delimiter == 42) || (delimiter == 95)) && nat_lt 0 run_length)
-    || ((delimiter == 126) && ((options.strikethrough || options.subscript) && ((run_length == 1) || (run_length == 2)))
-    || (((delimiter == 94) && (options.superscript && (run_length == 1)))
-    || ((delimiter == 61) && (options.highlight && (run_length == 2)))))
+    (((delimiter == asterisk) || (delimiter == underscore)) && nat_lt 0 run_length)
+    || ((delimiter == tilde) && ((options.strikethrough || options.subscript) && ((run_length == 1) || (run_length == 2)))
+    || (((delimiter == caret) && (options.superscript && (run_length == 1)))
+    || ((delimiter == equals_sign) && (options.highlight && (run_length == 2)))))
 
 -- a run of it can open and close inside a word too (CommonMark 6.2, rules 1 to 8). This holds of every delimiter except `_`, and except a
 -- single `~` if subscript is off (this profile's own)
 abbrev pub is_intraword : Options → (delimiter run_length : ℕ) → Bool
-is_intraword options delimiter run_length = not (delimiter == 95) && (not (delimiter == 126) || ((run_length == 2) || options.subscript))
+is_intraword options delimiter run_length = not (delimiter == underscore) && (not (delimiter == tilde) || ((run_length == 2) || options.subscript))
 
 -- whether a run can open, and whether it can close (CommonMark 6.2, rules 1 to 8)
 pub record Flanking : Type 0 where

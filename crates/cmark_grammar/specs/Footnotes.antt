@@ -1,6 +1,7 @@
 -- The markers of footnote definitions: `[^`, a label on one line, and `]:` (this profile's own, by the rules of GitHub and of the
 -- original).
 use Rattle.std.specs.Prelude.{ℕ, zero, suc, Bool, true, false, ◌==◌, ◌&&◌, not, if◌then◌else◌, List, [], ◌∷◌, length, Option, Some, None}
+use Rattle.cmark_grammar.specs.Characters.{caret, colon, left_bracket, right_bracket}
 use Rattle.cmark_grammar.specs.Columns.{Column, without_indent}
 use Rattle.cmark_grammar.specs.LinkDefinitions.{Parsed, up_to, label_if}
 use Rattle.cmark_grammar.specs.Options.{Options}
@@ -29,7 +30,7 @@ do_interrupt Old = false
 -- a colon follows the label
 abbrev pub colon_after : (label : List ℕ) → List ℕ → Option Parsed
 colon_after label [] = None
-colon_after label (b ∷ bs) = if b == 58 then Some (record { bytes = label; following = bs }) else None
+colon_after label (b ∷ bs) = if b == colon then Some (record { bytes = label; following = bs }) else None
 
 abbrev pub label_then_colon : Option Parsed → Option Parsed
 label_then_colon None = None
@@ -37,12 +38,12 @@ label_then_colon (Some found) = colon_after found.bytes found.following
 
 abbrev pub after_caret : List ℕ → Option Parsed
 after_caret [] = None
-after_caret (b ∷ bs) = if b == 94 then label_then_colon (label_if (up_to false 93 91 false bs)) else None
+after_caret (b ∷ bs) = if b == caret then label_then_colon (label_if (up_to false right_bracket left_bracket false bs)) else None
 
 -- the label of the marker at the beginning of these bytes, and the bytes after the marker. Example: the label of `[^a]: b` is `a`
 abbrev pub footnote_in : List ℕ → Option Parsed
 footnote_in [] = None
-footnote_in (b ∷ bs) = if b == 91 then after_caret bs else None
+footnote_in (b ∷ bs) = if b == left_bracket then after_caret bs else None
 
 -- the number of columns that the first `n` bytes have
 abbrev pub columns_over : ℕ → List Column → ℕ
@@ -61,12 +62,12 @@ is_label_found (Some found) = true
 -- a label that begins with `^` and has more bytes is not the label of a link
 abbrev pub goes_on_after_caret : List ℕ → Bool
 goes_on_after_caret [] = true
-goes_on_after_caret (b ∷ bs) = not (b == 93)
+goes_on_after_caret (b ∷ bs) = not (b == right_bracket)
 
 abbrev pub caret_goes_on : List ℕ → Bool
 caret_goes_on [] = false
-caret_goes_on (b ∷ bs) = (b == 94) && goes_on_after_caret bs
+caret_goes_on (b ∷ bs) = (b == caret) && goes_on_after_caret bs
 
 abbrev pub is_footnote_label : List ℕ → Bool
 is_footnote_label [] = false
-is_footnote_label (b ∷ bs) = (b == 91) && caret_goes_on bs
+is_footnote_label (b ∷ bs) = (b == left_bracket) && caret_goes_on bs

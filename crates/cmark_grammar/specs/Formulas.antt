@@ -1,11 +1,12 @@
 -- Formulas between dollar signs (this profile's own).
 use Rattle.std.specs.Prelude.{ℕ, suc, ◌%◌, Bool, true, false, not, ◌==◌, ◌&&◌, if◌then◌else◌, List, [], ◌∷◌, drop, Option, Some, None}
 use Rattle.std.specs.Char.{is_ascii_whitespace}
+use Rattle.cmark_grammar.specs.Characters.{dollar_sign, left_brace, right_brace}
 use Rattle.cmark_grammar.specs.Letters.{first_is}
 use Rattle.cmark_grammar.specs.LinkDefinitions.{Parsed, put, escapes_next}
 
 abbrev pub is_dollar : ℕ → Bool
-is_dollar b = b == 36
+is_dollar b = b == dollar_sign
 
 -- a byte that is not white space
 abbrev pub is_ink : ℕ → Bool
@@ -35,7 +36,7 @@ left_to (c ∷ cs) braces = record { entered = cs; outermost = braces.outermost;
 -- the braces after another byte, unless a backslash escapes it
 abbrev pub after_byte : (escaped : Bool) → ℕ → Braces → Braces
 after_byte true b braces = braces
-after_byte false b braces = if b == 123 then entered braces else if b == 125 then left_to braces.entered braces else braces
+after_byte false b braces = if b == left_brace then entered braces else if b == right_brace then left_to braces.entered braces else braces
 
 abbrev pub braces_after : (escaped : Bool) → List ℕ → Braces → Braces
 braces_after escaped [] braces = braces
@@ -57,8 +58,8 @@ formula_to is_display context escaped last braces (b ∷ bs) =
 -- the formula after one dollar sign and these braces, up to the dollar sign that closes it. It begins with a byte that is not white space,
 -- so it is not empty. Example: `$a + b$`
 abbrev pub inline_in : Braces → List ℕ → Option Parsed
-inline_in braces bs = if first_is is_ink bs then formula_to false (context_of braces) false 36 braces bs else None
+inline_in braces bs = if first_is is_ink bs then formula_to false (context_of braces) false dollar_sign braces bs else None
 
 -- the formula after two dollar signs, which may be empty. Example: `$$a$$`
 abbrev pub display_in : Braces → List ℕ → Option Parsed
-display_in braces bs = formula_to true (context_of braces) false 36 braces bs
+display_in braces bs = formula_to true (context_of braces) false dollar_sign braces bs

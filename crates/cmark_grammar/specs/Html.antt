@@ -3,6 +3,7 @@ use Rattle.std.specs.Prelude.{ℕ, ◌+◌, ◌-◌, Bool, true, false, not, ◌
 use Rattle.std.specs.Cmp.Lexicographic.{pointwise}
 use Rattle.std.specs.Fmt.{decimal}
 use Rattle.std.specs.List.{ends_with, slice_get, list_any, position_or_len}
+use Rattle.cmark_grammar.specs.Characters.{digit_zero, line_feed, space}
 use Rattle.cmark_grammar.specs.Alignment.{Alignment, Unaligned, Left, Center, Right}
 use Rattle.cmark_grammar.specs.BlockQuoteKind.{BlockQuoteKind, Note, Tip, Important, Warning, Caution}
 use Rattle.cmark_grammar.specs.CodeBlockKind.{CodeBlockKind, Indented, Fenced}
@@ -51,14 +52,14 @@ at_line_start = record { line_start = true; image = None; in_metadata = false; t
 -- a line feed unless the writer is at a line start
 abbrev pub fresh_line : Bool → List ℕ
 fresh_line true = []
-fresh_line false = 10 ∷ []
+fresh_line false = line_feed ∷ []
 
 abbrev pub ends_in_line_feed : List ℕ → Bool
-ends_in_line_feed bs = ends_with nat_eq bs (10 ∷ [])
+ends_in_line_feed bs = ends_with nat_eq bs (line_feed ∷ [])
 
 -- the digit of a level below ten
 abbrev pub digit : ℕ → ℕ
-digit level = 48 + level
+digit level = digit_zero + level
 
 -- a text in the value of an attribute, after the attribute's name
 abbrev pub quoted : List ℕ → List ℕ → List ℕ
@@ -71,7 +72,7 @@ id_attribute (Some id) = quoted (codes " id") id
 
 abbrev pub further_classes : List (List ℕ) → List ℕ
 further_classes [] = []
-further_classes (name ∷ names) = 32 ∷ (escaped_html name ++ further_classes names)
+further_classes (name ∷ names) = space ∷ (escaped_html name ++ further_classes names)
 
 abbrev pub class_attribute : List (List ℕ) → List ℕ
 class_attribute [] = []
@@ -82,7 +83,7 @@ value_or_empty None = []
 value_or_empty (Some value) = value
 
 abbrev pub other_attribute : Attribute → List ℕ
-other_attribute a = 32 ∷ quoted (escaped_html a.name) (value_or_empty a.value)
+other_attribute a = space ∷ quoted (escaped_html a.name) (value_or_empty a.value)
 
 abbrev pub other_attributes : List Attribute → List ℕ
 other_attributes [] = []
@@ -104,7 +105,7 @@ block_quote_start (Some kind) = codes "<blockquote class=\"markdown-alert-" ++ (
 
 -- the first word of an info string, up to its first space, is the language (CommonMark 4.5)
 abbrev pub is_within_word : ℕ → Bool
-is_within_word b = not (b == 32)
+is_within_word b = not (b == space)
 
 abbrev pub language_start : List ℕ → List ℕ
 language_start [] = codes "<pre><code>"
@@ -253,7 +254,7 @@ piece_outside w (DisplayMath text) = codes "<span class=\"math math-display\">" 
 piece_outside w (Html text) = text
 piece_outside w (InlineHtml text) = text
 piece_outside w (FootnoteReference label) = footnote_reference label (decimal (footnote_number w.names label))
-piece_outside w SoftBreak = 10 ∷ []
+piece_outside w SoftBreak = line_feed ∷ []
 piece_outside w HardBreak = codes "<br />\n"
 piece_outside w Rule = fresh_line w.line_start ++ codes "<hr />\n"
 piece_outside w (TaskListMarker is_checked) = task_list_marker is_checked

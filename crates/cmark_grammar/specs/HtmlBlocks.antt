@@ -1,5 +1,6 @@
 -- HTML blocks: their seven kinds of start and end (CommonMark 4.6). Examples: `<div>` begins a block of kind 6, and `<!-- a` one of kind 2.
 use Rattle.std.specs.Prelude.{ℕ, Bool, false, ◌==◌, ◌&&◌, ◌||◌, not, nat_le, if◌then◌else◌, List, [], ◌∷◌, length, drop, take_while, map, codes, bytes_eq, Option, Some, None}
+use Rattle.cmark_grammar.specs.Characters.{greater_than_sign, less_than_sign, slash}
 use Rattle.cmark_grammar.specs.Columns.{bytes_of}
 use Rattle.cmark_grammar.specs.Rows.{Row, is_blank_line, words_of}
 use Rattle.cmark_grammar.specs.Leaves.{Continuation, GoesOn, Closes, Stops, counted, are_blank, is_parted}
@@ -32,7 +33,7 @@ block_names =
 -- the bytes of a tag after `<` or `</`
 abbrev pub after_slash : List ℕ → List ℕ
 after_slash [] = []
-after_slash (b ∷ bs) = if b == 47 then bs else b ∷ bs
+after_slash (b ∷ bs) = if b == slash then bs else b ∷ bs
 
 abbrev pub name_in : List ℕ → List ℕ
 name_in bs = take_while is_alphanumeric bs
@@ -42,11 +43,11 @@ after_name bs = drop (length (name_in bs)) bs
 
 -- kind 1: the beginning of an opening tag whose content is taken literally, such as `<script`
 abbrev pub begins_raw : List ℕ → Bool
-begins_raw bs = is_among (name_in bs) raw_names && (is_parted (after_name bs) || first_is (λ b. b == 62) (after_name bs))
+begins_raw bs = is_among (name_in bs) raw_names && (is_parted (after_name bs) || first_is (λ b. b == greater_than_sign) (after_name bs))
 
 -- kind 6: the beginning of a tag with a block's name, such as `<div`
 abbrev pub begins_block : List ℕ → Bool
-begins_block bs = is_among (name_in bs) block_names && (is_parted (after_name bs) || (first_is (λ b. b == 62) (after_name bs) || starts (codes "/>") (after_name bs)))
+begins_block bs = is_among (name_in bs) block_names && (is_parted (after_name bs) || (first_is (λ b. b == greater_than_sign) (after_name bs) || starts (codes "/>") (after_name bs)))
 
 -- only spaces and tabs after a part that was read
 abbrev pub ends_in_blanks : Option (List ℕ) → Bool
@@ -72,7 +73,7 @@ kind_after bs =
 -- the kind of the HTML block that a line begins, if it begins one (CommonMark 4.6)
 abbrev pub html_kind : List ℕ → Option ℕ
 html_kind [] = None
-html_kind (b ∷ bs) = if b == 60 then kind_after bs else None
+html_kind (b ∷ bs) = if b == less_than_sign then kind_after bs else None
 
 -- kinds 1 to 5 end with a line that contains their end
 abbrev pub holds_end : ℕ → List ℕ → Bool

@@ -3,7 +3,7 @@ use Rattle.cmark_grammar.specs.Letters.{is_letter, starts, after_if, after_start
 use Rattle.std.specs.Prelude.{ℕ, zero, suc, ◌-◌, Bool, ◌==◌, ◌||◌, if◌then◌else◌, List, [], ◌∷◌, length, drop, take, min, codes, Option, Some, None, option_map}
 use Rattle.std.specs.Option.{option_or}
 use Rattle.std.specs.List.{list_any}
-use Rattle.cmark_grammar.specs.Lines.{line_feed, carriage_return}
+use Rattle.cmark_grammar.specs.Characters.{carriage_return, line_feed}
 use Rattle.cmark_grammar.specs.Tags.{prefix_after, after_tag, no_prefix}
 
 -- a tag: its end, and the text that it owns if it spans several lines: its bytes without the lines' prefixes

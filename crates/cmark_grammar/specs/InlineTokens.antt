@@ -1,6 +1,7 @@
 -- The token at a place of a leaf's text (CommonMark 6): the first construct that matches. All places are places of the source.
 use Rattle.std.specs.Prelude.{ℕ, zero, suc, ◌+◌, ◌-◌, Bool, true, false, not, ◌==◌, ◌&&◌, ◌||◌, nat_lt, if◌then◌else◌, List, [], ◌∷◌, codes, chars, length, drop, take, reverse, Option, Some, None}
 use Rattle.std.specs.List.{prefix_len}
+use Rattle.cmark_grammar.specs.Characters.{ampersand, apostrophe, backslash, backtick, ellipsis, exclamation_mark, hyphen, left_bracket, less_than_sign, period, quotation_mark, right_bracket}
 use Rattle.cmark_grammar.specs.Autolinks.{autolink_in}
 use Rattle.cmark_grammar.specs.CodeSpans.{is_backtick, backticks, code_in, code_text}
 use Rattle.cmark_grammar.specs.Columns.{is_blank_byte}
@@ -131,7 +132,7 @@ module _ (reader : Reader) (leaf : Leaf) where
   -- a `<`: an autolink, else a comment or other markup, else a tag, else a text (CommonMark 6.5 and 6.6)
   abbrev pub less_than : (at : ℕ) → List ℕ → Token
   less_than at bs =
-      if first_is (λ c. c == 92) bs then item_at Plain at (suc at)
+      if first_is (λ c. c == backslash) bs then item_at Plain at (suc at)
       else autolink_or at (autolink_in reader.options.email_autolinks bs) (markup_or at (after_markup (source_from at)) (tag_or_text at (after_tag no_prefix (from at))))
 
   -- a delimiter run (CommonMark 6.2), or literal bytes
@@ -156,20 +157,20 @@ module _ (reader : Reader) (leaf : Leaf) where
 
   -- an ellipsis, dashes, and quotes (this profile's own)
   abbrev pub dots : (at : ℕ) → Token
-  dots at = if starts (codes "...") (from at) then item_at (Written (226 ∷ 128 ∷ 166 ∷ [])) at (at + 3) else item_at Plain at (suc at)
+  dots at = if starts (codes "...") (from at) then item_at (Written ellipsis) at (at + 3) else item_at Plain at (suc at)
 
   abbrev pub hyphens : (at run_length : ℕ) → Token
   hyphens at run_length = if nat_lt run_length 2 then item_at Plain at (at + run_length) else item_at (Written (dash_text (dashes_of run_length))) at (at + run_length)
 
   abbrev pub quote_at : (at b : ℕ) → Token
-  quote_at at b = item_at (Quoted (quote_beside (b == 34) (character_before at) (character_at (suc at)))) at (suc at)
+  quote_at at b = item_at (Quoted (quote_beside (b == quotation_mark) (character_before at) (character_at (suc at)))) at (suc at)
 
   -- typographic texts, if smart punctuation is on (this profile's own)
   abbrev pub smart_or : (at b : ℕ) → Token
   smart_or at b =
-      if b == 46 then dots at
-      else if b == 45 then hyphens at (prefix_len (λ c. c == 45) (from at))
-      else if (b == 34) || (b == 39) then quote_at at b
+      if b == period then dots at
+      else if b == hyphen then hyphens at (prefix_len (λ c. c == hyphen) (from at))
+      else if (b == quotation_mark) || (b == apostrophe) then quote_at at b
       else item_at Plain at (suc at)
 
   -- the token that begins with this byte, of which these bytes are the rest: the first byte decides which constructs are tried
@@ -177,13 +178,13 @@ module _ (reader : Reader) (leaf : Leaf) where
   begins at [] = Ends
   begins at (b ∷ bs) =
       if is_blank_byte b || not (is_content b) then break_or at (blank_break_in (b ∷ bs)) (item_at Plain at (suc at))
-      else if b == 92 then break_or at (backslash_break_in (b ∷ bs)) (escape_at at bs)
-      else if b == 38 then entity_or at (entity_in reader.lookup bs)
-      else if b == 96 then code_or at (backticks (b ∷ bs)) (code_in (b ∷ bs))
-      else if b == 60 then less_than at bs
-      else if b == 33 then (if first_is (λ c. c == 91) bs then Opens (bracket true at (at + 2)) else item_at Plain at (suc at))
-      else if b == 91 then Opens (bracket false at (suc at))
-      else if b == 93 then Closes (bracket false at (suc at))
+      else if b == backslash then break_or at (backslash_break_in (b ∷ bs)) (escape_at at bs)
+      else if b == ampersand then entity_or at (entity_in reader.lookup bs)
+      else if b == backtick then code_or at (backticks (b ∷ bs)) (code_in (b ∷ bs))
+      else if b == less_than_sign then less_than at bs
+      else if b == exclamation_mark then (if first_is (λ c. c == left_bracket) bs then Opens (bracket true at (at + 2)) else item_at Plain at (suc at))
+      else if b == left_bracket then Opens (bracket false at (suc at))
+      else if b == right_bracket then Closes (bracket false at (suc at))
       else if is_run_delimiter b then run_at at b (prefix_len (λ c. c == b) (b ∷ bs))
       else if reader.options.math && is_dollar b then dollar at bs (braces_after false (before at) no_braces)
       else if reader.options.smart_punctuation then smart_or at b

@@ -2,6 +2,7 @@
 use Rattle.std.specs.Prelude.{ℕ, Bool, nat_lt, List, length, filter, chars, encode_utf8_all}
 use Rattle.std.specs.Char.{is_ascii_whitespace}
 use Rattle.std.specs.List.{slice_split, join_with_byte}
+use Rattle.cmark_grammar.specs.Characters.{space}
 use Rattle.caseless.specs.Caseless.{default_case_fold}
 
 abbrev pub is_nonempty : List ℕ → Bool
@@ -14,7 +15,7 @@ words text = filter is_nonempty (slice_split is_ascii_whitespace text)
 
 -- a label without white space at both ends, and with one space for each run of it inside
 abbrev pub normal_form : List ℕ → List ℕ
-normal_form label = join_with_byte 32 (words label)
+normal_form label = join_with_byte space (words label)
 
 -- the text with Unicode's full case folding
 abbrev pub case_folded : List ℕ → List ℕ

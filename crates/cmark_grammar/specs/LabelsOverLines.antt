@@ -1,5 +1,6 @@
 -- The labels of links on lines with prefixes (CommonMark 4.7 and 6.3), and in cells of tables (GFM 4.10).
 use Rattle.std.specs.Prelude.{ℕ, zero, suc, Bool, true, false, ◌||◌, if◌then◌else◌, List, [], ◌∷◌, Option, Some, None, option_map}
+use Rattle.cmark_grammar.specs.Characters.{backslash, left_bracket, pipe, right_bracket}
 use Rattle.cmark_grammar.specs.Letters.{and_then, starts}
 use Rattle.cmark_grammar.specs.Lines.{ends_line}
 use Rattle.cmark_grammar.specs.Unescaped.{escaped_pipe}
@@ -7,11 +8,11 @@ use Rattle.cmark_grammar.specs.LinkDefinitions.{Parsed, up_to_byte, escapes_next
 
 -- a backslash and a pipe, which are a literal pipe in a table cell (GFM 4.10)
 abbrev pub piped : List ℕ
-piped = 92 ∷ 124 ∷ []
+piped = backslash ∷ pipe ∷ []
 
 -- two backslashes
 abbrev pub backslash_pair : List ℕ
-backslash_pair = 92 ∷ 92 ∷ []
+backslash_pair = backslash ∷ backslash ∷ []
 
 -- Backslashes are read from the left, in pairs. The backslash of each `\|` is removed, both backslashes of each `\\|` are, and any other
 -- pair is kept. Is_second: the first byte is the second one of a kept pair
@@ -37,7 +38,7 @@ module _ (prefix : List ℕ → Option ℕ) where
   abbrev pub up_to_bracket : (escaped : Bool) → (skip : ℕ) → List ℕ → Option Parsed
   up_to_bracket escaped skip [] = None
   up_to_bracket escaped (suc skip) (b ∷ bs) = up_to_bracket escaped skip bs
-  up_to_bracket escaped zero (b ∷ bs) = up_to_byte escaped 93 91 true b bs (and_then (label_prefix b bs) (λ n. up_to_bracket (escapes_next escaped b) n bs))
+  up_to_bracket escaped zero (b ∷ bs) = up_to_byte escaped right_bracket left_bracket true b bs (and_then (label_prefix b bs) (λ n. up_to_bracket (escapes_next escaped b) n bs))
 
   -- a label after its opening bracket, without prefixes, and the bytes after its closing one. The limit on a label's characters counts the
   -- written characters, also in a table

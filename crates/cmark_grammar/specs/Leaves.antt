@@ -1,5 +1,6 @@
 -- Leaf blocks, and the lines that belong to them (CommonMark 4).
 use Rattle.std.specs.Prelude.{ℕ, zero, suc, Bool, true, false, ◌==◌, ◌&&◌, ◌||◌, nat_lt, nat_le, if◌then◌else◌, List, [], ◌∷◌, length, drop, take_while, count_by, Option, Some, None}
+use Rattle.cmark_grammar.specs.Characters.{asterisk, backtick, equals_sign, hyphen, number_sign, tilde, underscore}
 use Rattle.cmark_grammar.specs.Columns.{is_blank_byte, drop_end}
 use Rattle.cmark_grammar.specs.Rows.{Row, is_blank_line, indent_of, words_of}
 
@@ -48,11 +49,11 @@ is_break_of b bs = nat_le 3 (count_by (λ c. c == b) bs) && all_pass (λ c. (c =
 
 -- a thematic break of `*`, `-` or `_` (CommonMark 4.1)
 abbrev pub is_thematic_break : List ℕ → Bool
-is_thematic_break bs = is_break_of 42 bs || (is_break_of 45 bs || is_break_of 95 bs)
+is_thematic_break bs = is_break_of asterisk bs || (is_break_of hyphen bs || is_break_of underscore bs)
 
 -- an opening sequence of 1 to 6 `#`, then a blank or the line's end (CommonMark 4.2). Example: `## a`
 abbrev pub is_atx_heading : List ℕ → Bool
-is_atx_heading bs = nat_lt 0 (run 35 bs) && (nat_le (run 35 bs) 6 && is_parted (drop (run 35 bs) bs))
+is_atx_heading bs = nat_lt 0 (run number_sign bs) && (nat_le (run number_sign bs) 6 && is_parted (drop (run number_sign bs) bs))
 
 -- a code fence: its indent, its character and length, and the info string after it (CommonMark 4.5)
 pub record Fence : Type 0 where
@@ -71,8 +72,8 @@ fence_with indented b bs = record { indented = indented; delimiter = b; run_leng
 -- three or more backticks without a backtick in the info string, or three or more tildes (CommonMark 4.5). Example: `~~~ rust`
 abbrev pub fence_of : ℕ → List ℕ → Option Fence
 fence_of indented bs =
-    if nat_le 3 (run 96 bs) && (count_by (λ c. c == 96) (drop (run 96 bs) bs) == 0) then Some (fence_with indented 96 bs)
-    else if nat_le 3 (run 126 bs) then Some (fence_with indented 126 bs)
+    if nat_le 3 (run backtick bs) && (count_by (λ c. c == backtick) (drop (run backtick bs) bs) == 0) then Some (fence_with indented backtick bs)
+    else if nat_le 3 (run tilde bs) then Some (fence_with indented tilde bs)
     else None
 
 -- at most three columns of indent, at least as long a run of the same character, and then only blanks (CommonMark 4.5)
@@ -92,7 +93,7 @@ abbrev pub is_run_of : ℕ → List ℕ → Bool
 is_run_of b bs = nat_lt 0 (run b bs) && are_blank (drop (run b bs) bs)
 
 abbrev pub underline_of : List ℕ → Option ℕ
-underline_of bs = if is_run_of 61 bs then Some 1 else if is_run_of 45 bs then Some 2 else None
+underline_of bs = if is_run_of equals_sign bs then Some 1 else if is_run_of hyphen bs then Some 2 else None
 
 -- the level of the heading that the line makes of a paragraph, if the line is a setext heading underline (CommonMark 4.3). Examples: 1 for
 -- `===`, 2 for `---`

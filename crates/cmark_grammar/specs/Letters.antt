@@ -1,16 +1,17 @@
 -- ASCII letters and digits (named in CommonMark 2.5, 6.5 and 6.6), and the beginnings of byte strings.
-use Rattle.std.specs.Prelude.{ℕ, ◌+◌, Bool, false, ◌&&◌, ◌||◌, nat_le, if◌then◌else◌, List, [], ◌∷◌, length, drop, take, bytes_eq, Option, Some, None}
+use Rattle.std.specs.Prelude.{ℕ, ◌+◌, ◌-◌, Bool, false, ◌&&◌, ◌||◌, nat_le, if◌then◌else◌, List, [], ◌∷◌, length, drop, take, bytes_eq, Option, Some, None}
 use Rattle.std.specs.List.{prefix_len}
+use Rattle.cmark_grammar.specs.Characters.{capital_a, capital_z, digit_nine, digit_zero, small_a, small_z}
 
 -- an ASCII letter in its lower case, other bytes as they are
 abbrev pub lower : ℕ → ℕ
-lower b = if nat_le 65 b && nat_le b 90 then b + 32 else b
+lower b = if nat_le capital_a b && nat_le b capital_z then b + (small_a - capital_a) else b
 
 abbrev pub is_letter : ℕ → Bool
-is_letter b = nat_le 97 (lower b) && nat_le (lower b) 122
+is_letter b = nat_le small_a (lower b) && nat_le (lower b) small_z
 
 abbrev pub is_number : ℕ → Bool
-is_number b = nat_le 48 b && nat_le b 57
+is_number b = nat_le digit_zero b && nat_le b digit_nine
 
 abbrev pub is_alphanumeric : ℕ → Bool
 is_alphanumeric b = is_letter b || is_number b

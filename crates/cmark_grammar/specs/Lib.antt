@@ -9,6 +9,7 @@ pub mod Entities
 pub mod Questions
 -- 2. Lines, columns and escapes (CommonMark 2)
 -- Examples: a tab at the beginning of a line is four columns; `\*` is a literal `*`.
+pub mod Characters
 pub mod Lines
 pub mod Columns
 pub mod Letters

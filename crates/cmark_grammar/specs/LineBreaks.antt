@@ -1,6 +1,7 @@
 -- The breaks between the lines of a leaf (CommonMark 6.7 and 6.8). Example: two spaces before a line ending make a hard break.
 use Rattle.std.specs.Prelude.{ℕ, ◌-◌, Bool, true, false, ◌==◌, if◌then◌else◌, List, length, drop, take_while, codes, bytes_eq, Option, option_map}
 use Rattle.std.specs.Option.{option_or}
+use Rattle.cmark_grammar.specs.Characters.{backslash}
 use Rattle.cmark_grammar.specs.Columns.{is_blank_byte}
 use Rattle.cmark_grammar.specs.Letters.{after_if, and_then}
 use Rattle.cmark_grammar.specs.LinkDefinitions.{after_leading_blanks}
@@ -25,7 +26,7 @@ blank_break blanks following = if ends_with_two_spaces blanks then hard_break fo
 
 -- a break that begins with a backslash
 abbrev pub backslash_break_in : List ℕ → Option LineBreak
-backslash_break_in bs = option_map hard_break (and_then (after_if (λ b. b == 92) bs) after_ending)
+backslash_break_in bs = option_map hard_break (and_then (after_if (λ b. b == backslash) bs) after_ending)
 
 -- a break after blanks, if there are any
 abbrev pub blank_break_in : List ℕ → Option LineBreak

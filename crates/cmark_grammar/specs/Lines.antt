@@ -1,11 +1,6 @@
 -- The lines of a text (CommonMark 2.1). Example: the bytes `a`, CR, LF and `b` are two lines.
 use Rattle.std.specs.Prelude.{ℕ, Bool, false, ◌==◌, ◌&&◌, ◌||◌, not, if◌then◌else◌, List, [], ◌∷◌, take_while}
-
-abbrev pub line_feed : ℕ
-line_feed = 10
-
-abbrev pub carriage_return : ℕ
-carriage_return = 13
+use Rattle.cmark_grammar.specs.Characters.{carriage_return, line_feed}
 
 abbrev pub begins_with_line_feed : List ℕ → Bool
 begins_with_line_feed [] = false

@@ -1,6 +1,7 @@
 -- Link reference definitions (CommonMark 4.7): labels, destinations and titles.
 use Rattle.std.specs.Prelude.{ℕ, suc, ◌-◌, Bool, true, false, ◌==◌, ◌&&◌, ◌||◌, not, nat_lt, nat_le, if◌then◌else◌, List, [], ◌∷◌, ◌++◌, length, drop, take_while, count_by, Option, Some, None}
 use Rattle.std.specs.Char.{is_ascii_whitespace}
+use Rattle.cmark_grammar.specs.Characters.{apostrophe, backslash, carriage_return, colon, delete, first_continuation, first_lead, greater_than_sign, left_bracket, left_parenthesis, less_than_sign, line_feed, quotation_mark, right_bracket, right_parenthesis, space}
 use Rattle.cmark_grammar.specs.Columns.{is_blank_byte, bytes_of}
 use Rattle.cmark_grammar.specs.Rows.{Row, words_of}
 use Rattle.cmark_grammar.specs.Leaves.{is_empty}
@@ -17,14 +18,14 @@ put b (Some found) = Some (record { bytes = b ∷ found.bytes; following = found
 
 -- this byte escapes the next one: it is a backslash that is not escaped itself
 abbrev pub escapes_next : (escaped : Bool) → ℕ → Bool
-escapes_next escaped b = not escaped && (b == 92)
+escapes_next escaped b = not escaped && (b == backslash)
 
 -- the bytes up to the closer, which no backslash escapes. The refused byte does not occur in them unless it is escaped, nor does a line end
 -- unless it is allowed
 abbrev pub up_to_byte : (escaped : Bool) → (closer refused : ℕ) → (over_lines : Bool) → (b : ℕ) → List ℕ → Option Parsed → Option Parsed
 up_to_byte escaped closer refused over_lines b bs found =
     if not escaped && (b == closer) then Some (record { bytes = []; following = bs })
-    else if (not escaped && (b == refused)) || (not over_lines && ((b == 10) || (b == 13))) then None
+    else if (not escaped && (b == refused)) || (not over_lines && ((b == line_feed) || (b == carriage_return))) then None
     else put b found
 
 abbrev pub up_to : (escaped : Bool) → (closer refused : ℕ) → (over_lines : Bool) → List ℕ → Option Parsed
@@ -33,7 +34,7 @@ up_to escaped closer refused over_lines (b ∷ bs) = up_to_byte escaped closer r
 
 -- the number of UTF-8 characters: all bytes except those that continue a character
 abbrev pub characters : List ℕ → ℕ
-characters bs = count_by (λ b. nat_lt b 128 || nat_le 192 b) bs
+characters bs = count_by (λ b. nat_lt b first_continuation || nat_le first_lead b) bs
 
 -- 1 to 999 characters, not only ASCII white space (tab, line feed, form feed, carriage return, space)
 abbrev pub is_label : List ℕ → Bool
@@ -46,20 +47,20 @@ label_if (Some found) = if is_label found.bytes then Some found else None
 
 -- a label after its opening bracket (CommonMark 4.7)
 abbrev pub label_in : List ℕ → Option Parsed
-label_in bs = label_if (up_to false 93 91 true bs)
+label_in bs = label_if (up_to false right_bracket left_bracket true bs)
 
 -- a bare destination ends before an ASCII control, a space, or a closing parenthesis without its opening one. Parentheses are balanced, 32
 -- deep at most, or escaped (CommonMark 6.3)
 abbrev pub ends_bare : ℕ → Bool
-ends_bare b = nat_le b 32 || (b == 127)
+ends_bare b = nat_le b space || (b == delete)
 
 abbrev pub depth_after : (escaped : Bool) → (depth b : ℕ) → ℕ
-depth_after escaped depth b = if escaped then depth else if b == 40 then suc depth else if b == 41 then depth - 1 else depth
+depth_after escaped depth b = if escaped then depth else if b == left_parenthesis then suc depth else if b == right_parenthesis then depth - 1 else depth
 
 abbrev pub bare_byte : (escaped : Bool) → (depth b : ℕ) → List ℕ → Option Parsed → Option Parsed
 bare_byte escaped depth b bs found =
-    if ends_bare b || (not escaped && ((b == 41) && (depth == 0))) then (if depth == 0 then Some (record { bytes = []; following = b ∷ bs }) else None)
-    else if not escaped && ((b == 40) && nat_le 32 depth) then None
+    if ends_bare b || (not escaped && ((b == right_parenthesis) && (depth == 0))) then (if depth == 0 then Some (record { bytes = []; following = b ∷ bs }) else None)
+    else if not escaped && ((b == left_parenthesis) && nat_le 32 depth) then None
     else put b found
 
 -- a bare destination (CommonMark 6.3). Depth: the number of open parentheses
@@ -74,14 +75,14 @@ nonempty (Some found) = if is_empty found.bytes then None else Some found
 -- a destination: in angle brackets on one line, or bare and not empty
 abbrev pub destination_in : List ℕ → Option Parsed
 destination_in [] = None
-destination_in (b ∷ bs) = if b == 60 then up_to false 62 60 false bs else nonempty (bare_in false 0 (b ∷ bs))
+destination_in (b ∷ bs) = if b == less_than_sign then up_to false greater_than_sign less_than_sign false bs else nonempty (bare_in false 0 (b ∷ bs))
 
 -- a title in double quotes, single quotes or parentheses, without an unescaped opening byte inside
 abbrev pub title_in : List ℕ → Option Parsed
 title_in [] = None
 title_in (b ∷ bs) =
-    if (b == 34) || (b == 39) then up_to false b b true bs
-    else if b == 40 then up_to false 41 40 true bs
+    if (b == quotation_mark) || (b == apostrophe) then up_to false b b true bs
+    else if b == left_parenthesis then up_to false right_parenthesis left_parenthesis true bs
     else None
 
 abbrev pub after_leading_blanks : List ℕ → List ℕ
@@ -99,7 +100,7 @@ after_separator bs = after_next_line (after_leading_blanks bs) (after_ending (af
 -- the rest of the line is blank
 abbrev pub at_end : List ℕ → Bool
 at_end [] = true
-at_end (b ∷ bs) = (b == 10) || (b == 13)
+at_end (b ∷ bs) = (b == line_feed) || (b == carriage_return)
 
 abbrev pub is_line_done : List ℕ → Bool
 is_line_done bs = at_end (after_leading_blanks bs)
@@ -137,7 +138,7 @@ with_destination label (Some destination) = titled label destination (title_in (
 
 abbrev pub after_colon : Parsed → List ℕ → Option Defined
 after_colon label [] = None
-after_colon label (b ∷ bs) = if b == 58 then with_destination label.bytes (destination_in (after_separator bs)) else None
+after_colon label (b ∷ bs) = if b == colon then with_destination label.bytes (destination_in (after_separator bs)) else None
 
 abbrev pub with_label : Option Parsed → Option Defined
 with_label None = None
@@ -146,11 +147,11 @@ with_label (Some label) = after_colon label label.following
 -- the definition at the beginning of these bytes. Example: `[label]: /url "title"`
 abbrev pub definition_in : List ℕ → Option Defined
 definition_in [] = None
-definition_in (b ∷ bs) = if b == 91 then with_label (label_in bs) else None
+definition_in (b ∷ bs) = if b == left_bracket then with_label (label_in bs) else None
 
 -- the line end in the text: CR LF if it has two bytes
 abbrev pub line_end_of : Row → List ℕ
-line_end_of r = if nat_le 2 (r.line_end - r.content_end) then 13 ∷ 10 ∷ [] else 10 ∷ []
+line_end_of r = if nat_le 2 (r.line_end - r.content_end) then carriage_return ∷ line_feed ∷ [] else line_feed ∷ []
 
 -- a line after its indent, and further lines, with the line ends between them
 abbrev pub further_bytes : Row → List Row → List ℕ
@@ -161,4 +162,4 @@ abbrev pub bytes_over : Row → List Row → List ℕ
 bytes_over first more = words_of first ++ further_bytes first more
 
 abbrev pub line_ends : List ℕ → ℕ
-line_ends bs = count_by (λ b. b == 10) bs
+line_ends bs = count_by (λ b. b == line_feed) bs

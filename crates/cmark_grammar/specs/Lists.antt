@@ -1,12 +1,13 @@
 -- Lists: neighbouring items, and whether a list is loose (CommonMark 5.3). Definition lists: titles and definitions in a row (this
 -- profile's own). Example: the two lines `- a` and `+ b` are two lists.
 use Rattle.std.specs.Prelude.{ℕ, Bool, true, false, ◌==◌, ◌&&◌, ◌||◌, not, if◌then◌else◌, Option, Some, None}
+use Rattle.cmark_grammar.specs.Characters.{colon}
 use Rattle.cmark_grammar.specs.Containers.{BlockQuote, Item, Footnote, ListDefinition}
 use Rattle.cmark_grammar.specs.Blocks.{Blocks, Nil, BlankLine, Paragraph, SetextHeading, LeafBlock, ContainerBlock}
 
 -- a list is identified by the character of its markers; that of a definition list is `:`
 abbrev pub definition_delimiter : ℕ
-definition_delimiter = 58
+definition_delimiter = colon
 
 -- whether the next block is a definition: the paragraph before it is then its title
 abbrev pub is_title : (after : Blocks) → Bool

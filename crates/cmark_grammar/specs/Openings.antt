@@ -1,6 +1,7 @@
 -- The blocks that a line begins, and the lines that interrupt a paragraph (CommonMark 3 to 5). Example: `# a` begins a heading and
 -- interrupts a paragraph; `2. a` begins an item and does not interrupt one.
 use Rattle.std.specs.Prelude.{ℕ, suc, Bool, true, false, ◌==◌, ◌&&◌, ◌||◌, not, nat_le, if◌then◌else◌, List, Option, Some, None, ◌∷◌, ◌-◌, length, drop, []}
+use Rattle.cmark_grammar.specs.Characters.{number_sign}
 use Rattle.cmark_grammar.specs.Alignment.{Alignment}
 use Rattle.cmark_grammar.specs.Rows.{Row, is_blank_line, indent_of, words_of, without}
 use Rattle.cmark_grammar.specs.Leaves.{Fence, underlines, counted, run, is_thematic_break, is_atx_heading, fence_of, fence_continuation, code_continuation}
@@ -153,7 +154,7 @@ module _ (options : Options) where
   leaf_of r ahead =
       or_else (html_if r ahead (html_kind (words_of r)))
       (or_else (break_if (is_thematic_break (words_of r)))
-      (or_else (heading_if (is_atx_heading (words_of r)) (run 35 (words_of r)))
+      (or_else (heading_if (is_atx_heading (words_of r)) (run number_sign (words_of r)))
       (or_else (fenced_if (fence_of (indent_of r) (words_of r)) ahead)
       (text_of r ahead))))
 

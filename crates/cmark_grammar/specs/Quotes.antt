@@ -1,5 +1,6 @@
 -- Quotation marks as typographic ones, if smart punctuation is on (this profile's own). Example: `"a"` becomes `“a”`.
 use Rattle.std.specs.Prelude.{ℕ, Bool, true, false, not, ◌==◌, ◌&&◌, ◌||◌, if◌then◌else◌, Option, Some, None, List, [], ◌∷◌}
+use Rattle.cmark_grammar.specs.Characters.{left_double_quotation_mark, left_single_quotation_mark, right_bracket, right_double_quotation_mark, right_parenthesis, right_single_quotation_mark}
 use Rattle.cmark_grammar.specs.Flanking.{is_white_space_there, is_punctuation_there}
 
 -- a quotation mark (`"` if it is double, else `'`), and whether it can open and close
@@ -11,7 +12,7 @@ pub record Quote : Type 0 where
 -- the end of a link's text or of its destination
 abbrev pub is_closing_bracket_there : Option ℕ → Bool
 is_closing_bracket_there None = false
-is_closing_bracket_there (Some c) = (c == 93) || (c == 41)
+is_closing_bracket_there (Some c) = (c == right_bracket) || (c == right_parenthesis)
 
 -- a quotation mark can open if no white space follows it and white space or punctuation precedes it. For a single quote `]` and `)` do not
 -- count as this punctuation
@@ -54,7 +55,7 @@ is_closed_by (quote ∷ after) =
 
 -- the character of a double quote after these: U+201D if it closes one, and else U+201C
 abbrev pub double_character : (before : List Quote) → Quote → ℕ
-double_character before quote = if quote.closes && is_double_open before then 8221 else 8220
+double_character before quote = if quote.closes && is_double_open before then right_double_quotation_mark else left_double_quotation_mark
 
 -- a single quote that closes no quote, and can open, becomes open
 abbrev pub turns_open : (before : List Quote) → Quote → Bool
@@ -62,7 +63,7 @@ turns_open before quote = not (quote.closes && is_single_open before) && quote.o
 
 -- the character of a single quote between these: U+2018 if it opens and is closed, and else U+2019
 abbrev pub single_character : (before : List Quote) → Quote → (after : List Quote) → ℕ
-single_character before quote after = if turns_open before quote && is_closed_by after then 8216 else 8217
+single_character before quote after = if turns_open before quote && is_closed_by after then left_single_quotation_mark else right_single_quotation_mark
 
 abbrev pub quote_character : (before : List Quote) → Quote → (after : List Quote) → ℕ
 quote_character before quote after = if quote.double then double_character before quote else single_character before quote after

@@ -4,7 +4,7 @@ use Rattle.std.specs.Prelude.{ℕ, Bool, true, false, nat_lt, if◌then◌else�
 use Rattle.cmark_grammar.specs.Attributes.{Attributes, no_attributes, before_braces, inside_braces, attributes_of}
 use Rattle.cmark_grammar.specs.BlockDocument.{BlockDocument, Nil, Node}
 use Rattle.cmark_grammar.specs.Columns.{Column, drop_end, without_trailing_blanks, bytes_of}
-use Rattle.cmark_grammar.specs.Lines.{line_feed}
+use Rattle.cmark_grammar.specs.Characters.{line_feed}
 use Rattle.cmark_grammar.specs.Rows.{Row, first_place}
 use Rattle.cmark_grammar.specs.Tags.{is_space_byte}
 use Rattle.cmark_grammar.specs.Tokens.{stretch_then, paragraph_tokens}

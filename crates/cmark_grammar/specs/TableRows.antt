@@ -1,14 +1,12 @@
 -- The rows of tables, and the cells in them (GFM 4.10).
 use Rattle.std.specs.Prelude.{ℕ, suc, ◌+◌, ◌-◌, Bool, true, false, ◌==◌, ◌&&◌, not, nat_lt, nat_le, if◌then◌else◌, List, [], ◌∷◌, length, Option, Some, None}
+use Rattle.cmark_grammar.specs.Characters.{backslash, pipe}
 use Rattle.cmark_grammar.specs.Alignment.{Alignment}
 use Rattle.cmark_grammar.specs.Lines.{onto}
 use Rattle.cmark_grammar.specs.Leaves.{are_blank}
 use Rattle.cmark_grammar.specs.Options.{Options}
 use Rattle.cmark_grammar.specs.Rows.{Row, indent_of, words_of, start_of}
-use Rattle.cmark_grammar.specs.Tables.{pipe, without_first_pipe, delimiter_row}
-
-abbrev pub backslash : ℕ
-backslash = 92
+use Rattle.cmark_grammar.specs.Tables.{without_first_pipe, delimiter_row}
 
 -- the bytes between the pipes that separate cells. A pipe directly after a backslash does not separate cells; a pipe in code does
 abbrev pub parts : (escaped : Bool) → List ℕ → List (List ℕ)

@@ -1,18 +1,10 @@
 -- Tables: the delimiter row (GFM 4.10).
 use Rattle.std.specs.Prelude.{ℕ, Bool, true, false, ◌==◌, ◌&&◌, nat_lt, if◌then◌else◌, List, [], ◌∷◌, drop, codes, Option, Some, None}
+use Rattle.cmark_grammar.specs.Characters.{colon, hyphen, pipe}
 use Rattle.cmark_grammar.specs.Lines.{onto}
 use Rattle.cmark_grammar.specs.Leaves.{is_empty, run, trimmed}
 use Rattle.cmark_grammar.specs.HtmlBlocks.{holds}
 use Rattle.cmark_grammar.specs.Alignment.{Alignment, Unaligned, Left, Center, Right}
-
-abbrev pub pipe : ℕ
-pipe = 124
-
-abbrev pub colon : ℕ
-colon = 58
-
-abbrev pub hyphen : ℕ
-hyphen = 45
 
 -- the alignment by a colon before the hyphens and one after them
 abbrev pub aligned : (before following : Bool) → Alignment

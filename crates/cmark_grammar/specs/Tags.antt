@@ -1,18 +1,19 @@
 -- Open and closing tags (CommonMark 6.6). Each part is read from the beginning of the bytes: the result is the bytes after it, if it is
 -- there. Examples: `<a href="b">`, `</a >`.
 use Rattle.std.specs.Prelude.{ℕ, zero, suc, Bool, ◌==◌, ◌||◌, not, if◌then◌else◌, List, [], ◌∷◌, length, drop, Option, Some, None}
+use Rattle.cmark_grammar.specs.Characters.{apostrophe, backtick, carriage_return, colon, equals_sign, greater_than_sign, hyphen, less_than_sign, line_feed, period, quotation_mark, slash, underscore}
 use Rattle.cmark_grammar.specs.Columns.{is_blank_byte}
 use Rattle.cmark_grammar.specs.Lines.{is_content, ends_line}
 use Rattle.cmark_grammar.specs.Letters.{is_letter, is_alphanumeric, first_is, after_while, after_if, and_then}
 
 abbrev pub is_name_byte : ℕ → Bool
-is_name_byte b = is_alphanumeric b || (b == 45)
+is_name_byte b = is_alphanumeric b || (b == hyphen)
 
 abbrev pub is_attribute_start : ℕ → Bool
-is_attribute_start b = is_letter b || ((b == 95) || (b == 58))
+is_attribute_start b = is_letter b || ((b == underscore) || (b == colon))
 
 abbrev pub is_attribute_byte : ℕ → Bool
-is_attribute_byte b = is_alphanumeric b || ((b == 95) || ((b == 58) || ((b == 46) || (b == 45))))
+is_attribute_byte b = is_alphanumeric b || ((b == underscore) || ((b == colon) || ((b == period) || (b == hyphen))))
 
 -- a space, a tab or a byte of a line ending
 abbrev pub is_space_byte : ℕ → Bool
@@ -20,7 +21,7 @@ is_space_byte b = is_blank_byte b || not (is_content b)
 
 -- spaces, tabs, line endings, quotes, `=`, `<`, `>` and backticks end a bare value
 abbrev pub ends_value : ℕ → Bool
-ends_value b = is_space_byte b || ((b == 34) || ((b == 39) || ((b == 60) || ((b == 61) || ((b == 62) || (b == 96))))))
+ends_value b = is_space_byte b || ((b == quotation_mark) || ((b == apostrophe) || ((b == less_than_sign) || ((b == equals_sign) || ((b == greater_than_sign) || (b == backtick))))))
 
 abbrev pub is_value_byte : ℕ → Bool
 is_value_byte b = not (ends_value b)
@@ -28,11 +29,11 @@ is_value_byte b = not (ends_value b)
 -- the bytes after a line ending: a line feed, a carriage return, or both in this order
 abbrev pub after_line_feed : List ℕ → List ℕ
 after_line_feed [] = []
-after_line_feed (b ∷ bs) = if b == 10 then bs else b ∷ bs
+after_line_feed (b ∷ bs) = if b == line_feed then bs else b ∷ bs
 
 abbrev pub after_ending : List ℕ → Option (List ℕ)
 after_ending [] = None
-after_ending (b ∷ bs) = if b == 10 then Some bs else if b == 13 then Some (after_line_feed bs) else None
+after_ending (b ∷ bs) = if b == line_feed then Some bs else if b == carriage_return then Some (after_line_feed bs) else None
 
 -- a tag's name: a letter, then letters, digits and hyphens
 abbrev pub after_tag_name : List ℕ → Option (List ℕ)
@@ -48,12 +49,12 @@ after_bare_value bs = and_then (after_if is_value_byte bs) (λ rest. Some (after
 
 -- the end of a tag: `>`
 abbrev pub after_greater : List ℕ → Option (List ℕ)
-after_greater bs = after_if (λ b. b == 62) bs
+after_greater bs = after_if (λ b. b == greater_than_sign) bs
 
 -- the end of an open tag, with a `/` or without
 abbrev pub after_open_end : List ℕ → Option (List ℕ)
 after_open_end [] = None
-after_open_end (b ∷ bs) = if b == 47 then after_greater bs else after_greater (b ∷ bs)
+after_open_end (b ∷ bs) = if b == slash then after_greater bs else after_greater (b ∷ bs)
 
 -- a closing tag after its `</`: a name, then blanks and `>`
 abbrev pub after_closing_tag : List ℕ → Option (List ℕ)
@@ -87,12 +88,12 @@ module _ (prefix : List ℕ → ℕ) where
   -- a value: in double or in single quotes, or bare
   abbrev pub after_value : List ℕ → Option (List ℕ)
   after_value [] = None
-  after_value (b ∷ bs) = if (b == 34) || (b == 39) then after_quotation_mark b 0 bs else after_bare_value (b ∷ bs)
+  after_value (b ∷ bs) = if (b == quotation_mark) || (b == apostrophe) then after_quotation_mark b 0 bs else after_bare_value (b ∷ bs)
 
   -- a value after an attribute's name, if `=` follows the name
   abbrev pub after_assigned : (name : List ℕ) → List ℕ → Option (List ℕ)
   after_assigned name [] = Some name
-  after_assigned name (b ∷ bs) = if b == 61 then after_value (after_space bs) else Some name
+  after_assigned name (b ∷ bs) = if b == equals_sign then after_value (after_space bs) else Some name
 
   -- an attribute, which comes after white space
   abbrev pub after_attribute : List ℕ → Option (List ℕ)
@@ -110,10 +111,10 @@ module _ (prefix : List ℕ → ℕ) where
 
   -- a tag after its `<`
   abbrev pub after_tag_start : List ℕ → Option (List ℕ)
-  after_tag_start bs = if first_is (λ b. b == 47) bs then after_closing_tag (drop 1 bs) else after_open_tag bs
+  after_tag_start bs = if first_is (λ b. b == slash) bs then after_closing_tag (drop 1 bs) else after_open_tag bs
 
   abbrev pub after_tag : List ℕ → Option (List ℕ)
-  after_tag bs = and_then (after_if (λ b. b == 60) bs) after_tag_start
+  after_tag bs = and_then (after_if (λ b. b == less_than_sign) bs) after_tag_start
 
 -- no line has a prefix
 abbrev pub no_prefix : List ℕ → ℕ

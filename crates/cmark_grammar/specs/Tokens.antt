@@ -1,18 +1,19 @@
 -- The content of a leaf: texts and HTML (CommonMark 4.2 to 4.8), and bytes with escapes and entities resolved (CommonMark 2.4 and 2.5).
 use Rattle.std.specs.Char.{encode_utf8}
 use Rattle.std.specs.Prelude.{ℕ, zero, suc, ◌+◌, ◌-◌, ◌*◌, Bool, true, false, ◌==◌, ◌&&◌, ◌||◌, not, nat_lt, nat_le, if◌then◌else◌, List, [], ◌∷◌, ◌++◌, length, drop, take, take_while, replicate, fold, Option, Some, None}
+use Rattle.cmark_grammar.specs.Characters.{ampersand, at_sign, backslash, backtick, capital_x, carriage_return, colon, digit_zero, exclamation_mark, left_brace, left_bracket, line_feed, number_sign, replacement_character, semicolon, slash, small_a, small_f, small_x, space, tilde}
 use Rattle.cmark_grammar.specs.Answers.{Lookup}
 use Rattle.cmark_grammar.specs.Attributes.{Attributes, before_braces, inside_braces, attributes_of}
 use Rattle.cmark_grammar.specs.Columns.{Column, is_blank_byte, without_indent, drop_end, without_trailing_blanks, bytes_of}
 use Rattle.cmark_grammar.specs.Rows.{Row, is_bare, first_place, indent_of, begin_of, start_of}
 use Rattle.cmark_grammar.specs.Leaves.{Fence, closes_fence, is_empty}
-use Rattle.cmark_grammar.specs.Lines.{line_feed, carriage_return, ends_line}
+use Rattle.cmark_grammar.specs.Lines.{ends_line}
 use Rattle.cmark_grammar.specs.HtmlBlocks.{is_alphanumeric, is_number, lower, first_is}
 use Rattle.cmark_grammar.specs.BlockDocument.{BlockKind, BlockDocument, Nil, Node, node, Text, OwnedText, Html}
 
 -- ASCII punctuation (CommonMark 2.1)
 abbrev pub is_punctuation : ℕ → Bool
-is_punctuation b = (nat_le 33 b && nat_le b 47) || ((nat_le 58 b && nat_le b 64) || ((nat_le 91 b && nat_le b 96) || (nat_le 123 b && nat_le b 126)))
+is_punctuation b = (nat_le exclamation_mark b && nat_le b slash) || ((nat_le colon b && nat_le b at_sign) || ((nat_le left_bracket b && nat_le b backtick) || (nat_le left_brace b && nat_le b tilde)))
 
 -- the text of an entity, and the number of its bytes from `&` to `;`
 pub record Entity : Type 0 where
@@ -29,13 +30,13 @@ is_character n = nat_lt 0 n && (nat_le n 1114111 && not (nat_le 55296 n && nat_l
 
 -- the UTF-8 of a character; for any other number, of U+FFFD
 abbrev pub character : ℕ → List ℕ
-character n = if is_character n then encode_utf8 n else 239 ∷ 191 ∷ 189 ∷ []
+character n = if is_character n then encode_utf8 n else replacement_character
 
 abbrev pub is_hexadecimal : ℕ → Bool
-is_hexadecimal b = is_number b || (nat_le 97 (lower b) && nat_le (lower b) 102)
+is_hexadecimal b = is_number b || (nat_le small_a (lower b) && nat_le (lower b) small_f)
 
 abbrev pub digit_of : ℕ → ℕ
-digit_of b = if is_number b then b - 48 else lower b - 87
+digit_of b = if is_number b then b - digit_zero else lower b - (small_a - 10)
 
 abbrev pub value_of : (base : ℕ) → List ℕ → ℕ
 value_of base ds = fold (λ n d. n * base + digit_of d) 0 ds
@@ -43,7 +44,7 @@ value_of base ds = fold (λ n d. n * base + digit_of d) 0 ds
 -- 1 to `most` digits and a semicolon
 abbrev pub numeric : (base most size : ℕ) → (digits following : List ℕ) → Option Entity
 numeric base most size digits following =
-    if nat_lt 0 (length digits) && (nat_le (length digits) most && first_is (λ b. b == 59) following)
+    if nat_lt 0 (length digits) && (nat_le (length digits) most && first_is (λ b. b == semicolon) following)
     then Some (record { bytes = character (value_of base digits); size = length digits + size }) else None
 
 -- 1 to 6 hexadecimal digits and a semicolon (CommonMark 2.5)
@@ -55,11 +56,11 @@ abbrev pub decimal_in : List ℕ → Option Entity
 decimal_in bs = numeric 10 7 3 (take_while is_number bs) (drop (length (take_while is_number bs)) bs)
 
 abbrev pub numeric_in : List ℕ → Option Entity
-numeric_in bs = if first_is (λ b. (b == 120) || (b == 88)) bs then hexadecimal_in (drop 1 bs) else decimal_in bs
+numeric_in bs = if first_is (λ b. (b == small_x) || (b == capital_x)) bs then hexadecimal_in (drop 1 bs) else decimal_in bs
 
 -- a name that the look-up knows, and a semicolon
 abbrev pub named : Lookup → (name following : List ℕ) → Option Entity
-named lookup name following = if not (is_empty name) && first_is (λ b. b == 59) following then entity_if (lookup name) (length name + 2) else None
+named lookup name following = if not (is_empty name) && first_is (λ b. b == semicolon) following then entity_if (lookup name) (length name + 2) else None
 
 -- a name of letters and digits, and a semicolon (CommonMark 2.5)
 abbrev pub named_in : Lookup → List ℕ → Option Entity
@@ -67,7 +68,7 @@ named_in lookup bs = named lookup (take_while is_alphanumeric bs) (drop (length 
 
 -- the entity or numeric character reference after `&` (CommonMark 2.5). Examples: `amp;`, `#65;`, `#x41;`
 abbrev pub entity_in : Lookup → List ℕ → Option Entity
-entity_in lookup bs = if first_is (λ b. b == 35) bs then numeric_in (drop 1 bs) else named_in lookup bs
+entity_in lookup bs = if first_is (λ b. b == number_sign) bs then numeric_in (drop 1 bs) else named_in lookup bs
 
 -- the effect of a byte: it is literal, escapes the next one, or begins an entity
 pub data Does : Type 0 where
@@ -87,7 +88,7 @@ does_at lookup false false bs = Stands
 -- a byte after an escaping backslash is literal
 abbrev pub does : Lookup → (escaped : Bool) → ℕ → List ℕ → Does
 does lookup true b bs = Stands
-does lookup false b bs = does_at lookup (b == 38) (b == 92) bs
+does lookup false b bs = does_at lookup (b == ampersand) (b == backslash) bs
 
 abbrev pub is_escape : Does → Bool
 is_escape Stands = false
@@ -181,7 +182,7 @@ abbrev pub paragraph_tokens : List ℕ → Row → List Row → BlockDocument
 paragraph_tokens text first more = stretches text (start_of first) first more
 
 abbrev pub is_hash : Column → Bool
-is_hash c = c.byte == 35
+is_hash c = c.byte == number_sign
 
 -- without a closing sequence: `#` at the end, alone or after a blank (CommonMark 4.2)
 abbrev pub without_closing : List Column → List Column
@@ -235,7 +236,7 @@ left_columns cs = length (take_while is_left cs)
 -- each of these columns becomes a space, whose place is the end of the tab (this profile's own)
 abbrev pub spaces_if : ℕ → ℕ → List Piece → List Piece
 spaces_if zero at ps = ps
-spaces_if (suc n) at ps = record { owned = true; bytes = replicate (suc n) 32; start = at; end = at } ∷ ps
+spaces_if (suc n) at ps = record { owned = true; bytes = replicate (suc n) space; start = at; end = at } ∷ ps
 
 -- a line of code or HTML without prefixes
 abbrev pub verbatim_line : List ℕ → List Column → Row → List Piece

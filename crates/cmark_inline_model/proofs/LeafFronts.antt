@@ -2,10 +2,11 @@
 use Rattle.std.specs.Prelude.{◌==◌, nat_lt, if◌then◌else◌, cond, get_or, take_while}
 use Rattle.std.proofs.Common.{◌≡◌, ℕ, zero, suc, ◌+◌, Bool, true, false, List, [], ◌∷◌, ◌++◌, length, drop, refl, sym, ap, ◌∙◌, subst, arith, append_assoc, Option, Some, None, true≢false, length-append, get_or-append-add}
 use Rattle.std.proofs.lemmas.List.Sums.{take_while-cons}
+use Rattle.cmark_grammar.specs.Characters.{tab}
 use Rattle.cmark_grammar.specs.Answers.{Lookup}
 use Rattle.cmark_grammar.specs.BlockDocument.{BlockDocument, Nil, Node}
 use Rattle.cmark_grammar.specs.Blocks.{AreText}
-use Rattle.cmark_grammar.specs.Columns.{Column, tab, expand, tab_columns, to_tab_stop, is_blank, without_indent}
+use Rattle.cmark_grammar.specs.Columns.{Column, expand, tab_columns, to_tab_stop, is_blank, without_indent}
 use Rattle.cmark_grammar.specs.Containers.{Container, is_alert, unless_tag, enter, width_of, keeps, strip_as, strip, strips, is_bare_start, insides}
 use Rattle.cmark_grammar.specs.Derivation.{Derives}
 use Rattle.cmark_grammar.specs.LeafText.{Stretch}

@@ -1,11 +1,12 @@
 -- In the leaves of a document that is derived each stretch but the last ends with a line ending.
 use Rattle.std.specs.Prelude.{◌-◌, ◌==◌, nat_lt, if◌then◌else◌, get_or}
 use Rattle.std.proofs.Common.{◌≡◌, ◌⊎◌, inl, inr, ⊎_elim, ℕ, ◌+◌, ◌<◌, Bool, true, false, not, ◌&&◌, ◌||◌, List, [], ◌∷◌, ◌++◌, length, refl, sym, ap, ◌∙◌, subst, arith, append_assoc, true≢false, length-append, get_or-append-add}
+use Rattle.cmark_grammar.specs.Characters.{carriage_return, line_feed}
 use Rattle.cmark_grammar.specs.Answers.{Lookup}
 use Rattle.cmark_grammar.specs.BlockDocument.{BlockDocument, Nil, Node}
 use Rattle.cmark_grammar.specs.Containers.{Container, is_alert, unless_tag, enter, strips, is_bare_start, insides}
 use Rattle.cmark_grammar.specs.Derivation.{Derives}
-use Rattle.cmark_grammar.specs.Lines.{lines, ends_line, onto, is_content, line_feed, carriage_return, begins_with_line_feed}
+use Rattle.cmark_grammar.specs.Lines.{lines, ends_line, onto, is_content, begins_with_line_feed}
 use Rattle.cmark_grammar.specs.Options.{Options}
 use Rattle.cmark_grammar.specs.Rows.{Row, rows, rows_from, begin_of, start_of}
 use Rattle.cmark_grammar.specs.SetextAttributes.{texts_before}

@@ -2,9 +2,10 @@
 use Rattle.std.specs.Prelude.{◌==◌, nat_lt, if◌then◌else◌, get_or}
 use Rattle.std.proofs.Common.{◌≡◌, ℕ, zero, suc, ◌+◌, ◌≤◌, ◌<◌, Bool, true, false, ◌&&◌, ◌||◌, nat_le, List, [], ◌∷◌, ◌++◌, length, drop, refl, sym, ap, ◌∙◌, subst, arith, append_assoc, Option, Some, None, true≢false, length-append, get_or-append-add}
 use Rattle.std.proofs.lemmas.Bool.{ltb-true, ltb-false}
+use Rattle.cmark_grammar.specs.Characters.{tab}
 use Rattle.cmark_grammar.specs.Answers.{Lookup}
 use Rattle.cmark_grammar.specs.BlockDocument.{BlockDocument, Nil, Node}
-use Rattle.cmark_grammar.specs.Columns.{Column, tab, expand, tab_columns, to_tab_stop, is_blank, is_blank_byte, indent, without_indent, bytes_of}
+use Rattle.cmark_grammar.specs.Columns.{Column, expand, tab_columns, to_tab_stop, is_blank, is_blank_byte, indent, without_indent, bytes_of}
 use Rattle.cmark_grammar.specs.Containers.{Container, BlockQuote, Item, Footnote, ListDefinition, begins_with, is_block_quote, one_blank, block_quote_width, is_alert, unless_tag, enter, width_of, keep_as, keeps, strip_as, strip, strips, is_bare_start, insides}
 use Rattle.cmark_grammar.specs.Derivation.{Derives}
 use Rattle.cmark_grammar.specs.LeafText.{Stretch}

@@ -2,8 +2,9 @@
 use Rattle.std.proofs.Common.{◌≡◌, ℕ, zero, suc, ◌+◌, ◌-◌, ◌≤◌, Bool, true, false, ◌==◌, ◌&&◌, not, ◌≢◌, min, List, [], ◌∷◌, ◌++◌, length, drop, take, take_while, replicate, Option, Some, None, refl, sym, ap, ◌∙◌, subst, arith, true≢false, append_assoc, append-nil, drop-drop, take-add, cond}
 use Rattle.std.specs.Prelude.{if◌then◌else◌, nat_lt, nat_le}
 use Rattle.std.proofs.lemmas.List.Sums.{take_while-cons}
+use Rattle.cmark_grammar.specs.Characters.{tab}
 use Rattle.cmark_grammar.specs.BlockDocument.{Text, OwnedText, Html, Nil, Node, node, join}
-use Rattle.cmark_grammar.specs.Columns.{Column, tab, expand, tab_columns, to_tab_stop}
+use Rattle.cmark_grammar.specs.Columns.{Column, expand, tab_columns, to_tab_stop}
 use Rattle.cmark_grammar.specs.Rows.{Row, without, begin_of, indent_of}
 use Rattle.cmark_grammar.specs.Tokens.{Piece, slice, piece_if, plain_line, is_left, left_columns, spaces_if, verbatim_line, code_columns, touches, html_kind_of, html_then}
 use Rattle.cmark_block_model.specs.Drawing.{Drawing, drawn}

@@ -1,7 +1,8 @@
 -- The columns of a line, without some at their end, as bytes of the text.
 use Rattle.std.proofs.Common.{◌≡◌, ℕ, zero, suc, ◌+◌, ◌-◌, ◌≤◌, Bool, true, false, ◌==◌, not, List, [], ◌∷◌, ◌++◌, length, drop, take, refl, sym, ap, ◌∙◌, subst, arith, true≢false}
 use Rattle.std.specs.Prelude.{if◌then◌else◌}
-use Rattle.cmark_grammar.specs.Columns.{Column, tab, expand, tab_columns, to_tab_stop, is_blank, is_blank_byte, indent, without_indent, drop_end, put_before, bytes_of}
+use Rattle.cmark_grammar.specs.Characters.{tab}
+use Rattle.cmark_grammar.specs.Columns.{Column, expand, tab_columns, to_tab_stop, is_blank, is_blank_byte, indent, without_indent, drop_end, put_before, bytes_of}
 use Rattle.cmark_grammar.specs.Rows.{begin_of, start_of}
 use Rattle.cmark_grammar.specs.Tokens.{slice, line_columns, end_place}
 use Rattle.cmark_block_model.proofs.RowPlaces.{Runs, Runs-le, drop-Runs}

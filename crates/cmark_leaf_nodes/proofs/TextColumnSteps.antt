@@ -1,7 +1,8 @@
 -- The lines of a text tell its bytes, also without their prefixes.
 use Rattle.std.proofs.Common.{◌≡◌, ℕ, zero, suc, ◌+◌, ◌-◌, ◌≤◌, Bool, true, false, ◌==◌, List, [], ◌∷◌, ◌++◌, length, length-drop, drop, refl, sym, ap, ◌∙◌, subst, arith, append_assoc, drop-drop}
 use Rattle.std.specs.Prelude.{if◌then◌else◌}
-use Rattle.cmark_grammar.specs.Columns.{Column, tab, expand, tab_columns, to_tab_stop}
+use Rattle.cmark_grammar.specs.Characters.{tab}
+use Rattle.cmark_grammar.specs.Columns.{Column, expand, tab_columns, to_tab_stop}
 use Rattle.cmark_grammar.specs.Containers.{Container, enter, width_of}
 use Rattle.cmark_grammar.specs.Lines.{lines, content}
 use Rattle.cmark_grammar.specs.Rows.{Row, row_at, without}

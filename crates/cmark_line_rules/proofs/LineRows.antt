@@ -5,7 +5,8 @@ use Rattle.std.specs.Str.{IsCharBoundary, IsUtf8}
 use Rattle.std.proofs.lemmas.List.Folds.{length-prefix_len}
 use Rattle.std.proofs.lemmas.List.Sums.{prefix_len-le-length}
 use Rattle.std.proofs.lemmas.Str.{IsUtf8-drop, IsCharBoundary-from_rest}
-use Rattle.cmark_grammar.specs.Columns.{Column, tab, expand, tab_columns, to_tab_stop, bytes_of}
+use Rattle.cmark_grammar.specs.Characters.{tab}
+use Rattle.cmark_grammar.specs.Columns.{Column, expand, tab_columns, to_tab_stop, bytes_of}
 use Rattle.cmark_grammar.specs.Lines.{lines, content, is_content, begins_with_line_feed, ending_len}
 use Rattle.cmark_grammar.specs.Rows.{row_at, rows_from, begin_of}
 use Rattle.cmark_line_rules.proofs.LineSteps.{rows-first}

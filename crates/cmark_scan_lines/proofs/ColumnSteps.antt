@@ -2,7 +2,8 @@
 use Rattle.std.proofs.Common.{◌≡◌, ℕ, zero, suc, ◌+◌, ◌-◌, ◌%◌, ◌≤◌, Bool, true, false, ◌==◌, cond, List, [], ◌∷◌, ◌++◌, drop, refl, sym, ap, ◌∙◌, subst, arith, eqb-true, ne_eqb}
 use Rattle.std.specs.Prelude.{if◌then◌else◌}
 use Rattle.std.specs.List.{prefix_len}
-use Rattle.cmark_grammar.specs.Columns.{Column, tab, tab_columns, to_tab_stop, expand, bytes_of}
+use Rattle.cmark_grammar.specs.Characters.{tab}
+use Rattle.cmark_grammar.specs.Columns.{Column, tab_columns, to_tab_stop, expand, bytes_of}
 
 -- a test of a column that looks at its byte alone
 abbrev pub on_byte : (ℕ → Bool) → Column → Bool

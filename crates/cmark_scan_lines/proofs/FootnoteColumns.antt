@@ -2,7 +2,8 @@
 use Rattle.std.proofs.Common.{◌≡◌, ◌≢◌, ℕ, zero, suc, ◌+◌, ◌-◌, ◌%◌, ◌<◌, ◌≤◌, Bool, true, false, ◌==◌, List, [], ◌∷◌, ◌++◌, length, take, drop, get_or, refl, ap, ◌∙◌, arith, eqb-true, ne_eqb}
 use Rattle.std.proofs.Math.Seq.{take-add}
 use Rattle.std.specs.Prelude.{if◌then◌else◌}
-use Rattle.cmark_grammar.specs.Columns.{Column, tab, tab_columns, to_tab_stop, expand}
+use Rattle.cmark_grammar.specs.Characters.{tab}
+use Rattle.cmark_grammar.specs.Columns.{Column, tab_columns, to_tab_stop, expand}
 use Rattle.cmark_grammar.specs.Footnotes.{columns_over}
 use Rattle.cmark_scan_lines.specs.Places.{width_at, column_after}
 use Rattle.cmark_scan_lines.specs.LineStart.{columns_taken, columns_from}

@@ -1,6 +1,7 @@
 -- The columns of a line from some place on.
 use Rattle.std.proofs.Common.{◌≡◌, ◌≢◌, ℕ, zero, suc, ◌+◌, ◌-◌, ◌%◌, ◌<◌, ◌≤◌, Bool, true, false, ◌==◌, cond, List, [], ◌∷◌, ◌++◌, length, take, drop, get_or, refl, sym, ap, ◌∙◌, arith, append_assoc, true≢false, ◌&&◌, nat_eq, eqb-true, ne_eqb, eq-eqb, ⊎_elim}
 use Rattle.std.proofs.Math.Nat.{eq-or-lt_of_le}
+use Rattle.cmark_grammar.specs.Characters.{tab}
 use Rattle.cmark_grammar.specs.Rows.{is_bare, first_place}
 use Rattle.cmark_scan_lines.specs.LineStart.{cut_columns}
 use Rattle.std.specs.Prelude.{if◌then◌else◌, take_while}
@@ -8,7 +9,7 @@ use Rattle.std.proofs.Math.Seq.{take-suc, take-add, drop-cons, drop-append_seam}
 use Rattle.std.proofs.lemmas.List.{take-append-drop, drop-append-le, length-take-le, drop-drop}
 use Rattle.std.proofs.Math.ListN.{drop_of_length-le}
 use Rattle.std.proofs.lemmas.List.Sums.{take_while-cons}
-use Rattle.cmark_grammar.specs.Columns.{Column, tab, tab_columns, to_tab_stop, expand, is_blank, is_blank_byte, indent, without_indent, bytes_of}
+use Rattle.cmark_grammar.specs.Columns.{Column, tab_columns, to_tab_stop, expand, is_blank, is_blank_byte, indent, without_indent, bytes_of}
 use Rattle.cmark_scan_lines.proofs.ColumnSteps.{bytes_of-expand}
 use Rattle.cmark_grammar.specs.Leaves.{is_parted}
 use Rattle.cmark_scan_lines.specs.Places.{width_at, column_after}

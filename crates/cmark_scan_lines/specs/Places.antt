@@ -1,6 +1,7 @@
 -- The places of a line's bytes in its columns.
 use Rattle.std.specs.Prelude.{ℕ, ◌+◌, ◌==◌, if◌then◌else◌, List, [], ◌∷◌}
-use Rattle.cmark_grammar.specs.Columns.{tab, to_tab_stop}
+use Rattle.cmark_grammar.specs.Characters.{tab}
+use Rattle.cmark_grammar.specs.Columns.{to_tab_stop}
 
 -- the number of columns of a byte that begins in this column
 abbrev pub width_at : (column b : ℕ) → ℕ

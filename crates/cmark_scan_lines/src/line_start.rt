@@ -1,6 +1,7 @@
 //! The beginning of a line, from which the prefixes of containers are taken (CommonMark 2.2 and 5).
 
 ghost use Rattle.std.specs.Prelude.{◌≡◌, ◌+◌, ◌-◌, ◌%◌, ◌<◌, ◌≤◌, false, length, take, slice_index};
+ghost use Rattle.cmark_grammar.specs.Characters.{tab};
 ghost use Rattle.cmark_grammar.specs.Columns.{is_blank_byte};
 ghost use Rattle.cmark_grammar.specs.Lines.{content};
 ghost use Rattle.cmark_scan_lines.specs.Places.{column_after};
@@ -37,7 +38,7 @@ pub struct LineStart<'a> {
 
 impl<'a> LineStart<'a> {
     ghost use Rattle.std.specs.Prelude.{ℕ, ◌≢◌, ◌==◌, ◌&&◌, ◌||◌, IsTrue, nat_le, min, true, false, drop, slice_index, MatchOption};
-    ghost use Rattle.cmark_grammar.specs.Columns.{indent, tab, bytes_of};
+    ghost use Rattle.cmark_grammar.specs.Columns.{indent, bytes_of};
     ghost use Rattle.cmark_grammar.specs.Containers.{begins_with};
     ghost use Rattle.cmark_grammar.specs.Footnotes.{columns_over};
     ghost use Rattle.cmark_grammar.specs.Rows.{without, hold, indent_of, words_of, is_bare, begin_of};

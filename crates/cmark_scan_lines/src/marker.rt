@@ -3,7 +3,7 @@
 ghost use Rattle.std.specs.Prelude.{◌≡◌, ◌≢◌, ℕ, ◌<◌, ◌≤◌, length, drop, IsTrue, IfSome, option_map, true, slice_index};
 ghost use Rattle.std.specs.List.{prefix_len};
 ghost use Rattle.cmark_grammar.specs.Containers.{is_digit, is_delimiter, digits, number_of, delimited, marker_of};
-ghost use Rattle.cmark_grammar.specs.Columns.{tab};
+ghost use Rattle.cmark_grammar.specs.Characters.{tab};
 ghost use Rattle.cmark_grammar.specs.Leaves.{are_blank};
 ghost use Rattle.cmark_grammar.specs.Alerts.{is_tag, alert_of};
 ghost use Rattle.cmark_grammar.specs.TaskMarkers.{is_parted_text, task_of};

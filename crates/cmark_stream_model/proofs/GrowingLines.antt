@@ -1,7 +1,8 @@
 -- The lines of a text that grows, and its blocks.
 use Rattle.std.proofs.Common.{◌≡◌, ℕ, suc, ◌+◌, Bool, true, false, ◌==◌, ◌&&◌, ◌||◌, not, List, [], ◌∷◌, ◌++◌, length, refl, sym, ap, ◌∙◌, arith}
 use Rattle.std.specs.Prelude.{if◌then◌else◌}
-use Rattle.cmark_grammar.specs.Lines.{line_feed, carriage_return, begins_with_line_feed, ends_line, onto, lines}
+use Rattle.cmark_grammar.specs.Characters.{carriage_return, line_feed}
+use Rattle.cmark_grammar.specs.Lines.{begins_with_line_feed, ends_line, onto, lines}
 use Rattle.cmark_grammar.specs.Options.{Options}
 use Rattle.cmark_grammar.specs.Rows.{Row, row_at, rows_from, rows, shown}
 use Rattle.cmark_grammar.specs.Blocks.{Blocks, Nil, join}

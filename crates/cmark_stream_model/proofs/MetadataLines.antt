@@ -1,7 +1,8 @@
 -- Metadata begins only on whole lines: a line inside a container has lost a column, is held, or lacks a prefix.
 use Rattle.std.proofs.Common.{◌≡◌, ◌⊎◌, inl, inr, ⊎_elim, ℕ, zero, suc, ◌+◌, ◌-◌, ◌<◌, Bool, true, false, ◌==◌, ◌&&◌, ◌||◌, not, List, [], ◌∷◌, ◌++◌, length, drop, refl, ap, ◌∙◌, subst, Option, Some, None, arith, ne_eqb}
 use Rattle.std.specs.Prelude.{if◌then◌else◌, nat_le}
-use Rattle.cmark_grammar.specs.Columns.{Column, tab, expand, tab_columns, to_tab_stop, bytes_of}
+use Rattle.cmark_grammar.specs.Characters.{tab}
+use Rattle.cmark_grammar.specs.Columns.{Column, expand, tab_columns, to_tab_stop, bytes_of}
 use Rattle.cmark_grammar.specs.Lines.{content}
 use Rattle.cmark_grammar.specs.MetadataBlockKind.{MetadataBlockKind}
 use Rattle.cmark_grammar.specs.Metadata.{metadata_of, metadata_if, metadata_kind}
