@@ -54,8 +54,7 @@ abbrev pub node_events : Reads → BlockNode → List Ranged → List Ranged
 node_events (Around tag) node inside = over node (Start tag) ∷ (inside ++ (over node (End (end_of tag)) ∷ []))
 node_events Inside node inside = inside
 node_events (Alone event) node inside = over node event ∷ []
-node_events (First event) node inside = []
-node_events Silent node inside = []
+node_events _ node inside = []
 
 abbrev pub first_event : Reads → Option Event
 first_event (First event) = Some event
@@ -78,10 +77,8 @@ is_title _ = false
 -- the next node that has events is a title
 abbrev pub title_as : (is_title : Bool) → Reads → (other : Bool) → Bool
 title_as is_title (Around tag) other = is_title
-title_as is_title Inside other = false
-title_as is_title (Alone event) other = false
-title_as is_title (First event) other = false
 title_as is_title Silent other = other
+title_as is_title _ other = false
 
 abbrev pub begins_title : BlockDocument → Bool
 begins_title Nil = false
@@ -96,10 +93,8 @@ starts_of kind titled = if is_leaf kind then 1 else 0
 -- the number of starts before the text of the next node that has events
 abbrev pub starts_as : (starts : ℕ) → Reads → (other : ℕ) → ℕ
 starts_as starts (Around tag) other = starts
-starts_as starts Inside other = 0
-starts_as starts (Alone event) other = 0
-starts_as starts (First event) other = 0
 starts_as starts Silent other = other
+starts_as starts _ other = 0
 
 abbrev pub starts_before : BlockDocument → ℕ
 starts_before Nil = 0

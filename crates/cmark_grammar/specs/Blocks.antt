@@ -29,14 +29,8 @@ join (ContainerBlock container first more inside after) other = ContainerBlock c
 
 -- the place of the line directly after this leaf: after a link reference definition a lazy line may begin a paragraph
 abbrev pub after_leaf : Leaf → Place
-after_leaf ThematicBreak = Apart
-after_leaf (AtxHeading level) = Apart
-after_leaf IndentedCode = Apart
-after_leaf (FencedCode fence) = Apart
-after_leaf (HtmlBlock kind) = Apart
 after_leaf (LinkDefinition definition) = AfterLazy
-after_leaf (MetadataBlock kind) = Apart
-after_leaf (Table alignments) = Apart
+after_leaf _ = Apart
 
 -- the place of the first line inside this container, or of the line after an alert's tag
 abbrev pub place_in : Container → Place
@@ -44,15 +38,12 @@ place_in (BlockQuote None) = Apart
 place_in (BlockQuote (Some kind)) = AfterLazy
 place_in (Item delimiter number width None) = Apart
 place_in (Item delimiter number width (Some is_checked)) = AfterTask
-place_in (Footnote label old size) = Apart
-place_in (ListDefinition width) = Apart
+place_in _ = Apart
 
 -- the place of the line after this container: after a definition of a definition list another one may begin
 abbrev pub after_container : Container → Place
-after_container (BlockQuote alert) = Apart
-after_container (Item delimiter number width task) = Apart
-after_container (Footnote label old size) = Apart
 after_container (ListDefinition width) = AfterTitle
+after_container _ = Apart
 
 -- whether a lazy line may follow these blocks. Their last line is in a paragraph, or is an alert's tag, or is in a leaf after which a lazy
 -- line may begin a paragraph. So: the value if there is no block

@@ -130,9 +130,7 @@ container_of options r = footnote_or (footnote_of (footnotes_in options) r) (con
 abbrev pub is_alert : Container → Bool
 is_alert (BlockQuote None) = false
 is_alert (BlockQuote (Some kind)) = true
-is_alert (Item delimiter number width task) = false
-is_alert (Footnote label old size) = false
-is_alert (ListDefinition width) = false
+is_alert _ = false
 
 -- the indent, the marker of a footnote definition, and all blanks after it
 abbrev pub footnote_width : (size : ℕ) → Row → ℕ
@@ -172,10 +170,9 @@ keep_as (ListDefinition width) r = if is_blank_line r || nat_le width (indent_of
 
 -- an item or a definition whose first line is blank after the marker
 abbrev pub is_bare_start : Container → Row → Bool
-is_bare_start (BlockQuote alert) first = false
 is_bare_start (Item delimiter number width task) first = is_blank_line (enter (Item delimiter number width task) first)
-is_bare_start (Footnote label old size) first = false
 is_bare_start (ListDefinition width) first = is_blank_line (enter (ListDefinition width) first)
+is_bare_start _ first = false
 
 -- a later line after the container's prefix, if it has the prefix. Bare: the line before was the blank first line of an item or of a
 -- definition; then a blank line ends the container (CommonMark 5.2)

@@ -29,7 +29,5 @@ abbrev pub definition_at : Options → Place → Row → Option ℕ
 definition_at options place r = if is_after_title place then definition_marker options r else None
 
 abbrev pub is_definition : Container → Bool
-is_definition (BlockQuote alert) = false
-is_definition (Item delimiter number width task) = false
-is_definition (Footnote label old size) = false
 is_definition (ListDefinition width) = true
+is_definition _ = false

@@ -18,14 +18,12 @@ footnotes_in options = if options.footnotes then (if options.old_footnotes then 
 
 abbrev pub are_read : Footnotes → Bool
 are_read Off = false
-are_read Gfm = true
-are_read Old = true
+are_read _ = true
 
 -- a footnote definition in GitHub's style interrupts a paragraph; one in the old style does not
 abbrev pub do_interrupt : Footnotes → Bool
-do_interrupt Off = false
 do_interrupt Gfm = true
-do_interrupt Old = false
+do_interrupt _ = false
 
 -- a colon follows the label
 abbrev pub colon_after : (label : List ℕ) → List ℕ → Option Parsed

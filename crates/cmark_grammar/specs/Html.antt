@@ -185,7 +185,6 @@ start_piece w tag.Paragraph = fresh_line w.line_start ++ codes "<p>"
 start_piece w (tag.Heading level attributes) = fresh_line w.line_start ++ (codes "<h" ++ (digit level ∷ (heading_attributes attributes ++ codes ">")))
 start_piece w (tag.BlockQuote kind) = fresh_line w.line_start ++ block_quote_start kind
 start_piece w (tag.CodeBlock kind) = fresh_line w.line_start ++ code_block_start kind
-start_piece w tag.HtmlBlock = []
 start_piece w (tag.Listing first) = fresh_line w.line_start ++ list_start first
 start_piece w tag.ListItem = fresh_line w.line_start ++ codes "<li>"
 start_piece w (tag.FootnoteDefinition label) = fresh_line w.line_start ++ footnote_start label (decimal (footnote_number w.names label))
@@ -204,7 +203,7 @@ start_piece w tag.Subscript = codes "<sub>"
 start_piece w tag.Highlight = codes "<mark>"
 start_piece w (tag.Link linked) = link_start linked
 start_piece w (tag.Image linked) = image_start linked.destination
-start_piece w (tag.MetadataBlock kind) = []
+start_piece w _ = []
 
 abbrev pub heading_end : ℕ → List ℕ
 heading_end level = codes "</h" ++ (digit level ∷ codes ">\n")
@@ -214,7 +213,6 @@ end_piece in_head end.Paragraph = codes "</p>\n"
 end_piece in_head (end.Heading level) = heading_end level
 end_piece in_head (end.BlockQuote kind) = codes "</blockquote>\n"
 end_piece in_head end.CodeBlock = codes "</code></pre>\n"
-end_piece in_head end.HtmlBlock = []
 end_piece in_head (end.Listing is_ordered) = list_end is_ordered
 end_piece in_head end.ListItem = codes "</li>\n"
 end_piece in_head end.FootnoteDefinition = codes "</div>\n"
@@ -232,8 +230,7 @@ end_piece in_head end.Superscript = codes "</sup>"
 end_piece in_head end.Subscript = codes "</sub>"
 end_piece in_head end.Highlight = codes "</mark>"
 end_piece in_head end.Link = codes "</a>"
-end_piece in_head end.Image = []
-end_piece in_head (end.MetadataBlock kind) = []
+end_piece in_head _ = []
 
 abbrev pub task_list_marker : Bool → List ℕ
 task_list_marker true = codes "<input disabled=\"\" type=\"checkbox\" checked=\"\"/>\n"
@@ -265,19 +262,17 @@ alt_task_list_marker false = codes "[ ]"
 
 -- the alternative text that an event adds to an image around it: the text without the elements (CommonMark 6.4)
 abbrev pub alt_text : List (List ℕ) → Event → List ℕ
-alt_text names (Start tag) = []
-alt_text names (End tag) = []
 alt_text names (Text text) = escaped_html text
 alt_text names (Code text) = escaped_html text
 alt_text names (InlineMath text) = codes "$" ++ (escaped_html text ++ codes "$")
 alt_text names (DisplayMath text) = codes "$$" ++ (escaped_html text ++ codes "$$")
-alt_text names (Html text) = []
 alt_text names (InlineHtml text) = escaped_html text
 alt_text names (FootnoteReference label) = alt_footnote_reference (decimal (footnote_number names label))
 alt_text names SoftBreak = codes " "
 alt_text names HardBreak = codes " "
 alt_text names Rule = codes " "
 alt_text names (TaskListMarker is_checked) = alt_task_list_marker is_checked
+alt_text names _ = []
 
 -- the HTML of an event inside an image: the end that matches the image's start closes it, of whatever element that end is
 abbrev pub piece_inside : List (List ℕ) → OpenImage → Event → List ℕ
@@ -294,46 +289,15 @@ piece w e = piece_in w.image w e
 
 -- whether the writer is at a line start after the start of an element
 abbrev pub line_start_after_start : Bool → Tag → Bool
-line_start_after_start at_start tag.Paragraph = false
-line_start_after_start at_start (tag.Heading level attributes) = false
 line_start_after_start at_start (tag.BlockQuote kind) = true
-line_start_after_start at_start (tag.CodeBlock kind) = false
 line_start_after_start at_start tag.HtmlBlock = at_start
 line_start_after_start at_start (tag.Listing first) = true
-line_start_after_start at_start tag.ListItem = false
-line_start_after_start at_start (tag.FootnoteDefinition label) = false
 line_start_after_start at_start tag.DefinitionList = true
-line_start_after_start at_start tag.DefinitionListTitle = false
-line_start_after_start at_start tag.DefinitionListDefinition = false
-line_start_after_start at_start (tag.Table alignments) = false
-line_start_after_start at_start tag.TableHead = false
-line_start_after_start at_start tag.TableRow = false
-line_start_after_start at_start tag.TableCell = false
-line_start_after_start at_start tag.Emphasis = false
-line_start_after_start at_start tag.Strong = false
-line_start_after_start at_start tag.Strikethrough = false
-line_start_after_start at_start tag.Superscript = false
-line_start_after_start at_start tag.Subscript = false
-line_start_after_start at_start tag.Highlight = false
-line_start_after_start at_start (tag.Link linked) = false
-line_start_after_start at_start (tag.Image linked) = false
 line_start_after_start at_start (tag.MetadataBlock kind) = at_start
+line_start_after_start at_start _ = false
 
 abbrev pub line_start_after_end : Bool → TagEnd → Bool
-line_start_after_end at_start end.Paragraph = true
-line_start_after_end at_start (end.Heading level) = true
-line_start_after_end at_start (end.BlockQuote kind) = true
-line_start_after_end at_start end.CodeBlock = true
 line_start_after_end at_start end.HtmlBlock = at_start
-line_start_after_end at_start (end.Listing is_ordered) = true
-line_start_after_end at_start end.ListItem = true
-line_start_after_end at_start end.FootnoteDefinition = true
-line_start_after_end at_start end.DefinitionList = true
-line_start_after_end at_start end.DefinitionListTitle = true
-line_start_after_end at_start end.DefinitionListDefinition = true
-line_start_after_end at_start end.Table = true
-line_start_after_end at_start end.TableHead = true
-line_start_after_end at_start end.TableRow = true
 line_start_after_end at_start end.TableCell = false
 line_start_after_end at_start end.Emphasis = false
 line_start_after_end at_start end.Strong = false
@@ -344,6 +308,7 @@ line_start_after_end at_start end.Highlight = false
 line_start_after_end at_start end.Link = false
 line_start_after_end at_start end.Image = at_start
 line_start_after_end at_start (end.MetadataBlock kind) = at_start
+line_start_after_end at_start _ = true
 
 -- an empty HTML event leaves the line start as it is; after an empty text the writer is at no line start
 abbrev pub line_start_after_html : Bool → List ℕ → Bool
@@ -354,16 +319,13 @@ abbrev pub line_start_after : Writing → Event → Bool
 line_start_after w (Start tag) = line_start_after_start w.line_start tag
 line_start_after w (End tag) = line_start_after_end w.line_start tag
 line_start_after w (Text text) = if w.in_metadata then w.line_start else ends_in_line_feed text
-line_start_after w (Code text) = false
-line_start_after w (InlineMath text) = false
-line_start_after w (DisplayMath text) = false
 line_start_after w (Html text) = line_start_after_html w.line_start text
 line_start_after w (InlineHtml text) = line_start_after_html w.line_start text
-line_start_after w (FootnoteReference label) = false
 line_start_after w SoftBreak = true
 line_start_after w HardBreak = true
 line_start_after w Rule = true
 line_start_after w (TaskListMarker is_checked) = true
+line_start_after w _ = false
 
 -- the image that an event opens
 abbrev pub opened_by : Tag → Option OpenImage

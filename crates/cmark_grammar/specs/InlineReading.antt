@@ -22,11 +22,7 @@ module _ (source : List ℕ) where
   event_of x (FootnoteReference label) = event.FootnoteReference label
   event_of x SoftBreak = event.SoftBreak
   event_of x HardBreak = event.HardBreak
-  event_of x Plain = event.Text (as_written x)
-  event_of x Own = event.Text (as_written x)
-  event_of x (Quoted quote) = event.Text (as_written x)
-  event_of x (Delimiters run) = event.Text (as_written x)
-  event_of x (Autolink uri) = event.Text (as_written x)
+  event_of x _ = event.Text (as_written x)
 
   abbrev pub over : (start end : ℕ) → Event → Ranged
   over start end e = record { event = e; start = start; end = end }

@@ -197,9 +197,7 @@ module _ (reader : Reader) (leaf : Leaf) where
   -- adjacent literal bytes are one text
   abbrev pub goes_on : Token → (end : ℕ) → (more : ℕ → ℕ) → ℕ
   goes_on (Stands item resume) end more = if is_plain item.kind && (item.start == end) then more resume else end
-  goes_on (Opens opener) end more = end
-  goes_on (Closes closer) end more = end
-  goes_on Ends end more = end
+  goes_on _ end more = end
 
   abbrev pub plain_end : (bytes : ℕ) → (end : ℕ) → ℕ
   plain_end zero end = end

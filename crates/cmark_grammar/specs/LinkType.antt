@@ -19,8 +19,6 @@ pub data LinkType : Type 0 where
 -- the three reference forms become unknown ones; the others stay
 abbrev pub to_unknown : LinkType → LinkType
 to_unknown Inline = Inline
-to_unknown Reference = ReferenceUnknown
-to_unknown ReferenceUnknown = ReferenceUnknown
 to_unknown Collapsed = CollapsedUnknown
 to_unknown CollapsedUnknown = CollapsedUnknown
 to_unknown Shortcut = ShortcutUnknown
@@ -28,3 +26,4 @@ to_unknown ShortcutUnknown = ShortcutUnknown
 to_unknown Autolink = Autolink
 to_unknown Email = Email
 to_unknown (WikiLink has_pothole) = WikiLink has_pothole
+to_unknown _ = ReferenceUnknown

@@ -11,15 +11,12 @@ definition_delimiter = colon
 
 -- whether the next block is a definition: the paragraph before it is then its title
 abbrev pub is_title : (after : Blocks) → Bool
-is_title Nil = false
 is_title (BlankLine line after) = is_title after
-is_title (Paragraph first more after) = false
-is_title (SetextHeading level first more underline after) = false
-is_title (LeafBlock leaf first more after) = false
 is_title (ContainerBlock (BlockQuote alert) first more inside after) = false
 is_title (ContainerBlock (Footnote label old size) first more inside after) = false
 is_title (ContainerBlock (Item delimiter number width task) first more inside after) = false
 is_title (ContainerBlock (ListDefinition width) first more inside after) = true
+is_title _ = false
 
 -- whether a blank line ends these blocks. Blank lines that end a nested item, definition or footnote definition count too. Front: the
 -- marker of the container comes directly before, so that the blank rest of its line does not count as a blank line. So: a blank line comes
@@ -43,21 +40,18 @@ pub data Before : Type 0 where
   ItemWith : (delimiter : ℕ) → Before
 
 abbrev pub is_list_of : ℕ → Before → Bool
-is_list_of delimiter Marker = false
-is_list_of delimiter Other = false
 is_list_of delimiter (ItemWith m) = m == delimiter
+is_list_of delimiter _ = false
 
 -- whether a blank line after it counts as one: the blank rest of the marker's line does not
 abbrev pub is_line : Before → Bool
 is_line Marker = false
-is_line Other = true
-is_line (ItemWith m) = true
+is_line _ = true
 
 -- the line before the next one, after a blank line
 abbrev pub after_blank : Before → Before
-after_blank Marker = Other
-after_blank Other = Other
 after_blank (ItemWith m) = ItemWith m
+after_blank _ = Other
 
 -- whether a blank line separates two of these blocks. The items of one list are one block, and so are titles with their definitions. Blank:
 -- a blank line comes directly before. No blank line before the first block counts: an item begins with at most one blank line, the rest of
@@ -83,17 +77,15 @@ is_parted_item inside = parted Marker false inside
 -- whether a list of this character is loose from here on, after an item, a title or a definition of it. A blank line before a title makes
 -- no list loose
 abbrev pub loose_from : (delimiter : ℕ) → (blank : Bool) → Blocks → Bool
-loose_from delimiter blank Nil = false
 loose_from delimiter blank (BlankLine line after) = loose_from delimiter true after
 loose_from delimiter blank (Paragraph first more after) = (definition_delimiter == delimiter) && (is_title after && loose_from delimiter false after)
-loose_from delimiter blank (SetextHeading level first more underline after) = false
-loose_from delimiter blank (LeafBlock leaf first more after) = false
 loose_from delimiter blank (ContainerBlock (BlockQuote alert) first more inside after) = false
 loose_from delimiter blank (ContainerBlock (Footnote label old size) first more inside after) = false
 loose_from delimiter blank (ContainerBlock (Item m number width task) first more inside after) =
     (m == delimiter) && (blank || (is_parted_item inside || loose_from delimiter (ends_blank true false inside) after))
 loose_from delimiter blank (ContainerBlock (ListDefinition width) first more inside after) =
     (definition_delimiter == delimiter) && (blank || (is_parted_item inside || loose_from delimiter (ends_blank true false inside) after))
+loose_from delimiter blank _ = false
 
 -- whether the list that begins with this item, or definition, is tight (CommonMark 5.3). Then no blank line separates two of its items, or
 -- two blocks that an item contains directly
@@ -102,15 +94,13 @@ is_tight delimiter inside after = not (is_parted_item inside || loose_from delim
 
 -- whether the next block is an item of a list with this character, or, in a definition list, a title or a definition
 abbrev pub goes_on : (delimiter : ℕ) → Blocks → Bool
-goes_on delimiter Nil = false
 goes_on delimiter (BlankLine line after) = goes_on delimiter after
 goes_on delimiter (Paragraph first more after) = (definition_delimiter == delimiter) && is_title after
-goes_on delimiter (SetextHeading level first more underline after) = false
-goes_on delimiter (LeafBlock leaf first more after) = false
 goes_on delimiter (ContainerBlock (BlockQuote alert) first more inside after) = false
 goes_on delimiter (ContainerBlock (Footnote label old size) first more inside after) = false
 goes_on delimiter (ContainerBlock (Item m number width task) first more inside after) = m == delimiter
 goes_on delimiter (ContainerBlock (ListDefinition width) first more inside after) = definition_delimiter == delimiter
+goes_on delimiter _ = false
 
 -- the list to which the item before belongs
 pub record ListBefore : Type 0 where

@@ -16,26 +16,18 @@ pub data Place : Type 0 where
 
 -- a lazy line may begin a paragraph there
 abbrev pub allows_lazy : Place → Bool
-allows_lazy Apart = false
 allows_lazy AfterLazy = true
-allows_lazy AfterTask = false
-allows_lazy AfterTitle = false
+allows_lazy _ = false
 
 abbrev pub is_after_title : Place → Bool
-is_after_title Apart = false
-is_after_title AfterLazy = false
-is_after_title AfterTask = false
 is_after_title AfterTitle = true
+is_after_title _ = false
 
 abbrev pub is_after_task : Place → Bool
-is_after_task Apart = false
-is_after_task AfterLazy = false
 is_after_task AfterTask = true
-is_after_task AfterTitle = false
+is_after_task _ = false
 
 -- the place after a blank line
 abbrev pub over_blank : Place → Place
-over_blank Apart = Apart
-over_blank AfterLazy = Apart
-over_blank AfterTask = Apart
 over_blank AfterTitle = AfterTitle
+over_blank _ = Apart

@@ -4,30 +4,8 @@ use Rattle.std.specs.Prelude.{ℕ, Bool, true, false, List, [], ◌∷◌, ◌++
 use Rattle.cmark_grammar.specs.BlockDocument.{Reference, BlockKind, Paragraph, TightParagraph, Heading, ThematicBreak, IndentedCode, FencedCode, HtmlBlock, LinkDefinition, MetadataBlock, BlockQuote, BlockList, ListItem, TaskMarker, FootnoteDefinition, DefinitionList, DefinitionListTitle, DefinitionListDefinition, Text, OwnedText, Html, BlockDocument, Nil, Node, Table, TableHead, TableRow, TableCell}
 
 abbrev pub reference_of_kind : BlockKind → List Reference
-reference_of_kind Paragraph = []
-reference_of_kind TightParagraph = []
-reference_of_kind (Heading level attributes) = []
-reference_of_kind ThematicBreak = []
-reference_of_kind IndentedCode = []
-reference_of_kind (FencedCode info) = []
-reference_of_kind HtmlBlock = []
 reference_of_kind (LinkDefinition reference) = reference ∷ []
-reference_of_kind (MetadataBlock kind) = []
-reference_of_kind (Table alignments) = []
-reference_of_kind TableHead = []
-reference_of_kind TableRow = []
-reference_of_kind TableCell = []
-reference_of_kind (BlockQuote alert) = []
-reference_of_kind (FootnoteDefinition label) = []
-reference_of_kind (DefinitionList tight) = []
-reference_of_kind DefinitionListTitle = []
-reference_of_kind DefinitionListDefinition = []
-reference_of_kind (BlockList number tight) = []
-reference_of_kind ListItem = []
-reference_of_kind (TaskMarker is_checked) = []
-reference_of_kind (Text bytes) = []
-reference_of_kind (OwnedText bytes) = []
-reference_of_kind (Html bytes) = []
+reference_of_kind _ = []
 
 -- all definitions of a document, in order
 abbrev pub references : BlockDocument → List Reference

@@ -74,8 +74,7 @@ abbrev pub node_segments : Reads → BlockNode → List Segment → List Segment
 node_segments (Around tag) node inside = Given (over node (Start tag)) ∷ (inside ++ (Given (over node (End (end_of tag))) ∷ []))
 node_segments Inside node inside = inside
 node_segments (Alone event) node inside = Given (over node event) ∷ []
-node_segments (First event) node inside = []
-node_segments Silent node inside = []
+node_segments _ node inside = []
 
 -- an event becomes the first one in the paragraph, heading or title that follows it: it is put after `starts` segments. In a tight list
 -- `starts` is zero, and the event comes before the leaf

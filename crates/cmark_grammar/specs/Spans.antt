@@ -16,12 +16,10 @@ pub data SpanKind : Type 0 where
 
 -- the number of bytes that open it, and of those that close it
 abbrev pub span_width : SpanKind → ℕ
-span_width Emphasis = 1
 span_width Strong = 2
-span_width SingleTilde = 1
 span_width DoubleTilde = 2
-span_width Caret = 1
 span_width DoubleEquals = 2
+span_width _ = 1
 
 -- the element of a span. Two tildes without strikethrough have none: with their content they are one text (this profile's own)
 abbrev pub span_tag : Options → SpanKind → Option Tag

@@ -91,15 +91,13 @@ does lookup true b bs = Stands
 does lookup false b bs = does_at lookup (b == ampersand) (b == backslash) bs
 
 abbrev pub is_escape : Does → Bool
-is_escape Stands = false
 is_escape EscapesNext = true
-is_escape (Begins entity) = false
+is_escape _ = false
 
 -- the number of further bytes that it takes
 abbrev pub size_after : Does → ℕ
-size_after Stands = 0
-size_after EscapesNext = 0
 size_after (Begins entity) = entity.size - 1
+size_after _ = 0
 
 -- the bytes that it gives, before others
 abbrev pub add_bytes : Does → ℕ → List ℕ → List ℕ
