@@ -41,7 +41,6 @@ meets-leaf walk item ix cell lines at is in-cell now holds left r = (
 )
 
 module _ (walk : Walk) (item : Item) (ix : TreeIndex) (at : IsFocusAt walk ix) (is : IsItem walk.tree ix item) where
-
   module _ (t : Tree Item) (next : (z : Zip Item) (s : Sibling z ix.ix) → Holds walk.tree z → Holds t (past z ix.ix s)) (now : walk.stage ≡ stage.Following) where
     -- past the leaf
     abbrev pub out : Walk

@@ -14,7 +14,6 @@ use Rattle.cmark_block_model.specs.CodeLines.{rest_of, texts_of}
 use Rattle.cmark_block_model.specs.OpenBlocks as model
 
 module _ (kind : MetadataBlockKind) (lines : List Row) where
-
   pub ended-none : lines ≡ [] → is_ended kind lines ≡ false
   ended-none none = ap (is_ended kind) none
 

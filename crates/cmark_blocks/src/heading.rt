@@ -2,6 +2,7 @@
 
 ghost use Rattle.std.specs.Prelude.{◌≡◌, List, ℕ, Some, OnOk, IfOk, Bool};
 ghost use Rattle.cmark_values.specs.Shown.{shown_options, level_number, text_bytes};
+ghost use Rattle.cmark_grammar.specs.Characters.{number_sign};
 ghost use Rattle.cmark_grammar.specs.Attributes.{attributes_of};
 ghost use Rattle.cmark_grammar.specs.BlockDocument.{Heading};
 ghost use Rattle.cmark_block_model.specs.Drawing.{Drawing, unbraced};
@@ -121,7 +122,7 @@ impl<'a, E: EntityLookup> Pass<'a, E> {
         ensures { result.now
             ≡ bytes_of
             (attribute_columns attributes
-            (content_columns (run 35 (words_of (row_of rest.entry))) (row_of rest.entry))) }
+            (content_columns (run number_sign (words_of (row_of rest.entry))) (row_of rest.entry))) }
     {
         if !attributes {
             return "";
@@ -140,7 +141,7 @@ impl<'a, E: EntityLookup> Pass<'a, E> {
     ) -> Result<(), AllocError>
         requires good { IsGood self.old }
         requires line { IsRead self.old.text.now rest }
-        requires level { level_number level ≡ run 35 (words_of (row_of rest)) }
+        requires level { level_number level ≡ run number_sign (words_of (row_of rest)) }
         ensures good { IsGood self.new }
         ensures runs { OnOk result
             (BeginsLeaf E.replacement (AtxHeading (level_number level)) 0 rest.entry self.old

@@ -1,5 +1,6 @@
 -- How far down the stack the search for an open run goes (`openers_bottom` in the appendix of CommonMark).
 use Rattle.std.specs.Prelude.{◌≡◌, ℕ, zero, suc, ◌+◌, ◌%◌, ◌<◌, ◌≤◌, Bool, false, ◌==◌, ◌&&◌, if◌then◌else◌, Option, Some, None, List, [], ◌∷◌, length, get_or, All}
+use Rattle.cmark_grammar.specs.Characters.{asterisk, equals_sign, underscore}
 use Rattle.cmark_grammar.specs.Emphasis.{Run, agrees, can_both, is_tilde_or_caret}
 use Rattle.cmark_emphasis.specs.Shown.{IsPlaced, shown_run}
 use Rattle.cmark_emphasis.specs.Stack.{stays_open}
@@ -12,7 +13,7 @@ rank run = (if can_both run then 3 else 0) + run.run_length % 3
 
 -- the class of a run of `*` or `_`, or of two `=`: an open run agrees with all closing runs of a class, or with none
 abbrev pub class_of : Run → Option ℕ
-class_of run = if run.delimiter == 42 then Some (rank run) else if run.delimiter == 95 then Some (6 + rank run) else if (run.delimiter == 61) && (run.run_length == 2) then Some 12 else None
+class_of run = if run.delimiter == asterisk then Some (rank run) else if run.delimiter == underscore then Some (6 + rank run) else if (run.delimiter == equals_sign) && (run.run_length == 2) then Some 12 else None
 
 -- neither a tilde nor a caret
 abbrev pub stays : code_run.Run → Bool

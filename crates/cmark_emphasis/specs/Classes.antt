@@ -1,5 +1,6 @@
 -- Closing runs of one class: an open run agrees with all of them, or with none.
 use Rattle.std.specs.Prelude.{◌≡◌, ℕ, ◌%◌, ◌<◌, Bool, true, ◌==◌, ◌||◌}
+use Rattle.cmark_grammar.specs.Characters.{asterisk, underscore}
 use Rattle.cmark_grammar.specs.Emphasis.{Run, can_both}
 
 -- a run that can close, and of which bytes are left
@@ -9,7 +10,7 @@ pub record IsClosing (run : Run) : Type 0 where
 
 -- `*` or `_`
 abbrev pub is_emphasis_delimiter : ℕ → Bool
-is_emphasis_delimiter delimiter = (delimiter == 42) || (delimiter == 95)
+is_emphasis_delimiter delimiter = (delimiter == asterisk) || (delimiter == underscore)
 
 -- runs of `*` or of `_` whose lengths are equal modulo 3, and which both can open too, or both cannot
 pub record IsLike (first second : Run) : Type 0 where

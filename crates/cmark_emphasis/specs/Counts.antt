@@ -1,5 +1,6 @@
 -- The number of open runs that searches examine.
 use Rattle.std.specs.Prelude.{◌≡◌, ℕ, zero, suc, ◌+◌, Bool, true, ◌==◌, ◌&&◌, ◌||◌, nat_lt, if◌then◌else◌, List, get_or}
+use Rattle.cmark_grammar.specs.Characters.{asterisk, equals_sign, underscore}
 use Rattle.cmark_grammar.specs.Emphasis.{Run, is_tilde_or_caret}
 use Rattle.cmark_emphasis.specs.declared.bottom.OpenersBottom.{OpenersBottom}
 use Rattle.cmark_emphasis.specs.declared.run.PlacedRun as code_placed
@@ -7,7 +8,7 @@ use Rattle.cmark_emphasis.specs.declared.run.Run as code_run
 
 -- whether run_length bytes of this delimiter may be a run: two `=`, or any number of the others
 abbrev pub is_run_of : (delimiter run_length : ℕ) → Bool
-is_run_of delimiter run_length = (delimiter == 42) || ((delimiter == 95) || (is_tilde_or_caret delimiter || ((delimiter == 61) && (run_length == 2))))
+is_run_of delimiter run_length = (delimiter == asterisk) || ((delimiter == underscore) || (is_tilde_or_caret delimiter || ((delimiter == equals_sign) && (run_length == 2))))
 
 abbrev pub IsKnown : code_run.Run → Type 0
 IsKnown run = is_run_of run.delimiter run.run_length ≡ true

@@ -72,7 +72,6 @@ leaf-counted old new source one others read able counts extent text =
     omega (arith, counted, found, opened, extent, text)
 
 module _ {E F : Type 0} where
-
   -- the walk over blocks determines the events and leaves that are left
   pub one-left : (walk : SpanWalk E F) (first second : List Segment) → BlocksLeft walk first → BlocksLeft walk second → first ≡ second
   one-left walk first second a b = one-remainder walk.walk first second a.remains b.remains

@@ -1,5 +1,6 @@
 -- Texts that are read without the inline pass.
 use Rattle.std.specs.Prelude.{◌+◌, ◌-◌, ℕ, Bool, ◌==◌, ◌&&◌, not, List, get_or, length}
+use Rattle.cmark_grammar.specs.Characters.{line_feed}
 use Rattle.cmark_grammar.specs.Answers.{Lookup}
 use Rattle.cmark_grammar.specs.Columns.{is_blank_byte}
 use Rattle.cmark_grammar.specs.Options.{Options}
@@ -11,7 +12,7 @@ use Rattle.cmark_event_walk.specs.declared.plain.Lines.TheVariants as lines
 -- a line feed is at this offset, without a blank before it or after it
 abbrev pub is_lone_line_feed : (bytes : List ℕ) → (at : ℕ) → Bool
 is_lone_line_feed bytes at =
-    (get_or bytes at 0 == 10) && (not (is_blank_byte (get_or bytes (at - 1) 0)) && not (is_blank_byte (get_or bytes (at + 1) 0)))
+    (get_or bytes at 0 == line_feed) && (not (is_blank_byte (get_or bytes (at - 1) 0)) && not (is_blank_byte (get_or bytes (at + 1) 0)))
 
 -- `special` is a set of special bytes. With the options whose set it is, each byte from `from` to `to` is plain
 abbrev pub StandFor : (special bytes : List ℕ) → (from to : ℕ) → Type 0

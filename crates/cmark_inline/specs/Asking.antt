@@ -1,5 +1,6 @@
 -- Questions about references without a definition.
 use Rattle.std.specs.Prelude.{◌≡◌, ◌==◌, ◌⊎◌, ◌≤◌, ◌<◌, ℕ, zero, suc, Bool, List, Option, count_by, length, slice_index}
+use Rattle.cmark_grammar.specs.Characters.{right_bracket}
 use Rattle.cmark_values.specs.declared.text.CowStr.{CowStr}
 use Rattle.cmark_inline.specs.declared.callback.BrokenLink.{BrokenLink}
 
@@ -14,11 +15,11 @@ AsksUpTo {F} R (suc n) before after = (next : F) × AsksUpTo R n before next × 
 
 -- the number of closing brackets in a text
 abbrev pub is_closing_bracket : ℕ → Bool
-is_closing_bracket b = b == 93
+is_closing_bracket b = b == right_bracket
 
 abbrev pub closing_brackets : List ℕ → ℕ
 closing_brackets text = count_by is_closing_bracket text
 
 -- a callback was not asked, or it was asked once and a closing bracket is between the offsets `from` and `to` of the text
 abbrev pub AsksBetween : {F : Type 0} → (F → BrokenLink → Option (CowStr × CowStr) → F → Type 0) → (text : List ℕ) → (from to : ℕ) → (before after : F) → Type 0
-AsksBetween R text from to before after = (after ≡ before) ⊎ (AsksOnce R before after × ((k : ℕ) × (from ≤ k) × (k < to) × (k < length text) × (slice_index text k ≡ 93)))
+AsksBetween R text from to before after = (after ≡ before) ⊎ (AsksOnce R before after × ((k : ℕ) × (from ≤ k) × (k < to) × (k < length text) × (slice_index text k ≡ right_bracket)))

@@ -1,5 +1,6 @@
 -- How far the text of a leaf is read at a cursor, in the states of the code and of the grammar.
 use Rattle.std.specs.Prelude.{◌≡◌, ◌⊎◌, ℕ, ◌+◌, ◌-◌, ◌<◌, Bool, false, List, [], ◌∷◌, length, drop, slice_index, Option, None}
+use Rattle.cmark_grammar.specs.Characters.{backslash, backtick}
 use Rattle.cmark_grammar.specs.Answers.{Lookup}
 use Rattle.cmark_grammar.specs.BracketDecisions.{decide}
 use Rattle.cmark_grammar.specs.BracketReading.{Reads}
@@ -49,10 +50,10 @@ module _ (options : Options) (lookup : Lookup) (is_cell : Bool) (text : List ℕ
   -- a run of backticks follows the backslash at `at`, and its first backtick was read. This backtick is literal if the rest of the run
   -- opens a code span
   pub record HasEscaped (at start to : ℕ) : Type 0 where
-    pub slash : slice_index text at ≡ 92
+    pub slash : slice_index text at ≡ backslash
     pub token : begins_at options lookup is_cell text at ≡ escaped_backtick (reading options lookup text) (whole is_cell text) start (backticks (drop start text)) (code_in (drop to text))
     pub following : to ≡ start + 1
-    pub byte : slice_index text start ≡ 96
+    pub byte : slice_index text start ≡ backtick
     pub several : 1 < backticks (drop start text)
 
   -- the pending text, if the grammar's pass is at the offset `at`. Either nothing is pending, or an escaped backtick, or a text. The text
@@ -60,7 +61,7 @@ module _ (options : Options) (lookup : Lookup) (is_cell : Bool) (text : List ℕ
   abbrev pub IsPending : (at : ℕ) → Cursor → Type 0
   IsPending at cursor =
       ((at ≡ cursor.pending) × (cursor.pending ≡ cursor.at))
-      ⊎ ((HasBegun at cursor.pending cursor.at × (slice_index text cursor.pending ≡ 96 → ⊥) × (cursor.at < length text → is_blank_byte (slice_index text (cursor.at - 1)) ≡ false))
+      ⊎ ((HasBegun at cursor.pending cursor.at × (slice_index text cursor.pending ≡ backtick → ⊥) × (cursor.at < length text → is_blank_byte (slice_index text (cursor.at - 1)) ≡ false))
       ⊎ HasEscaped at cursor.pending cursor.at)
 
 -- ## The parts that were read

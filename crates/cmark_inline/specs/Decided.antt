@@ -1,5 +1,6 @@
 -- The outcome of a decision about a closing bracket, if a callback answers its question.
 use Rattle.std.specs.Prelude.{◌≡◌, ◌⊎◌, ◌≤◌, ◌<◌, ℕ, suc, ◌+◌, ◌-◌, Bool, true, false, List, length, get_or, Option, Some, None, is_some, option_map}
+use Rattle.cmark_grammar.specs.Characters.{right_bracket}
 use Rattle.cmark_grammar.specs.Answers as answers
 use Rattle.cmark_grammar.specs.Answers.{Lookup}
 use Rattle.cmark_grammar.specs.BlockDocument as block
@@ -52,7 +53,7 @@ pub record ReadsSame (options : Options) (lookup : Lookup) (references : RefDefs
 -- `closer` is the grammar's closing bracket at the offset `close` of the text
 pub record IsCloser (text : List ℕ) (place : ℕ → ℕ) (close : ℕ) (closer : items.Bracket) : Type 0 where
   pub within : close < length text
-  pub byte : get_or text close 0 ≡ 93
+  pub byte : get_or text close 0 ≡ right_bracket
   pub start : closer.start ≡ place close
   pub end : closer.end ≡ suc (place close)
 

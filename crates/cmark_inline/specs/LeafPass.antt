@@ -2,6 +2,7 @@
 use Rattle.std.specs.Prelude.{◌≡◌, ◌==◌, ◌≤◌, ◌<◌, ℕ, ◌+◌, true, false, List, [], drop, length, slice_index, Option, Result, Err, IsOk, OnErr, OnOk, alloc_error}
 use Rattle.std.specs.List.{position_or_len}
 use Rattle.std.specs.declared.alloc.AllocError.{AllocError}
+use Rattle.cmark_grammar.specs.Characters.{right_bracket}
 use Rattle.cmark_grammar.specs.Answers.{Lookup}
 use Rattle.cmark_grammar.specs.Options.{Options}
 use Rattle.cmark_inline_model.specs.SpecialBytes.{is_special}
@@ -66,7 +67,7 @@ next_in rows text from = from + position_or_len (in_rows rows) (drop from text)
 -- without a further special byte, the rest of the text is pending. Otherwise the token at the next one is read, if it is no closing bracket
 pub record FindsToken (options : Options) (lookup : Lookup) (rows : List ℕ) (leaf : LeafText) (text : List ℕ) (here : Cursor) (old new : InlineState) (next : Cursor) : Type 0 where
   pub rest : next_in rows text here.at ≡ length text → (next.pending ≡ here.pending) × (next.at ≡ length text) × (new ≡ old)
-  pub token : (at : ℕ) → at ≡ next_in rows text here.at → at < length text → is_special options (slice_index text at) ≡ true → (slice_index text at == 93) ≡ false
+  pub token : (at : ℕ) → at ≡ next_in rows text here.at → at < length text → is_special options (slice_index text at) ≡ true → (slice_index text at == right_bracket) ≡ false
       → ReadsSpecial options lookup leaf (record { pending = here.pending; at = at }) old new next
 
 -- ## The whole pass

@@ -3,6 +3,7 @@
 use Rattle.std.specs.Prelude.{◌≡◌, ℕ, ◌+◌, ◌-◌, ◌<◌, ◌≤◌, Bool, true, ◌||◌, if◌then◌else◌, List, [], ◌++◌, length, drop, slice_index, codes, Option, None, IfSome, is_some}
 use Rattle.cmark_emphasis.specs.Least.{least_examined}
 use Rattle.cmark_span_scan.specs.Dollars.{formula_at}
+use Rattle.cmark_grammar.specs.Characters.{backtick, dollar_sign}
 use Rattle.cmark_grammar.specs.Answers.{Lookup}
 use Rattle.cmark_grammar.specs.Autolinks.{autolink_in}
 use Rattle.cmark_grammar.specs.BracketDecisions.{decide}
@@ -122,8 +123,8 @@ pub record AreCounted (reader : Reader) (parts : Parts) (tally : Tally) (examine
 pub record VisitsAt (text : List ℕ) (at : ℕ) (before after : Sought) : Type 0 where
   pub runs : before.runs.visited ≤ after.runs.visited
   pub signs : before.dollars.visited ≤ after.dollars.visited
-  pub code : slice_index text at ≡ 96 → is_some (code_in (drop at text)) ≡ true → before.runs.visited < after.runs.visited
-  pub formula : slice_index text at ≡ 36 → is_some (formula_at text at) ≡ true → before.dollars.visited < after.dollars.visited
+  pub code : slice_index text at ≡ backtick → is_some (code_in (drop at text)) ≡ true → before.runs.visited < after.runs.visited
+  pub formula : slice_index text at ≡ dollar_sign → is_some (formula_at text at) ≡ true → before.dollars.visited < after.dollars.visited
 
 -- if these bytes begin with markup that is closed, a search has passed all of its bytes except the first two
 abbrev pub PassesFound : (bytes : List ℕ) → (before after : Unclosed) → Type 0

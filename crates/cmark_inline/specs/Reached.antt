@@ -1,5 +1,6 @@
 -- How far a leaf is read, in the states of the code and of the grammar.
 use Rattle.std.specs.Prelude.{◌≡◌, ℕ, suc, ◌-◌, false, ◌==◌, List, get_or, map, ◌<◌, length}
+use Rattle.cmark_grammar.specs.Characters.{pipe}
 use Rattle.cmark_grammar.specs.Emphasis.{Run}
 use Rattle.cmark_grammar.specs.LeafReading.{Between}
 use Rattle.cmark_grammar.specs.LeafText.{InTurn, Leaf, begin_of}
@@ -30,7 +31,7 @@ pub record ReadsPlaces (leaf : LeafText) (reader : Reader) (read : Leaf) (place 
   pub last : 0 < length (text_of leaf) → place (length (text_of leaf)) ≡ suc (place (length (text_of leaf) - 1))
   pub turn : InTurn 0 read.stretches (length reader.source)
   pub lines : HaveLineEnds reader.source read.stretches
-  pub pipes : (k x : ℕ) → suc k < length (text_of leaf) → place k < x → x < place (suc k) → (get_or reader.source x 0 == 124) ≡ false
+  pub pipes : (k x : ℕ) → suc k < length (text_of leaf) → place k < x → x < place (suc k) → (get_or reader.source x 0 == pipe) ≡ false
 
 -- an opening bracket with the index of its slot, and with the numbers of runs and quotes before it
 abbrev pub bracket_place : (place : ℕ → ℕ) → Bracket → BracketPlace

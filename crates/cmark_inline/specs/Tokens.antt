@@ -1,6 +1,7 @@
 -- The tokens of a leaf's text, and the slots that represent them. The text is read as a leaf of one stretch, so its places are offsets of
 -- the text. It may be the text of a table's cell, in which a backslash before a pipe has another meaning.
 use Rattle.std.specs.Prelude.{◌≡◌, ◌⊎◌, ℕ, ◌+◌, ◌-◌, ◌≤◌, ◌<◌, Bool, true, false, ◌==◌, ◌||◌, List, [], ◌∷◌, ◌++◌, length, drop, encode_utf8, slice_index, slice_get, Some, None, is_some}
+use Rattle.cmark_grammar.specs.Characters.{backslash, backtick, exclamation_mark, left_brace, less_than_sign, pipe, question_mark, right_brace}
 use Rattle.cmark_grammar.specs.Answers.{Lookup}
 use Rattle.cmark_grammar.specs.CodeSpans.{is_backtick, backticks, code_in, code_text}
 use Rattle.cmark_grammar.specs.Columns.{is_blank_byte}
@@ -59,7 +60,7 @@ shown_autolink text at end = record { bytes = slice text (at + 1) (end - 1); fol
 -- whether the bytes after a `<` may open a comment, a declaration, a CDATA section or a processing instruction. These are read in the
 -- source
 abbrev pub opens_markup : (rest : List ℕ) → Bool
-opens_markup rest = first_is (λ b. (b == 33) || (b == 63)) rest
+opens_markup rest = first_is (λ b. (b == exclamation_mark) || (b == question_mark)) rest
 
 -- a slot from `start` to `end` represents an item of this kind, if `texts` are the owned texts
 abbrev pub Says : (is_cell : Bool) → (text : List ℕ) → (texts : List CowStr) → (start end : ℕ) → ItemKind → SlotKind → Type 0
@@ -104,7 +105,7 @@ pub record Passes (options : Options) (lookup : Lookup) (is_cell : Bool) (text :
 
 -- pipes, and the braces that delimit the contexts of formulas. They are literal
 abbrev pub is_other : ℕ → Bool
-is_other b = (b == 124) || ((b == 123) || (b == 125))
+is_other b = (b == pipe) || ((b == left_brace) || (b == right_brace))
 
 -- nothing was appended: each byte from the cursor to the next one is a literal item
 pub record PassesOver (options : Options) (lookup : Lookup) (is_cell : Bool) (text : List ℕ) (here : Cursor) (old new : InlineState) (next : Cursor) : Type 0 where
@@ -119,8 +120,8 @@ pub record PassesOver (options : Options) (lookup : Lookup) (is_cell : Bool) (te
 -- the byte at the cursor ends a line
 abbrev pub BeginsThere : (text : List ℕ) → (here : Cursor) → (from : ℕ) → Type 0
 BeginsThere text here from =
-    ((from ≡ here.at) × (is_content (slice_index text here.at) ≡ true) × (slice_index text here.at ≡ 60 → opens_markup (drop (here.at + 1) text) ≡ false)
-    × (slice_index text here.at ≡ 96 → here.pending + 1 ≡ here.at → slice_index text here.pending ≡ 96 → is_some (code_in (drop here.at text)) ≡ true))
+    ((from ≡ here.at) × (is_content (slice_index text here.at) ≡ true) × (slice_index text here.at ≡ less_than_sign → opens_markup (drop (here.at + 1) text) ≡ false)
+    × (slice_index text here.at ≡ backtick → here.pending + 1 ≡ here.at → slice_index text here.pending ≡ backtick → is_some (code_in (drop here.at text)) ≡ true))
     ⊎ ((is_content (slice_index text here.at) ≡ false) × (here.pending < from → is_blank_byte (slice_index text (from - 1)) ≡ false))
 
 -- the pending text was appended, and then a slot for the item that begins at the cursor, or at the blanks before it. The item is no literal
@@ -155,7 +156,7 @@ pub record AppendsAutolink (options : Options) (lookup : Lookup) (is_cell : Bool
 -- the pending text was appended, and a text begins with the byte after the backslash at the cursor. If this byte is the first of several
 -- backticks, the token depends on the others. The first one is literal if they open a code span
 pub record Escapes (options : Options) (lookup : Lookup) (is_cell : Bool) (text : List ℕ) (here : Cursor) (old new : InlineState) (next : Cursor) : Type 0 where
-  pub byte : slice_index text here.at ≡ 92
+  pub byte : slice_index text here.at ≡ backslash
   pub escaped : first_is is_punctuation (drop (here.at + 1) text) ≡ true
   pub pending : next.pending ≡ here.at + 1
   pub at : next.at ≡ here.at + 2
@@ -179,7 +180,7 @@ pub record EscapesPipe (options : Options) (lookup : Lookup) (is_cell : Bool) (t
 
 -- the run of backticks at the cursor is a text together with the escaped backtick before it
 pub record TakesEscaped (options : Options) (lookup : Lookup) (is_cell : Bool) (text : List ℕ) (here : Cursor) (old new : InlineState) (next : Cursor) : Type 0 where
-  pub escaped : (here.pending + 1 ≡ here.at) × (slice_index text here.pending ≡ 96)
+  pub escaped : (here.pending + 1 ≡ here.at) × (slice_index text here.pending ≡ backtick)
   pub token : begins_at options lookup is_cell text here.at ≡ item_at Own here.at next.at
   pub pending : next.pending ≡ next.at
   pub slots : new.slots.items ≡ old.slots.items ++ (record { kind = kind.Text; start = here.pending; end = next.at } ∷ [])

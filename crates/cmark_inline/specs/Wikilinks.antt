@@ -1,5 +1,6 @@
 -- The parts of a wikilink, and the slots that it shows (this profile's own).
 use Rattle.std.specs.Prelude.{◌≡◌, ◌==◌, ℕ, ◌+◌, ◌-◌, ◌<◌, nat_lt, Bool, true, false, ◌&&◌, if◌then◌else◌, List, [], ◌∷◌, ◌++◌, length, drop, Option, None, Some}
+use Rattle.cmark_grammar.specs.Characters.{right_bracket}
 use Rattle.cmark_grammar.specs.BracketDecisions.{name_in, after_pipe}
 use Rattle.cmark_grammar.specs.Letters.{first_is}
 use Rattle.cmark_grammar.specs.LinkType as link
@@ -57,7 +58,7 @@ is_wikilink leaf close (Some nearest) = nearest.1 && (nat_lt nearest.0.inside cl
 
 abbrev pub forms_wikilink : Options → LeafText → (close : ℕ) → (doubled : Brackets) → Bool
 forms_wikilink options leaf close doubled =
-    options.wikilinks && (first_is (λ b. b == 93) (drop (close + 1) (text_of leaf)) && is_wikilink leaf close (nearest doubled))
+    options.wikilinks && (first_is (λ b. b == right_bracket) (drop (close + 1) (text_of leaf)) && is_wikilink leaf close (nearest doubled))
 
 -- the slot for the name if there is no pipe, or for an empty text if nothing follows the pipe
 abbrev pub shown_name : Bracket → (close source_end : ℕ) → Option ℕ → List Slot

@@ -5,6 +5,7 @@ ghost use Rattle.cmark_slots.specs.Doubled.{doubles};
 ghost use Rattle.cmark_values.specs.Shown.{shown_options};
 ghost use Rattle.cmark_inline.specs.ReadsOn.{ReadsOn};
 ghost use Rattle.cmark_inline.specs.Stands.{IsAtByte, IsCursor, Stands};
+ghost use Rattle.cmark_grammar.specs.Characters.{exclamation_mark};
 ghost use Rattle.cmark_grammar.specs.Answers.{Lookup};
 ghost use Rattle.cmark_inline.specs.SpecialReads.{OpensBracket};
 ghost use Rattle.cmark_inline.specs.Tokens.{Passes, PutsBracket};
@@ -31,7 +32,7 @@ impl<'a> InlineState<'a> {
     ) -> Result<Cursor, AllocError>
         requires byte { IsAtByte text.now here self.old }
         ensures reads_on { ReadsOn text.now here self.old self.new result }
-        ensures token { (lookup : Lookup) (is_cell : Bool) → slice_index text.now here.at ≡ 33
+        ensures token { (lookup : Lookup) (is_cell : Bool) → slice_index text.now here.at ≡ exclamation_mark
             → IfOk result
             (λ next. Passes (shown_options options) lookup is_cell text.now here self.old self.new
             next

@@ -1,6 +1,7 @@
 //! Formulas between dollar signs (this profile's own).
 
 ghost use Rattle.std.specs.Prelude.{◌≡◌, ◌<◌, ◌≤◌, true, false, if◌then◌else◌, Bool, slice_index, is_some, IfOk, OnOk};
+ghost use Rattle.cmark_grammar.specs.Characters.{dollar_sign};
 ghost use Rattle.cmark_grammar.specs.Answers.{Lookup};
 ghost use Rattle.cmark_grammar.specs.Options.{Options};
 ghost use Rattle.cmark_span_scan.specs.Dollars.{AreDollarsOf, formula_at};
@@ -29,7 +30,7 @@ impl<'a> InlineState<'a> {
         requires dollars { AreDollarsOf text.now dollars.old }
         requires paid { DollarsPaid text.now here.at dollars.old }
         requires byte { IsAtByte text.now here self.old }
-        requires dollar { slice_index text.now here.at ≡ 36 }
+        requires dollar { slice_index text.now here.at ≡ dollar_sign }
         ensures token { (options : Options) (lookup : Lookup) (is_cell : Bool) → options.math ≡ true
             → IfOk result (Appends options lookup is_cell text.now here self.old self.new) }
         ensures dollars { AreDollarsOf text.now dollars.new }

@@ -3,6 +3,7 @@
 ghost use Rattle.std.specs.Prelude.{◌≡◌, ◌==◌, List, None, ℕ, drop, IfOk, option_copied};
 ghost use Rattle.std.specs.Str.{IsCharBoundary};
 ghost use Rattle.cmark_leaf_text.specs.Reads.{IsRead, is_cell_of, text_of};
+ghost use Rattle.cmark_grammar.specs.Characters.{left_parenthesis};
 ghost use Rattle.cmark_grammar.specs.Letters.{first_is};
 ghost use Rattle.cmark_values.specs.Shown.{text_bytes};
 ghost use Rattle.cmark_inline.specs.Linked.{FindsInline, resolved_title, shown_target};
@@ -103,7 +104,7 @@ fn own_target(alloc: Global, target: Target<'_>) -> Result<Target<'static>, Allo
 /// Whether an opening parenthesis is at `at`. An inline link has one after its closing bracket.
 #[inline(always)]
 fn opens_tail(text: &str, at: usize) -> bool
-    ensures { result ≡ first_is (λ b. b == 40) (drop at text.now) }
+    ensures { result ≡ first_is (λ b. b == left_parenthesis) (drop at text.now) }
 {
     let bytes = text.as_bytes();
     if at >= bytes.len() {

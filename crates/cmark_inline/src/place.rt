@@ -3,6 +3,7 @@
 ghost use Rattle.std.specs.Prelude.{◌≡◌, ◌⊎◌, ◌==◌, true, false, ◌<◌, ◌≤◌, ◌+◌, ◌-◌, ℕ, drop, take, reverse, chars, length, slice_index, IfSome, Some, option_map};
 ghost use Rattle.std.specs.List.{prefix_len};
 ghost use Rattle.std.specs.Str.{IsCharBoundary};
+ghost use Rattle.cmark_grammar.specs.Characters.{backtick};
 ghost use Rattle.cmark_grammar.specs.Autolinks.{autolink_in};
 ghost use Rattle.cmark_grammar.specs.CodeSpans.{backticks};
 ghost use Rattle.cmark_grammar.specs.Columns.{is_blank_byte};
@@ -84,8 +85,8 @@ pub(crate) fn text_start(text: &str, here: Cursor) -> usize
     ensures value { (result ≡ here.at)
         ⊎
         ((result ≡ here.pending) × (here.pending + 1 ≡ here.at)
-        × (slice_index text.now here.pending ≡ 96)) }
-    ensures escaped { here.pending + 1 ≡ here.at → slice_index text.now here.pending ≡ 96
+        × (slice_index text.now here.pending ≡ backtick)) }
+    ensures escaped { here.pending + 1 ≡ here.at → slice_index text.now here.pending ≡ backtick
         → result ≡ here.pending }
 {
     if here.pending < here.at

@@ -1,6 +1,7 @@
 //! Typographic punctuation: dots, hyphens and quotes (this profile's own).
 
 ghost use Rattle.std.specs.Prelude.{◌≡◌, ◌⊎◌, true, ◌≤◌, ◌+◌, ◌*◌, ◌++◌, string_bytes, Bool, slice_index, IfOk, OnOk};
+ghost use Rattle.cmark_grammar.specs.Characters.{apostrophe, hyphen, period, quotation_mark};
 ghost use Rattle.cmark_grammar.specs.Answers.{Lookup};
 ghost use Rattle.cmark_grammar.specs.Dashes as grammar;
 ghost use Rattle.cmark_grammar.specs.Options.{Options};
@@ -22,7 +23,7 @@ impl<'a> InlineState<'a> {
         requires byte { IsAtByte text.now here self.old }
         ensures reads_on { ReadsOn text.now here self.old self.new result }
         ensures token { (options : Options) (lookup : Lookup) (is_cell : Bool)
-            → options.smart_punctuation ≡ true → slice_index text.now here.at ≡ 46
+            → options.smart_punctuation ≡ true → slice_index text.now here.at ≡ period
             → IfOk result
             (λ next. Passes options lookup is_cell text.now here self.old self.new next
             ⊎ Appends options lookup is_cell text.now here self.old self.new next) }
@@ -43,7 +44,7 @@ impl<'a> InlineState<'a> {
         requires byte { IsAtByte text.now here self.old }
         ensures reads_on { ReadsOn text.now here self.old self.new result }
         ensures token { (options : Options) (lookup : Lookup) (is_cell : Bool)
-            → options.smart_punctuation ≡ true → slice_index text.now here.at ≡ 45
+            → options.smart_punctuation ≡ true → slice_index text.now here.at ≡ hyphen
             → IfOk result
             (λ next. Passes options lookup is_cell text.now here self.old self.new next
             ⊎ Appends options lookup is_cell text.now here self.old self.new next) }
@@ -72,7 +73,7 @@ impl<'a> InlineState<'a> {
         ensures moves { IfOk result (Moves text.now here.at self.new) }
         ensures token { (options : Options) (lookup : Lookup) (is_cell : Bool)
             → options.smart_punctuation ≡ true
-            → (slice_index text.now here.at ≡ 34) ⊎ (slice_index text.now here.at ≡ 39)
+            → (slice_index text.now here.at ≡ quotation_mark) ⊎ (slice_index text.now here.at ≡ apostrophe)
             → IfOk result (AppendsQuote options lookup is_cell text.now here self.old self.new) }
     {
         let end = following(text, here.at);

@@ -1,6 +1,7 @@
 //! Code spans, autolinks and inline HTML (CommonMark 6.1, 6.5 and 6.6).
 
 ghost use Rattle.std.specs.Prelude.{◌≡◌, ◌⊎◌, ◌+◌, ◌-◌, ◌++◌, ◌∷◌, ◌<◌, ◌≤◌, [], drop, length, slice_index, Bool, true, is_some, IfOk, OnOk};
+ghost use Rattle.cmark_grammar.specs.Characters.{backtick, less_than_sign};
 ghost use Rattle.cmark_grammar.specs.Answers.{Lookup};
 ghost use Rattle.cmark_grammar.specs.CodeSpans.{code_in};
 ghost use Rattle.cmark_grammar.specs.Options.{Options as OptionsRead};
@@ -63,7 +64,7 @@ impl<'a> InlineState<'a> {
             → runs.old.visited < runs.new.visited) }
         ensures reads_on { ReadsOn text.now here self.old self.new result }
         ensures token { (options : OptionsRead) (lookup : Lookup) (is_cell : Bool)
-            → slice_index text.now here.at ≡ 96
+            → slice_index text.now here.at ≡ backtick
             → IfOk result
             (λ next. Appends options lookup is_cell text.now here self.old self.new next
             ⊎ TakesEscaped options lookup is_cell text.now here self.old self.new next) }
@@ -99,7 +100,7 @@ impl<'a> InlineState<'a> {
         requires byte { IsAtByte text.now here self.old }
         requires text { IsTextOf leaf.now text.now }
         requires sought { IsMarkupSought leaf.now here.at unclosed.old }
-        ensures token { (lookup : Lookup) → slice_index text.now here.at ≡ 60
+        ensures token { (lookup : Lookup) → slice_index text.now here.at ≡ less_than_sign
             → IfOk result
             (ReadsLess (shown_options options) lookup leaf.now here self.old self.new) }
         ensures reads_on { ReadsLeafOn leaf.now text.now here self.old self.new result }

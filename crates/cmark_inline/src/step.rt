@@ -2,6 +2,7 @@
 
 ghost use Rattle.std.specs.Prelude.{◌≡◌, ◌==◌, true, false, ◌<◌, ◌≤◌, ◌+◌, ◌*◌, ◌++◌, ◌∷◌, [], length, take, slice_index, Err, IfOk, IsOk, OnErr, OnOk};
 ghost use Rattle.std.specs.Str.{IsCharBoundary};
+ghost use Rattle.cmark_grammar.specs.Characters.{right_bracket};
 ghost use Rattle.cmark_leaf_text.specs.Reads.{IsRead, source_of, text_of};
 ghost use Rattle.cmark_inline.specs.LeafPass.{CanReadOn, Fails, FindsToken, IsLaidOut, PassesTo, ReadsWholly, StaysBetween, StaysWithin};
 ghost use Rattle.cmark_inline.specs.ReadsLeafOn.{ReadsLeafOn};
@@ -220,7 +221,7 @@ impl<'a> InlineState<'a> {
         requires text { IsTextOf leaf.now text.now }
         requires sought { IsSoughtIn leaf.now text.now here.at sought.old }
         ensures token { is_special (shown_options reader.now.options) (slice_index text.now here.at)
-            ≡ true → (slice_index text.now here.at == 93) ≡ false
+            ≡ true → (slice_index text.now here.at == right_bracket) ≡ false
             → IfOk result
             (ReadsSpecial (shown_options reader.now.options) (E.replacement reader.now.entities.now)
             leaf.now here self.old self.new) }

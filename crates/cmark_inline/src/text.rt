@@ -1,6 +1,7 @@
 //! Line breaks, escapes and entities (CommonMark 2.4, 2.5, 6.7 and 6.8).
 
 ghost use Rattle.std.specs.Prelude.{◌≡◌, ◌⊎◌, if◌then◌else◌, Bool, slice_index, IfOk};
+ghost use Rattle.cmark_grammar.specs.Characters.{ampersand, backslash, carriage_return, line_feed};
 ghost use Rattle.cmark_grammar.specs.Answers.{Lookup};
 ghost use Rattle.cmark_grammar.specs.LineBreaks.{ends_with_two_spaces};
 ghost use Rattle.cmark_grammar.specs.Options.{Options};
@@ -27,7 +28,7 @@ impl<'a> InlineState<'a> {
         requires byte { IsAtByte text.now here self.old }
         ensures reads_on { ReadsOn text.now here self.old self.new result }
         ensures token { (options : Options) (lookup : Lookup) (is_cell : Bool)
-            → (slice_index text.now here.at ≡ 10) ⊎ (slice_index text.now here.at ≡ 13)
+            → (slice_index text.now here.at ≡ line_feed) ⊎ (slice_index text.now here.at ≡ carriage_return)
             → IfOk result (Appends options lookup is_cell text.now here self.old self.new) }
     {
         let text_end = before_blanks(text, here);
@@ -50,7 +51,7 @@ impl<'a> InlineState<'a> {
     ) -> Result<Cursor, AllocError>
         requires byte { IsAtByte text.now here self.old }
         ensures reads_on { ReadsOn text.now here self.old self.new result }
-        ensures token { (options : Options) (lookup : Lookup) → slice_index text.now here.at ≡ 92
+        ensures token { (options : Options) (lookup : Lookup) → slice_index text.now here.at ≡ backslash
             → IfOk result
             (λ next. Passes options lookup is_cell text.now here self.old self.new next
             ⊎
@@ -102,7 +103,7 @@ impl<'a> InlineState<'a> {
     ) -> Result<Cursor, AllocError>
         requires byte { IsAtByte text.now here self.old }
         ensures reads_on { ReadsOn text.now here self.old self.new result }
-        ensures token { (options : Options) (is_cell : Bool) → slice_index text.now here.at ≡ 38
+        ensures token { (options : Options) (is_cell : Bool) → slice_index text.now here.at ≡ ampersand
             → IfOk result
             (λ next. Passes options (E.replacement entities.now) is_cell text.now here self.old
             self.new next

@@ -2,6 +2,7 @@
 
 ghost use Rattle.std.specs.Prelude.{◌≡◌, ◌⊎◌, ◌≤◌, ◌<◌, ◌+◌, ◌&&◌, ◌==◌, drop, if◌then◌else◌, false, is_some, ℕ, length, IfOk, OnOk, IfSome, None, Some};
 ghost use Rattle.std.specs.Str.{IsCharBoundary};
+ghost use Rattle.cmark_grammar.specs.Characters.{right_bracket};
 ghost use Rattle.cmark_grammar.specs.BracketDecisions.{name_in};
 ghost use Rattle.cmark_leaf_text.specs.Reads.{IsRead, IsPart, text_of};
 ghost use Rattle.cmark_values.specs.Shown.{shown_options};
@@ -135,7 +136,7 @@ impl<'a> InlineState<'a> {
         ensures tries { IfOk result
             (λ next. next ≡ None
             → TriesPair
-            ((shown_options options).wikilinks && first_is (λ b. b == 93)
+            ((shown_options options).wikilinks && first_is (λ b. b == right_bracket)
             (drop (close + 1) text.now)) text.now close self.old self.new) }
         ensures limits { KeepsLimits self.old self.new }
         ensures sound { OnOk result (IsSound self.new) }

@@ -1,5 +1,6 @@
 -- The bytes of the source between the lines of a leaf: the prefixes of the containers around it (CommonMark 5).
 use Rattle.std.specs.Prelude.{◌≡◌, ◌<◌, ℕ, suc, Bool, true, false, ◌==◌, ◌||◌, List, [], ◌∷◌, get_or, length}
+use Rattle.cmark_grammar.specs.Characters.{greater_than_sign, pipe}
 use Rattle.cmark_grammar.specs.Columns.{is_blank_byte}
 use Rattle.cmark_grammar.specs.LeafText.{Leaf}
 use Rattle.cmark_grammar.specs.Readers.{Reader}
@@ -8,7 +9,7 @@ use Rattle.cmark_inline_model.specs.TextPlaces.{place_in, text_of}
 
 -- a blank, or the `>` of a block quote
 abbrev pub is_prefix_byte : ℕ → Bool
-is_prefix_byte b = is_blank_byte b || (b == 62)
+is_prefix_byte b = is_blank_byte b || (b == greater_than_sign)
 
 -- between the offsets of a byte of the text and of the next byte there are only blanks and `>`
 abbrev pub HasPrefixesBetween : Reader → Leaf → Type 0
@@ -16,7 +17,7 @@ HasPrefixesBetween reader leaf = (k x : ℕ) → suc k < length (text_of reader 
 
 -- there is no pipe between them
 abbrev pub HasNoPipesBetween : Reader → Leaf → Type 0
-HasNoPipesBetween reader leaf = (k x : ℕ) → suc k < length (text_of reader leaf) → place_in reader leaf k < x → x < place_in reader leaf (suc k) → (get_or reader.source x 0 == 124) ≡ false
+HasNoPipesBetween reader leaf = (k x : ℕ) → suc k < length (text_of reader leaf) → place_in reader leaf k < x → x < place_in reader leaf (suc k) → (get_or reader.source x 0 == pipe) ≡ false
 
 -- each leaf has only prefixes between its bytes
 abbrev pub HavePrefixesBetween : Reader → List Segment → Type 0

@@ -1,5 +1,6 @@
 -- The token at an offset of a leaf, by the token of the leaf's text read as a leaf of one stretch.
 use Rattle.std.specs.Prelude.{◌≡◌, ◌≤◌, ◌<◌, ◌-◌, ℕ, suc, Bool, true, false, ◌==◌, ◌&&◌, ◌||◌, List, [], ◌∷◌, get_or, drop, take, length, is_none, None}
+use Rattle.cmark_grammar.specs.Characters.{carriage_return, exclamation_mark, less_than_sign, line_feed, question_mark}
 use Rattle.cmark_grammar.specs.Answers.{Lookup}
 use Rattle.cmark_grammar.specs.Autolinks.{autolink_in}
 use Rattle.cmark_grammar.specs.InlineTokens.{from, before, item_at, begins_at, goes_on}
@@ -36,7 +37,7 @@ pub record IsParted (size : ℕ) (place : ℕ → ℕ) (x count : ℕ) : Type 0 
 
 -- a carriage return and the line feed after it, which are one line ending, are adjacent
 abbrev pub HaveWholeEndings : (text : List ℕ) → (place : ℕ → ℕ) → Type 0
-HaveWholeEndings text place = (k : ℕ) → suc k < length text → get_or text k 0 ≡ 13 → get_or text (suc k) 0 ≡ 10 → place (suc k) ≡ suc (place k)
+HaveWholeEndings text place = (k : ℕ) → suc k < length text → get_or text k 0 ≡ carriage_return → get_or text (suc k) 0 ≡ line_feed → place (suc k) ≡ suc (place k)
 
 -- The bytes of a leaf's text have these offsets in the source, and no line ending is split. The bytes of the leaf before any offset of the
 -- source are those of the text that have earlier offsets, and the bytes from there on are the others
@@ -68,7 +69,7 @@ placed place Ends = Ends
 -- instruction
 abbrev pub may_open_markup : (emails : Bool) → List ℕ → Bool
 may_open_markup emails [] = false
-may_open_markup emails (b ∷ bs) = (b == 60) && (is_none (autolink_in emails bs) && first_is (λ c. (c == 33) || (c == 63)) bs)
+may_open_markup emails (b ∷ bs) = (b == less_than_sign) && (is_none (autolink_in emails bs) && first_is (λ c. (c == exclamation_mark) || (c == question_mark)) bs)
 
 -- the bytes of such an item are the text of its event, or the text inside it
 abbrev pub is_as_written : ItemKind → Bool

@@ -1,6 +1,7 @@
 -- The bytes of a text that inline parsing examines (CommonMark 6); all others are literal.
 use Rattle.std.specs.Prelude.{ℕ, Bool, ◌==◌, ◌&&◌, ◌||◌, List, codes}
 use Rattle.std.specs.List.{list_any}
+use Rattle.cmark_grammar.specs.Characters.{caret, equals_sign, pipe, tilde}
 use Rattle.cmark_grammar.specs.Options.{Options}
 
 abbrev pub is_one_of : (signs : List ℕ) → ℕ → Bool
@@ -14,9 +15,9 @@ is_always_special b = is_one_of (codes "\n\r*_&\\[]<!`") b
 abbrev pub is_special : Options → ℕ → Bool
 is_special options b =
     is_always_special b
-    || ((options.tables && (b == 124))
-    || (((options.strikethrough || options.subscript) && (b == 126))
-    || ((options.superscript && (b == 94))
-    || ((options.highlight && (b == 61))
+    || ((options.tables && (b == pipe))
+    || (((options.strikethrough || options.subscript) && (b == tilde))
+    || ((options.superscript && (b == caret))
+    || ((options.highlight && (b == equals_sign))
     || ((options.math && is_one_of (codes "${}") b)
     || (options.smart_punctuation && is_one_of (codes ".-\"'") b))))))

@@ -2,6 +2,7 @@
 -- it was without it, and those that name such a definition.
 use Rattle.std.specs.Prelude.{◌≡◌, ℕ, zero, suc, ◌+◌, Bool, true, false, not, ◌==◌, ◌&&◌, ◌||◌, nat_lt, if◌then◌else◌, List, [], ◌∷◌, ◌++◌, codes, length, Option, Some, None}
 use Rattle.std.specs.List.{prefix_len}
+use Rattle.cmark_grammar.specs.Characters.{ampersand, asterisk, backslash, backtick, caret, exclamation_mark, left_bracket, less_than_sign, pipe, right_bracket, tilde, underscore}
 use Rattle.cmark_grammar.specs.BlockDocument.{BlockDocument}
 use Rattle.cmark_grammar.specs.BracketDecisions.{decide}
 use Rattle.cmark_grammar.specs.BracketReading.{ReadsWhole}
@@ -37,20 +38,20 @@ use Rattle.cmark_grammar.specs.Tokens.{entity_in}
 abbrev pub is_special_without : Options → ℕ → Bool
 is_special_without options b =
     is_always_special b
-    || ((options.tables && (b == 124))
-    || (((options.strikethrough || options.subscript) && (b == 126))
-    || ((options.superscript && (b == 94))
+    || ((options.tables && (b == pipe))
+    || (((options.strikethrough || options.subscript) && (b == tilde))
+    || ((options.superscript && (b == caret))
     || ((options.math && is_one_of (codes "${}") b)
     || (options.smart_punctuation && is_one_of (codes ".-\"'") b)))))
 
 abbrev pub is_run_delimiter_without : ℕ → Bool
-is_run_delimiter_without b = (b == 42) || ((b == 95) || ((b == 126) || (b == 94)))
+is_run_delimiter_without b = (b == asterisk) || ((b == underscore) || ((b == tilde) || (b == caret)))
 
 abbrev pub is_delimiter_run_without : Options → (delimiter run_length : ℕ) → Bool
 is_delimiter_run_without options delimiter run_length =
-    (((delimiter == 42) || (delimiter == 95)) && nat_lt 0 run_length)
-    || ((delimiter == 126) && ((options.strikethrough || options.subscript) && ((run_length == 1) || (run_length == 2)))
-    || ((delimiter == 94) && (options.superscript && (run_length == 1))))
+    (((delimiter == asterisk) || (delimiter == underscore)) && nat_lt 0 run_length)
+    || ((delimiter == tilde) && ((options.strikethrough || options.subscript) && ((run_length == 1) || (run_length == 2)))
+    || ((delimiter == caret) && (options.superscript && (run_length == 1))))
 
 abbrev pub flanking_without : Options → (delimiter run_length : ℕ) → (before after : Option ℕ) → Flanking
 flanking_without options delimiter run_length before after = record {
@@ -69,13 +70,13 @@ module _ (reader : Reader) (leaf : Leaf) where
   begins_without at [] = Ends
   begins_without at (b ∷ bs) =
       if is_blank_byte b || not (is_content b) then break_or reader leaf at (blank_break_in (b ∷ bs)) (item_at Plain at (suc at))
-      else if b == 92 then break_or reader leaf at (backslash_break_in (b ∷ bs)) (escape_at reader leaf at bs)
-      else if b == 38 then entity_or reader leaf at (entity_in reader.lookup bs)
-      else if b == 96 then code_or reader leaf at (backticks (b ∷ bs)) (code_in (b ∷ bs))
-      else if b == 60 then less_than reader leaf at bs
-      else if b == 33 then (if first_is (λ c. c == 91) bs then Opens (bracket true at (at + 2)) else item_at Plain at (suc at))
-      else if b == 91 then Opens (bracket false at (suc at))
-      else if b == 93 then ClosesBracket (bracket false at (suc at))
+      else if b == backslash then break_or reader leaf at (backslash_break_in (b ∷ bs)) (escape_at reader leaf at bs)
+      else if b == ampersand then entity_or reader leaf at (entity_in reader.lookup bs)
+      else if b == backtick then code_or reader leaf at (backticks (b ∷ bs)) (code_in (b ∷ bs))
+      else if b == less_than_sign then less_than reader leaf at bs
+      else if b == exclamation_mark then (if first_is (λ c. c == left_bracket) bs then Opens (bracket true at (at + 2)) else item_at Plain at (suc at))
+      else if b == left_bracket then Opens (bracket false at (suc at))
+      else if b == right_bracket then ClosesBracket (bracket false at (suc at))
       else if is_run_delimiter_without b then run_at_without at b (prefix_len (λ c. c == b) (b ∷ bs))
       else if reader.options.math && is_dollar b then dollar reader leaf at bs (braces_after false (before reader leaf at) no_braces)
       else if reader.options.smart_punctuation then smart_or reader leaf at b
@@ -101,14 +102,14 @@ module _ (reader : Reader) (leaf : Leaf) where
 -- ## Emphasis
 
 abbrev pub has_same_delimiter_without : (opener closer : Run) → Bool
-has_same_delimiter_without opener closer = (opener.delimiter == closer.delimiter) && (not (closer.delimiter == 126) || (opener.run_length == closer.run_length))
+has_same_delimiter_without opener closer = (opener.delimiter == closer.delimiter) && (not (closer.delimiter == tilde) || (opener.run_length == closer.run_length))
 
 abbrev pub agrees_without : (opener closer : Run) → Bool
 agrees_without opener closer =
     closer.closes && (nat_lt 0 closer.left && (has_same_delimiter_without opener closer && keeps_rule_of_three opener closer))
 
 abbrev pub kinds_without : (delimiter count : ℕ) → List SpanKind
-kinds_without delimiter count = if delimiter == 126 then tilde_kinds count else if delimiter == 94 then caret_kinds count else emphasis_kinds count
+kinds_without delimiter count = if delimiter == tilde then tilde_kinds count else if delimiter == caret then caret_kinds count else emphasis_kinds count
 
 abbrev pub wrapped_without : Pair → Spans → Spans
 wrapped_without pair inside = nest (kinds_without pair.delimiter pair.count) pair.from pair.to inside

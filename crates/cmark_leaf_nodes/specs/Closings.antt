@@ -1,6 +1,7 @@
 -- The bytes of an ATX heading's text, and of its attributes.
 use Rattle.std.specs.Prelude.{◌≡◌, ◌≤◌, ℕ, Bool, true, false, ◌==◌, ◌||◌, nat_lt, if◌then◌else◌, List, [], length, drop, take_while, slice_range, Option, Some, None}
 use Rattle.std.specs.Str.{IsUtf8, IsCharBoundary}
+use Rattle.cmark_grammar.specs.Characters.{number_sign}
 use Rattle.cmark_grammar.specs.Attributes.{before_braces}
 use Rattle.cmark_grammar.specs.Columns.{is_blank_byte, drop_end, bytes_of}
 use Rattle.cmark_grammar.specs.Leaves.{run, is_empty}
@@ -12,13 +13,13 @@ use Rattle.cmark_leaf_nodes.specs.TextColumns.{StandInText}
 
 -- the bytes after the `#` at the beginning and the blanks there
 abbrev pub after_opening : List ℕ → List ℕ
-after_opening words = drop (length (take_while is_blank_byte (drop (run 35 words) words))) (drop (run 35 words) words)
+after_opening words = drop (length (take_while is_blank_byte (drop (run number_sign words) words))) (drop (run number_sign words) words)
 
 -- without a closing sequence: `#` at the end, alone or after a blank
 abbrev pub without_closing_bytes : List ℕ → List ℕ
 without_closing_bytes bs =
-    if is_empty (drop_end (λ b. b == 35) bs) || nat_lt (length (drop_end is_blank_byte (drop_end (λ b. b == 35) bs))) (length (drop_end (λ b. b == 35) bs))
-    then drop_end is_blank_byte (drop_end (λ b. b == 35) bs) else bs
+    if is_empty (drop_end (λ b. b == number_sign) bs) || nat_lt (length (drop_end is_blank_byte (drop_end (λ b. b == number_sign) bs))) (length (drop_end (λ b. b == number_sign) bs))
+    then drop_end is_blank_byte (drop_end (λ b. b == number_sign) bs) else bs
 
 -- the bytes without the attributes at the end, if attributes are read, and the bytes between the attributes' braces
 abbrev pub without_attributes_bytes : (attributes : Bool) → List ℕ → List ℕ
@@ -34,7 +35,7 @@ pub record StandsAt (text : List ℕ) (from to : ℕ) (bs : List ℕ) : Type 0 w
 
 -- the bytes between the braces of a heading's attributes
 abbrev pub attribute_bytes : Row → List ℕ
-attribute_bytes r = bytes_of (attribute_columns true (content_columns (run 35 (words_of r)) r))
+attribute_bytes r = bytes_of (attribute_columns true (content_columns (run number_sign (words_of r)) r))
 
 -- the range of the words between the braces was found, or there are no braces
 abbrev pub Finds : LineRest → Option (ℕ × ℕ) → Type 0

@@ -4,6 +4,7 @@ ghost use Rattle.std.specs.Prelude.{◌≡◌, ◌≤◌, ℕ, List, length, OnO
 ghost use Rattle.std.specs.List.{take_while};
 ghost use Rattle.cmark_tree.specs.Building.{IsPlaced};
 ghost use Rattle.cmark_items.specs.Tables.{defined};
+ghost use Rattle.cmark_grammar.specs.Characters.{number_sign};
 ghost use Rattle.cmark_grammar.specs.Attributes.{before_braces, is_brace};
 ghost use Rattle.cmark_grammar.specs.Leaves.{run};
 ghost use Rattle.cmark_grammar.specs.Rows.{words_of};
@@ -21,7 +22,7 @@ use std::alloc::AllocError;
 
 /// The number of `#` at the beginning.
 fn count_hashes(bytes: &[u8]) -> usize
-    ensures value { result ≡ run 35 bytes.now }
+    ensures value { result ≡ run number_sign bytes.now }
     ensures within { result ≤ length bytes.now }
 {
     bytes.iter().take_while(|byte| **byte == b'#').count()
@@ -115,7 +116,7 @@ pub fn draw_heading(
         ((text : List ℕ) (d : Drawing) → Draws text builder.old d
         → Draws text builder.new
         (drawn
-        (heading_tokens text attributes (run 35 (words_of (row_of rest.entry))) (row_of rest.entry))
+        (heading_tokens text attributes (run number_sign (words_of (row_of rest.entry))) (row_of rest.entry))
         d)) }
     ensures definitions { defined builder.new.allocations ≡ defined builder.old.allocations }
 {

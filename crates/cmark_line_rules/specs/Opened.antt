@@ -1,6 +1,7 @@
 -- The opening of a line, as that of the grammar.
 use Rattle.std.specs.Prelude.{◌≡◌, ℕ, ◌+◌, ◌<◌, ◌≤◌, Bool, ◌||◌, true, List, length, Some}
 use Rattle.std.specs.Str.{IsCharBoundary}
+use Rattle.cmark_grammar.specs.Characters.{left_bracket}
 use Rattle.cmark_grammar.specs.Options.{Options}
 use Rattle.cmark_grammar.specs.Rows.{Row, words_of, start_of}
 use Rattle.cmark_grammar.specs.Leaves.{counted, code_continuation, is_thematic_break, is_atx_heading, fence_of}
@@ -67,7 +68,7 @@ InfoIsIn text _ r = Unit {0}
 
 -- a line that may begin a definition begins with a bracket
 abbrev pub HasBracket : Opening → Row → Type 0
-HasBracket Bracket r = begins_with 91 (words_of r) ≡ true
+HasBracket Bracket r = begins_with left_bracket (words_of r) ≡ true
 HasBracket _ r = Unit {0}
 
 -- the line inside a container is part of this text

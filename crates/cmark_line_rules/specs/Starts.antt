@@ -1,5 +1,6 @@
 -- The containers of this crate, as those of the grammar.
 use Rattle.std.specs.Prelude.{◌≡◌, ℕ, Bool, ◌==◌, ◌||◌, nat_le, if◌then◌else◌, Option, Some, None}
+use Rattle.cmark_grammar.specs.Characters.{pipe}
 use Rattle.cmark_grammar.specs.Containers as grammar
 use Rattle.cmark_grammar.specs.Containers.{item_of, with_task, marker_width, container_of, container_with, footnote_of, is_block_quote, block_quote_width}
 use Rattle.cmark_grammar.specs.Footnotes.{footnotes_in, footnote_in, marker_columns}
@@ -100,7 +101,7 @@ begins_item b = grammar.is_bullet b || grammar.is_digit b
 
 -- an ASCII letter, or the pipe at the beginning of a table's row
 abbrev pub is_letter_or_pipe : ℕ → Bool
-is_letter_or_pipe b = is_letter b || (b == 124)
+is_letter_or_pipe b = is_letter b || (b == pipe)
 
 abbrev pub shown_begun : ItemStart × LineRest → grammar.Container
 shown_begun begun = shown_item begun.0

@@ -1,6 +1,7 @@
 //! Containers: the lines that they keep, and the lines that begin them (CommonMark 5).
 
 ghost use Rattle.std.specs.Prelude.{◌≡◌, ℕ, List, true, false, option_map, IfSome};
+ghost use Rattle.cmark_grammar.specs.Characters.{greater_than_sign};
 ghost use Rattle.cmark_grammar.specs.Containers as grammar;
 ghost use Rattle.cmark_grammar.specs.Containers.{begins_with, keeps};
 ghost use Rattle.cmark_grammar.specs.Letters.{first_is};
@@ -168,7 +169,7 @@ fn marker_start<'a>(rest: LineRest<'a>, words: &[u8]) -> Option<ContainerStart<'
 /// The block quote that a line begins whose words begin with its marker, indented by at most three columns, and the line after the marker.
 #[inline(always)]
 fn block_quote_start<'a>(rest: LineRest<'a>) -> Option<ContainerStart<'a>>
-    requires { begins_with 62 (words_of (row_of rest)) ≡ true }
+    requires { begins_with greater_than_sign (words_of (row_of rest)) ≡ true }
     ensures container { (options : profile.Options)
         → option_map (shown_start options (row_of rest.entry)) result
         ≡ begun_marked options (row_of rest.entry) }
@@ -183,7 +184,7 @@ fn block_quote_start<'a>(rest: LineRest<'a>) -> Option<ContainerStart<'a>>
 /// the marker of a block quote.
 #[inline(always)]
 fn item_start<'a>(rest: LineRest<'a>) -> Option<ContainerStart<'a>>
-    requires { begins_with 62 (words_of (row_of rest)) ≡ false }
+    requires { begins_with greater_than_sign (words_of (row_of rest)) ≡ false }
     ensures container { (options : profile.Options)
         → option_map (shown_start options (row_of rest.entry)) result
         ≡ begun_marked options (row_of rest.entry) }
@@ -197,7 +198,7 @@ fn item_start<'a>(rest: LineRest<'a>) -> Option<ContainerStart<'a>>
 /// Whether the words of a line begin with the marker of a block quote.
 #[inline]
 pub(crate) fn begins_with_quote_mark(words: &[u8]) -> bool
-    ensures { result ≡ begins_with 62 words.now }
+    ensures { result ≡ begins_with greater_than_sign words.now }
 {
     match words {
         [first, ..] => *first == b'>',

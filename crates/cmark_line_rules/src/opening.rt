@@ -1,6 +1,7 @@
 //! The opening of a line: the block that it begins (CommonMark 3 to 5).
 
 ghost use Rattle.std.specs.Prelude.{◌≡◌, ◌==◌, ◌&&◌, not, ℕ, List, IfSome, option_map};
+ghost use Rattle.cmark_grammar.specs.Characters.{left_bracket};
 ghost use Rattle.cmark_grammar.specs.Footnotes.{are_read, footnotes_in, is_footnote_label};
 ghost use Rattle.cmark_grammar.specs.Letters.{is_letter, first_is};
 ghost use Rattle.cmark_grammar.specs.Rows.{Row, words_of, indent_of};
@@ -167,7 +168,7 @@ pub(crate) fn fence_in(words: &[u8]) -> Option<CodeFence>
 fn may_begin_link(words: &[u8], options: Options) -> bool
     ensures { result
         ≡
-        (begins_with 91 words.now && not
+        (begins_with left_bracket words.now && not
         (begins_no_link (footnotes_in (shown_options options)) words.now)) }
 {
     begins_with_bracket(words) && !(reads_footnotes(options) && begins_footnote_label(words))
@@ -176,7 +177,7 @@ fn may_begin_link(words: &[u8], options: Options) -> bool
 /// Whether the words of a line begin with an opening bracket.
 #[inline]
 fn begins_with_bracket(words: &[u8]) -> bool
-    ensures { result ≡ begins_with 91 words.now }
+    ensures { result ≡ begins_with left_bracket words.now }
 {
     match words {
         [first, ..] => *first == b'[',
@@ -213,7 +214,7 @@ pub fn begins_with_label(rest: LineRest<'_>, options: Options) -> bool
     ensures { result
         ≡
         ((indent_of (row_of rest.entry) == 0) &&
-        (begins_with 91 (words_of (row_of rest.entry)) && not
+        (begins_with left_bracket (words_of (row_of rest.entry)) && not
         (are_read (footnotes_in (shown_options options))))) }
 {
     rest.indent_upto(1) == 0 && begins_with_bracket(rest.words()) && !reads_footnotes(options)

@@ -1,5 +1,6 @@
 -- Whether more text after a text can change the definition at its beginning.
 use Rattle.std.specs.Prelude.{◌≡◌, ℕ, Bool, true, false, ◌==◌, ◌&&◌, ◌||◌, not, if◌then◌else◌, List, [], ◌∷◌, ◌++◌, Option, Some, None, option_map}
+use Rattle.cmark_grammar.specs.Characters.{apostrophe, colon, left_bracket, left_parenthesis, quotation_mark, right_bracket, right_parenthesis}
 use Rattle.cmark_grammar.specs.Leaves.{is_empty}
 use Rattle.cmark_grammar.specs.Letters.{first_is}
 use Rattle.cmark_grammar.specs.LinkDefinitions.{Parsed, Defined, escapes_next, label_in, after_leading_blanks, after_separator, definition_in}
@@ -24,8 +25,8 @@ ends_in escaped closer refused (b ∷ bs) = if not escaped && ((b == closer) || 
 abbrev pub title_ends : List ℕ → Bool
 title_ends [] = false
 title_ends (b ∷ bs) =
-    if (b == 34) || (b == 39) then ends_in false b b bs
-    else if b == 40 then ends_in false 41 40 bs
+    if (b == quotation_mark) || (b == apostrophe) then ends_in false b b bs
+    else if b == left_parenthesis then ends_in false right_parenthesis left_parenthesis bs
     else true
 
 -- after a title something else than blanks must follow, and after a destination a title that ends, or no title
@@ -36,11 +37,11 @@ end_settles None following = title_ends (after_separator following)
 -- the label ends, if it is one, and no colon follows
 abbrev pub lacks_colon : Option Parsed → Bool
 lacks_colon None = true
-lacks_colon (Some label) = first_is (λ b. not (b == 58)) label.following
+lacks_colon (Some label) = first_is (λ b. not (b == colon)) label.following
 
 abbrev pub label_settles : List ℕ → Bool
 label_settles [] = false
-label_settles (b ∷ bs) = (b == 91) && (ends_in false 93 91 bs && lacks_colon (label_in bs))
+label_settles (b ∷ bs) = (b == left_bracket) && (ends_in false right_bracket left_bracket bs && lacks_colon (label_in bs))
 
 abbrev pub settles_as : List ℕ → Option Defined → Bool
 settles_as bs None = label_settles bs

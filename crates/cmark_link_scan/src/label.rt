@@ -2,6 +2,7 @@
 
 ghost use Rattle.std.specs.Prelude.{◌≡◌, ◌<◌, ◌==◌, ◌&&◌, ◌||◌, not, false, drop, IfSome, option_map};
 ghost use Rattle.std.specs.Str.{IsCharBoundary};
+ghost use Rattle.cmark_grammar.specs.Characters.{left_bracket, right_bracket};
 ghost use Rattle.cmark_grammar.specs.LinkDefinitions.{label_in};
 ghost use Rattle.cmark_grammar.specs.LinkTails.{reference_label_in, after_collapsed, has_bracket, is_bracketed_label};
 ghost use Rattle.cmark_link_scan.specs.Rests.{IsRest};
@@ -68,7 +69,7 @@ pub fn collapsed_end(text: &str, at: usize) -> Option<usize>
 
 /// Whether a byte is an unescaped bracket.
 fn is_bracket(escaped: bool, byte: u8) -> bool
-    ensures { result ≡ (not escaped && ((byte == 91) || (byte == 93))) }
+    ensures { result ≡ (not escaped && ((byte == left_bracket) || (byte == right_bracket))) }
 {
     !escaped && (byte == b'[' || byte == b']')
 }

@@ -1,6 +1,7 @@
 //! Parts of a text: labels, destinations and titles.
 
 ghost use Rattle.std.specs.Prelude.{◌≡◌, ◌<◌, ◌==◌, ◌||◌, not, true, false, IfSome, option_map};
+ghost use Rattle.cmark_grammar.specs.Characters.{less_than_sign};
 ghost use Rattle.cmark_grammar.specs.Leaves.{is_empty};
 ghost use Rattle.cmark_grammar.specs.Letters.{first_is};
 ghost use Rattle.cmark_grammar.specs.LinkDefinitions.{up_to, destination_in, title_in};
@@ -33,7 +34,7 @@ pub fn closed_part(text: &str, closer: u8, refused: u8) -> Option<Part<'_>>
 
 /// Whether a part is a destination of this text: it is in angle brackets, or not empty.
 fn is_destination(text: &str, part: &str) -> bool
-    ensures { result ≡ (first_is (λ b. b == 60) text.now || not (is_empty part.now)) }
+    ensures { result ≡ (first_is (λ b. b == less_than_sign) text.now || not (is_empty part.now)) }
 {
     match text.as_bytes() {
         [b'<', ..] => true,

@@ -113,7 +113,6 @@ module _ {S : Type 0} (steps : S → Option RangedItem → S → Type 0) (old : 
   }
 
 module _ {S : Type 0} (steps : S → Option RangedItem → S → Type 0) (old new : Ahead S RangedItem) where
-
   module _ (mid : Ahead S RangedItem) (t : CowStr × Range ℕ) (k : Takes steps old (Some (text_item t)) mid) where
     -- the items after a text that was read first
     following-first : (more : List RangedItem) → option_to_list old.held ++ (k.read ++ more) ≡ text_item t ∷ more

@@ -3,6 +3,7 @@ use Rattle.std.specs.Prelude.{ℕ, Bool, true, not, ◌==◌, ◌||◌, ◌&&◌
 use Rattle.std.specs.Char.{is_ascii_alphanumeric}
 use Rattle.std.specs.List.{list_all, list_any, prefix_len}
 use Rattle.std.specs.Str.{str_eq_ignore_ascii_case}
+use Rattle.cmark_grammar.specs.Characters.{colon}
 use Rattle.cmark_grammar.specs.Labels.{words}
 
 abbrev pub is_among : List ℕ → ℕ → Bool
@@ -17,7 +18,7 @@ is_one_of names name = list_any (str_eq_ignore_ascii_case name) names
 abbrev pub scheme_of : List ℕ → Option (List ℕ)
 scheme_of [] = None
 scheme_of (b ∷ bs) =
-    if b == 58 then Some []
+    if b == colon then Some []
     else if is_among (codes "/?#&") b then None
     else option_map (λ name. b ∷ name) (scheme_of bs)
 
@@ -50,7 +51,7 @@ is_before_sign b = not (is_among (codes ":/?#&'") b)
 
 abbrev pub if_colon : (name following : List ℕ) → Option (List ℕ)
 if_colon name [] = None
-if_colon name (b ∷ bs) = if b == 58 then Some name else None
+if_colon name (b ∷ bs) = if b == colon then Some name else None
 
 abbrev pub unwritten_scheme : List ℕ → Option (List ℕ)
 unwritten_scheme d = if_colon (take (prefix_len is_before_sign d) d) (drop (prefix_len is_before_sign d) d)

@@ -98,7 +98,6 @@ email-is bs size found is e =
     go (b ∷ rest) = by (b == 64) rest
 
 module _ (bs : List ℕ) (size : ℕ) (is : size ≡ prefix_len is_local_byte bs) where
-
   module _ (domain : List ℕ) (e : Some domain ≡ after_if is_at_sign (drop size bs)) where
     pub some-email : 1 ≤ size → is_domain domain ≡ is_email bs
     some-email le = sym (ap (λ z. z && is_domain domain) (le-leb 1 size le)) ∙ email-is bs size (Some domain) is e

@@ -1,5 +1,6 @@
 -- The markers of footnote definitions on a line.
 use Rattle.std.specs.Prelude.{◌≡◌, ◌≤◌, ℕ, suc, ◌+◌, List, length, take, drop, slice_index}
+use Rattle.cmark_grammar.specs.Characters.{caret, right_bracket}
 use Rattle.cmark_grammar.specs.LinkDefinitions.{Parsed}
 
 -- the label at the beginning, which has `size` bytes, and the bytes after `]:`
@@ -12,4 +13,4 @@ marked words size = labelled (drop 2 words) size
 
 -- a caret precedes the marker's label, which has `size` bytes; after the label come its closing bracket and another byte
 abbrev pub IsClosed : List ℕ → (size : ℕ) → Type 0
-IsClosed words size = (size + 4 ≤ length words) × (slice_index words (size + 2) ≡ 93) × (slice_index words 1 ≡ 94)
+IsClosed words size = (size + 4 ≤ length words) × (slice_index words (size + 2) ≡ right_bracket) × (slice_index words 1 ≡ caret)

@@ -1,6 +1,7 @@
 //! Parts of a text that a closer ends: labels, titles, and destinations in angle brackets (CommonMark 6.3).
 
 ghost use Rattle.std.specs.Prelude.{◌≡◌, ◌<◌, ◌==◌, ◌&&◌, ◌||◌, ℕ, List, Option, suc, not, false, length, drop, take, slice_index, IfSome, option_map};
+ghost use Rattle.cmark_grammar.specs.Characters.{carriage_return, line_feed};
 ghost use Rattle.cmark_grammar.specs.LinkDefinitions.{Parsed, up_to_byte, up_to};
 ghost use Rattle.cmark_scan_bytes.specs.Steps.{read_closed, OnEnds};
 
@@ -21,7 +22,7 @@ pub enum Step {
 fn refuses(escaped: bool, refused: u8, over_lines: bool, byte: u8) -> bool
     ensures { result
         ≡
-        ((not escaped && (byte == refused)) || (not over_lines && ((byte == 10) || (byte == 13)))) }
+        ((not escaped && (byte == refused)) || (not over_lines && ((byte == line_feed) || (byte == carriage_return)))) }
 {
     (!escaped && byte == refused) || (!over_lines && (byte == b'\n' || byte == b'\r'))
 }

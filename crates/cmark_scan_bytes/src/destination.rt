@@ -2,6 +2,7 @@
 
 ghost use Rattle.std.specs.Prelude.{◌≡◌, ◌<◌, ◌≤◌, ◌+◌, ℕ, List, Option, false, length, drop, take, slice_index, IfSome, option_map};
 ghost use Rattle.std.specs.Str.{IsCharBoundary};
+ghost use Rattle.cmark_grammar.specs.Characters.{greater_than_sign, less_than_sign};
 ghost use Rattle.cmark_grammar.specs.LinkDefinitions.{Parsed, up_to, bare_byte, bare_in, depth_after};
 ghost use Rattle.cmark_grammar.specs.Destinations.{link_destination_in};
 ghost use Rattle.cmark_scan_bytes.specs.Shown.{shown_cut, cut_after};
@@ -91,10 +92,10 @@ fn bare_size(bytes: &[u8]) -> Option<usize>
 /// The destination in angle brackets whose `<` is at this byte offset of the text.
 fn pointed_dest(text: &str, start_ix: usize) -> Option<Cut<'_>>
     requires within { start_ix < length text.now }
-    requires opens { slice_index text.now start_ix ≡ 60 }
+    requires opens { slice_index text.now start_ix ≡ less_than_sign }
     ensures value { option_map shown_cut result
         ≡ option_map (cut_after text.entry.now)
-        (up_to false 62 60 false (drop (start_ix + 1) text.entry.now)) }
+        (up_to false greater_than_sign less_than_sign false (drop (start_ix + 1) text.entry.now)) }
     ensures within { IfSome result (λ dest. dest.end ≤ length text.entry.now) }
     ensures boundary { IfSome result (λ dest. IsCharBoundary text.entry.now dest.end) }
 {

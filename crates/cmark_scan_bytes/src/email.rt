@@ -2,6 +2,7 @@
 
 ghost use Rattle.std.specs.Prelude.{◌≡◌, ◌≤◌, ◌==◌, length, not};
 ghost use Rattle.std.specs.List.{prefix_len};
+ghost use Rattle.cmark_grammar.specs.Characters.{period};
 ghost use Rattle.cmark_grammar.specs.Autolinks.{is_domain_label, is_domain, is_email};
 
 use crate::bytes::Class;
@@ -21,7 +22,7 @@ fn is_domain_label(bytes: &[u8]) -> bool
 
 /// The number of bytes before the first period, or of all bytes if there is no period.
 fn label_size(bytes: &[u8]) -> usize
-    ensures value { result ≡ prefix_len (λ b. not (b == 46)) bytes.now }
+    ensures value { result ≡ prefix_len (λ b. not (b == period)) bytes.now }
     ensures within { result ≤ length bytes.now }
 {
     bytes.iter().take_while(|byte| **byte != b'.').count()

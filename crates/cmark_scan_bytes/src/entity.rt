@@ -2,6 +2,7 @@
 
 ghost use Rattle.std.specs.Prelude.{◌≡◌, ◌<◌, ◌≤◌, ◌==◌, ◌&&◌, true, nat_lt, nat_le, length, drop, slice_index, EachIndex, encode_utf8, IfSome, option_map};
 ghost use Rattle.std.specs.Str.{IsUtf8, IsCharBoundary};
+ghost use Rattle.cmark_grammar.specs.Characters.{ampersand, semicolon};
 ghost use Rattle.cmark_grammar.specs.Letters.{first_is, after_if, and_then};
 ghost use Rattle.cmark_grammar.specs.Tokens.{is_hexadecimal, digit_of, value_of, character, decimal_in, hexadecimal_in, numeric_in, named_in, entity_in};
 ghost use Rattle.cmark_scan_bytes.specs.Shown.{Closes, shown_entity};
@@ -76,7 +77,7 @@ fn is_closed(bytes: &[u8], count: usize, most: usize) -> bool
     requires { count ≤ length bytes.now }
     ensures { result
         ≡
-        (nat_lt 0 count && (nat_le count most && first_is (λ b. b == 59) (drop count bytes.now))) }
+        (nat_lt 0 count && (nat_le count most && first_is (λ b. b == semicolon) (drop count bytes.now))) }
 {
     0 < count && count <= most && begins_with(&bytes[count..], b';')
 }
@@ -151,7 +152,7 @@ pub fn scan_entity<'e, E: EntityLookup>(bytes: &[u8], entities: &'e E) -> Option
     ensures boundary { IsUtf8 bytes.entry.now
         → IfSome result (λ entity. IsCharBoundary bytes.entry.now entity.len) }
     ensures value { option_map shown_entity result
-        ≡ and_then (after_if (λ b. b == 38) bytes.entry.now)
+        ≡ and_then (after_if (λ b. b == ampersand) bytes.entry.now)
         (entity_in (E.replacement entities.now)) }
 {
     match after_byte(b'&', bytes)? {

@@ -3,6 +3,7 @@
 ghost use Rattle.std.specs.Prelude.{◌≡◌, ◌<◌, ◌++◌, ◌==◌, true, Ok, string_bytes, IfOk, OnOk, IfSome, MatchOption, option_map};
 ghost use Rattle.std.specs.Str.{IsCharBoundary};
 ghost use Rattle.memchr.specs.Find.{FindsNeedle};
+ghost use Rattle.cmark_grammar.specs.Characters.{backslash};
 ghost use Rattle.cmark_grammar.specs.Answers.{Lookup};
 ghost use Rattle.cmark_grammar.specs.Letters.{first_is};
 ghost use Rattle.cmark_grammar.specs.Tokens.{resolved};
@@ -31,7 +32,7 @@ struct Resolved<'t> {
 
 /// The escape at the beginning: a backslash, if ASCII punctuation follows it.
 fn escape_before(text: &str) -> Option<Entity<'_>>
-    requires { first_is (λ b. b == 92) text.now ≡ true }
+    requires { first_is (λ b. b == backslash) text.now ≡ true }
     ensures value { (lookup : Lookup)
         → option_map shown_entity result ≡ resolved_front lookup text.entry.now }
     ensures within { IfSome result

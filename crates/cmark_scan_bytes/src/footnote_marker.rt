@@ -1,6 +1,7 @@
 //! The markers of footnote definitions (this profile's own).
 
 ghost use Rattle.std.specs.Prelude.{◌≡◌, ◌≤◌, ◌+◌, false, length, slice_index, IfSome, option_map};
+ghost use Rattle.cmark_grammar.specs.Characters.{colon, left_bracket, right_bracket};
 ghost use Rattle.cmark_grammar.specs.Footnotes.{footnote_in, label_then_colon};
 ghost use Rattle.cmark_grammar.specs.LinkDefinitions.{up_to, label_if};
 ghost use Rattle.cmark_scan_bytes.specs.Footnotes.{labelled, marked, IsClosed};
@@ -12,10 +13,10 @@ use crate::label_text::is_label;
 /// The number of bytes of the label at the beginning, if it is valid, is on one line, and `]:` follows it.
 fn label_size(bytes: &[u8]) -> Option<usize>
     ensures value { option_map (labelled bytes.now) result
-        ≡ label_then_colon (label_if (up_to false 93 91 false bytes.now)) }
+        ≡ label_then_colon (label_if (up_to false right_bracket left_bracket false bytes.now)) }
     ensures within { IfSome result (λ size. size + 2 ≤ length bytes.now) }
-    ensures bracket { IfSome result (λ size. slice_index bytes.now size ≡ 93) }
-    ensures colon { IfSome result (λ size. slice_index bytes.now (size + 1) ≡ 58) }
+    ensures bracket { IfSome result (λ size. slice_index bytes.now size ≡ right_bracket) }
+    ensures colon { IfSome result (λ size. slice_index bytes.now (size + 1) ≡ colon) }
 {
     let size = closed_size(bytes, b']', b'[', false)?;
     if is_label(&bytes[..size]) && begins_with(&bytes[size + 1..], b':') {
@@ -31,7 +32,7 @@ fn label_size(bytes: &[u8]) -> Option<usize>
 pub fn scan_footnote_marker(words: &[u8]) -> Option<usize>
     ensures value { option_map (marked words.now) result ≡ footnote_in words.now }
     ensures closed { IfSome result (IsClosed words.now) }
-    ensures colon { IfSome result (λ size. slice_index words.now (size + 3) ≡ 58) }
+    ensures colon { IfSome result (λ size. slice_index words.now (size + 3) ≡ colon) }
 {
     match words {
         [b'[', b'^', label @ ..] => label_size(label),

@@ -3,6 +3,7 @@
 ghost use Rattle.std.specs.Prelude.{◌≡◌, ◌+◌, ◌<◌, ◌≤◌, suc, length, drop, take, slice_index, IfSome, option_map};
 ghost use Rattle.std.specs.List.{prefix_len};
 ghost use Rattle.std.specs.Str.{IsCharBoundary};
+ghost use Rattle.cmark_grammar.specs.Characters.{greater_than_sign};
 ghost use Rattle.cmark_grammar.specs.Autolinks.{has_scheme, is_uri_byte, has_address, autolink_in, piped_name_in};
 ghost use Rattle.cmark_scan_bytes.specs.Shown.{shown_cut, cut_at};
 
@@ -45,7 +46,7 @@ fn address_size(emails: bool, bytes: &[u8]) -> Option<usize>
         (λ size. record { bytes = take size bytes.now; following = drop (suc size) bytes.now })
         result ≡ autolink_in emails bytes.now }
     ensures within { IfSome result (λ size. size < length bytes.now) }
-    ensures closed { IfSome result (λ size. slice_index bytes.now size ≡ 62) }
+    ensures closed { IfSome result (λ size. slice_index bytes.now size ≡ greater_than_sign) }
 {
     let size = Class::Uri.count(bytes);
     if has_address(emails, bytes, size) && begins_with(&bytes[size..], b'>') {

@@ -1,5 +1,6 @@
 -- The kinds of HTML blocks, and the names of blocks by their first letter.
 use Rattle.std.specs.Prelude.{ℕ, Bool, ◌==◌, ◌&&◌, ◌||◌, if◌then◌else◌, List, [], ◌∷◌, drop, codes}
+use Rattle.cmark_grammar.specs.Characters.{greater_than_sign}
 use Rattle.cmark_grammar.specs.Leaves.{is_parted}
 use Rattle.cmark_grammar.specs.HtmlBlocks.{is_letter, first_is, starts, holds}
 use Rattle.cmark_scan_lines.specs.declared.html_block.HtmlKind.{HtmlKind}
@@ -16,10 +17,10 @@ kind_number Tag = 7
 
 -- a name may end before a blank, `>` or the line's end, and the name of a block also before `/>`
 abbrev pub ends_name : List ℕ → Bool
-ends_name bs = is_parted bs || first_is (λ b. b == 62) bs
+ends_name bs = is_parted bs || first_is (λ b. b == greater_than_sign) bs
 
 abbrev pub ends_block_name : List ℕ → Bool
-ends_block_name bs = is_parted bs || (first_is (λ b. b == 62) bs || starts (codes "/>") bs)
+ends_block_name bs = is_parted bs || (first_is (λ b. b == greater_than_sign) bs || starts (codes "/>") bs)
 
 -- `!` and a letter
 abbrev pub begins_declaration : List ℕ → Bool

@@ -1,13 +1,14 @@
 -- Lines of leaf blocks in the form of the scanners' results.
 use Rattle.std.specs.Prelude.{◌≡◌, ℕ, ◌+◌, Bool, ◌==◌, ◌&&◌, ◌||◌, not, nat_lt, nat_le, if◌then◌else◌, List, length, drop, slice_range, count_by, Option, Some, None}
 use Rattle.std.specs.List.{prefix_len}
+use Rattle.cmark_grammar.specs.Characters.{asterisk, backtick, hyphen, number_sign, underscore}
 use Rattle.cmark_grammar.specs.Columns.{is_blank_byte}
 use Rattle.cmark_grammar.specs.Leaves.{Fence, are_blank, run, trimmed, is_atx_heading, fence_with}
 use Rattle.cmark_scan_lines.specs.declared.leaf.CodeFence.{CodeFence}
 
 -- `*`, `-` and `_`
 abbrev pub is_break_character : ℕ → Bool
-is_break_character b = (b == 42) || ((b == 45) || (b == 95))
+is_break_character b = (b == asterisk) || ((b == hyphen) || (b == underscore))
 
 -- a byte that is neither this one nor a blank, so that no thematic break of this byte continues here
 abbrev pub stops_break : (character : ℕ) → ℕ → Bool
@@ -19,7 +20,7 @@ level_at n = if nat_lt 0 n && nat_le n 6 then Some n else None
 
 -- the level of the ATX heading that a line is, if it is one (CommonMark 4.2)
 abbrev pub atx_level : List ℕ → Option ℕ
-atx_level bs = if is_atx_heading bs then Some (run 35 bs) else None
+atx_level bs = if is_atx_heading bs then Some (run number_sign bs) else None
 
 -- a fence that was found on a line with this indent
 abbrev pub shown_fence : (indent : ℕ) → List ℕ → CodeFence → Fence
@@ -36,7 +37,7 @@ long_fence indent delimiter bs = if nat_le 3 (run delimiter bs) then Some (fence
 
 -- three or more backticks at the beginning, without backticks after them, as a fence
 abbrev pub backtick_fence : (indent : ℕ) → List ℕ → Option Fence
-backtick_fence indent bs = if nat_le 3 (run 96 bs) && (count_by (λ c. c == 96) (drop (run 96 bs) bs) == 0) then Some (fence_with indent 96 bs) else None
+backtick_fence indent bs = if nat_le 3 (run backtick bs) && (count_by (λ c. c == backtick) (drop (run backtick bs) bs) == 0) then Some (fence_with indent 96 bs) else None
 
 -- whether a line, indented by at most three columns, closes a fence
 abbrev pub closes_with : (delimiter run_length : ℕ) → List ℕ → Bool

@@ -2,6 +2,7 @@
 
 ghost use Rattle.std.specs.Prelude.{◌≡◌, ◌<◌, ◌≤◌, ◌==◌, ◌∷◌, length, drop, map, take_while, option_map, bytes_eq, false};
 ghost use Rattle.std.specs.List.{prefix_len};
+ghost use Rattle.cmark_grammar.specs.Characters.{less_than_sign};
 ghost use Rattle.cmark_grammar.specs.HtmlBlocks.{lower, is_alphanumeric, is_among, first_is, raw_names, block_names, after_slash, begins_raw, begins_block, is_lone_tag, kind_after, html_kind, holds, holds_end};
 ghost use Rattle.cmark_grammar.specs.Tags.{is_name_byte};
 ghost use Rattle.cmark_scan_lines.specs.HtmlLines.{kind_number, names_from, ends_name, ends_block_name, begins_declaration, ends_raw, closes_raw};
@@ -42,7 +43,7 @@ pub fn html_kind(line: &[u8]) -> Option<HtmlKind>
 
 /// The kind of the HTML block that begins with `line`, which is `<` and then `following`.
 fn kind_after(line: &[u8], following: &[u8]) -> Option<HtmlKind>
-    requires { line.now ≡ 60 ∷ following.now }
+    requires { line.now ≡ less_than_sign ∷ following.now }
     ensures { option_map kind_number result ≡ kind_after following.now }
 {
     let size = count_alphanumeric(following);
@@ -162,7 +163,7 @@ fn first_is(bytes: &[u8], byte: u8) -> bool
 /// literally. The line begins with `<`.
 fn scan_html_type_7(line: &[u8]) -> bool
     requires { 0 < length line.now }
-    ensures { line.now ≡ 60 ∷ drop 1 line.now → result ≡ is_lone_tag (drop 1 line.now) }
+    ensures { line.now ≡ less_than_sign ∷ drop 1 line.now → result ≡ is_lone_tag (drop 1 line.now) }
 {
     match scan_tag(line) {
         Some(rest) => are_blank(rest) && !is_raw_name(tag_name(after_slash(&line[1..]))),

@@ -2,6 +2,7 @@
 use Rattle.std.specs.Prelude.{◌≡◌, ℕ, suc, ◌+◌, ◌-◌, ◌*◌, ◌<◌, ◌≤◌, Bool, true, false, not, ◌==◌, ◌&&◌, nat_le, nat_lt, if◌then◌else◌, List, [], ◌∷◌, ◌++◌, take, drop, reverse, length, get_or, slice_index, Option, Some, None}
 use Rattle.std.specs.List.{prefix_len}
 use Rattle.std.specs.Str.{IsCharBoundary}
+use Rattle.cmark_grammar.specs.Characters.{dollar_sign}
 use Rattle.cmark_grammar.specs.Formulas as grammar
 use Rattle.cmark_grammar.specs.Formulas.{is_dollar, no_braces, context_of, after_byte, braces_after, inline_in, display_in}
 use Rattle.cmark_grammar.specs.Letters.{first_is}
@@ -53,7 +54,7 @@ pub record HasListed (text : List ℕ) (dollars : Dollars) : Type 0 where
 -- a dollar sign is at this offset
 pub record IsDollarAt (text : List ℕ) (at : ℕ) : Type 0 where
   pub within : at < length text
-  pub is : slice_index text at ≡ 36
+  pub is : slice_index text at ≡ dollar_sign
 
 -- ## The number of dollar signs visited
 

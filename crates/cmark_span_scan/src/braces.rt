@@ -1,6 +1,7 @@
 //! The contexts into which braces divide a text (this profile's own).
 
 ghost use Rattle.std.specs.Prelude.{◌≡◌, ◌≤◌, ◌<◌, ◌+◌, false, OnOk};
+ghost use Rattle.cmark_grammar.specs.Characters.{left_brace, right_brace};
 ghost use Rattle.cmark_grammar.specs.Formulas.{no_braces, context_of, after_byte};
 ghost use Rattle.cmark_span_scan.specs.Dollars.{shown_braces};
 
@@ -67,7 +68,7 @@ impl Braces {
     fn enter(&mut self) -> Result<(), AllocError>
         requires room { self.old.next < 18446744073709551615 }
         ensures braces { OnOk result
-            (shown_braces self.new ≡ after_byte false 123 (shown_braces self.old)) }
+            (shown_braces self.new ≡ after_byte false left_brace (shown_braces self.old)) }
         ensures next { OnOk result (self.new.next ≤ self.old.next + 1) }
     {
         self.entered.push((self.next % 256) as u8)?;
@@ -78,7 +79,7 @@ impl Braces {
     // Leaves the innermost context; the outermost one gets the next number.
     fn leave(&mut self)
         requires room { self.old.next < 18446744073709551615 }
-        ensures braces { shown_braces self.new ≡ after_byte false 125 (shown_braces self.old) }
+        ensures braces { shown_braces self.new ≡ after_byte false right_brace (shown_braces self.old) }
         ensures next { self.new.next ≤ self.old.next + 1 }
     {
         if self.entered.pop().is_none() {

@@ -3,6 +3,7 @@
 ghost use Rattle.std.specs.Prelude.{◌≡◌, ◌<◌, ◌≤◌, ◌+◌, ◌-◌, ◌^◌, ◌++◌, ◌||◌, ◌==◌, true, false, ℕ, List, length, drop, slice_index, slice_get, get_or, IfOk, IfSome, OnErr, OnOk, Some, None, if◌then◌else◌, option_map};
 ghost use Rattle.std.specs.List.{prefix_len};
 ghost use Rattle.std.specs.Str.{IsCharBoundary};
+ghost use Rattle.cmark_grammar.specs.Characters.{dollar_sign};
 ghost use Rattle.cmark_grammar.specs.Formulas.{is_dollar, is_ink, context_of, closes_formula};
 ghost use Rattle.cmark_grammar.specs.Letters.{first_is};
 ghost use Rattle.cmark_grammar.specs.Tokens.{slice};
@@ -350,7 +351,7 @@ fn formula_up_to(text: &str, start: usize, closer: usize, is_display: bool) -> O
     requires low { 0 < start }
     requires ordered { start ≤ closer }
     requires within { closer < length text.now }
-    requires dollar { slice_index text.now closer ≡ 36 }
+    requires dollar { slice_index text.now closer ≡ dollar_sign }
     ensures value { option_map (shown_formula text.now) result
         ≡
         (if closes_formula is_display (get_or text.now (closer - 1) 0) (drop (closer + 1) text.now)

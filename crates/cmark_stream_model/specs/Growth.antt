@@ -1,6 +1,7 @@
 -- A text that grows at its end. The definitions say which blocks are open after its first lines, and at which lines the earlier blocks stay
 -- as they are.
 use Rattle.std.specs.Prelude.{length, ◌≡◌, ℕ, Bool, true, false, ◌==◌, ◌&&◌, ◌||◌, not, List, [], ◌∷◌, ◌++◌, Option, Some, None}
+use Rattle.cmark_grammar.specs.Characters.{left_bracket, pipe}
 use Rattle.cmark_grammar.specs.Answers.{Lookup}
 use Rattle.cmark_grammar.specs.BlockDocument.{BlockDocument, Reference, join}
 use Rattle.cmark_grammar.specs.Derivation.{document_of}
@@ -102,7 +103,7 @@ module _ (options : Options) (lookup : Lookup) where
 -- a line looks at later lines only if it has an opening bracket or a pipe. The bracket may begin a link reference definition, and the pipe
 -- may begin a table
 abbrev pub looks_ahead : ℕ → Bool
-looks_ahead b = (b == 91) || (b == 124)
+looks_ahead b = (b == left_bracket) || (b == pipe)
 
 abbrev pub are_blind : List Column → Bool
 are_blind [] = true
