@@ -6,7 +6,7 @@ use Rattle.cmark_grammar.specs.Tag.{Tag}
 use Rattle.cmark_grammar.specs.TagEnd.{end_of}
 use Rattle.cmark_grammar.specs.Event.{Event, Start, End, Ranged}
 use Rattle.cmark_grammar.specs.BlockDocument.{BlockKind, Paragraph, TightParagraph, Heading, ThematicBreak, IndentedCode, FencedCode, HtmlBlock, LinkDefinition, MetadataBlock, BlockQuote, BlockList, ListItem, TaskMarker, FootnoteDefinition, DefinitionList, DefinitionListTitle, DefinitionListDefinition, Text, OwnedText, Html, BlockNode, BlockDocument, Nil, Node, Table, TableHead, TableRow, TableCell}
-use Rattle.cmark_grammar.specs.BlockReading.{Reads, Around, Inside, Alone, First, Silent, read_as, over, node_events, first_event, starts_before, first_in, with_first, block_reading}
+use Rattle.cmark_grammar.specs.BlockReading.{Reads, Around, Inside, Alone, First, read_as, over, node_events, first_event, starts_before, first_in, with_first, block_reading}
 use Rattle.cmark_block_model.specs.Balance.{IsSingle, Balanced, Nothing, Single, Element}
 
 abbrev events : List Ranged → List Event

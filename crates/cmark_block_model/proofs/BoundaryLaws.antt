@@ -46,17 +46,18 @@ module _ (E : ℕ → Type 0) where
   title-edged false list kind other start end inside after following s e i a b = (s, e, i, b)
 
   leaf-edged : (text : List ℕ) (options : Options) (lookup : Lookup) (leaf : Leaf) (first : Row) (more : List Row) (after : BlockDocument) → GoodRow E first → GoodRows E more → LeafFront E first leaf → AllAt E after → AllAt E (leaf_then text options lookup leaf first more after)
+  leaf-edged text options lookup ThematicBreakLeaf first more after g gs f a = (start-E E first g, line_end-edge first more g gs, tt, a)
   leaf-edged text options lookup (AtxHeadingLeaf level) first more after g gs f a = (start-E E first g, line_end-edge first more g gs, heading-edged E text options.heading_attributes level first g f, a)
   leaf-edged text options lookup IndentedCodeLeaf first more after g gs f a = (code_place-edge E 4 first g, line_end-edge first more g gs, code-edged E text 4 (first ∷ more) (g, gs), a)
   leaf-edged text options lookup (FencedCodeLeaf fence) first more after g gs f a = (start-E E first g, line_end-edge first more g gs, code-edged E text fence.indented (fenced_lines fence more) (before-good E (closes_fence fence) more gs), a)
   leaf-edged text options lookup (HtmlBlockLeaf kind) first more after g gs f a = (g.begin, line_end-edge first more g gs, html-edged E text (first ∷ more) (g, gs), a)
+  leaf-edged text options lookup (LinkDefinitionLeaf definition) first more after g gs f a = (start-E E first g, line_end-edge first more g gs, tt, a)
   leaf-edged text options lookup (MetadataBlockLeaf kind) first more after g gs f a = (start-E E first g, line_end-edge first more g gs, code-edged E text 0 (lines_before (ends_metadata kind) more) (before-good E (ends_metadata kind) more gs), a)
   leaf-edged text options lookup (TableLeaf alignments) first more after g gs f a = (
     start-E E first g,
     line_end-edge first more g gs,
     (start-E E first g, g.line_end, row_cells-edged E text (length alignments) first g, row_tokens-edged E text (length alignments) (drop 1 more) (rows more gs)),
     a,
-  leaf-edged text options lookup _ first more after g gs f a = (start-E E first g, line_end-edge first more g gs, tt, a)
   )
     where
       rows : (rs : List Row) → GoodRows E rs → GoodRows E (drop 1 rs)

@@ -3,10 +3,10 @@ use Rattle.std.proofs.Common.{ℕ, zero, suc, ◌&&◌, Bool, true, false, List,
 use Rattle.std.specs.Prelude.{nat_le}
 use Rattle.cmark_grammar.specs.Options.{Options}
 use Rattle.cmark_grammar.specs.Rows.{Row, words_of}
-use Rattle.cmark_grammar.specs.Leaves.{Continuation, GoesOn, Closes, Waits, Stops, underlines}
+use Rattle.cmark_grammar.specs.Leaves.{Continuation, Stops, underlines}
 use Rattle.cmark_grammar.specs.HtmlBlocks.{holds_end}
 use Rattle.cmark_grammar.specs.Containers.{Container, is_alert, enter, keeps, strip, is_bare_start, bare_after}
-use Rattle.cmark_grammar.specs.Openings.{Leaf, ThematicBreak, AtxHeading, IndentedCode, FencedCode, HtmlBlock, LinkDefinition, MetadataBlock, Table, Opening, Blank, Nests, Takes, Plain, opens_at, texts, lazily}
+use Rattle.cmark_grammar.specs.Openings.{Leaf, HtmlBlock, Opening, Blank, Nests, Takes, Plain, opens_at, texts, lazily}
 use Rattle.cmark_grammar.specs.Places.{Place, Apart, AfterLazy}
 use Rattle.cmark_grammar.specs.Blocks.{Blocks, Nil as NoBlocks, BlankLine, Paragraph, SetextHeading, LeafBlock, ContainerBlock, join, place_in}
 use Rattle.cmark_block_model.specs.BlocksModel.{within, place_after}

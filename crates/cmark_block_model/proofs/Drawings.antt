@@ -5,8 +5,8 @@ use Rattle.cmark_grammar.specs.Answers.{Lookup}
 use Rattle.cmark_grammar.specs.Options.{Options}
 use Rattle.cmark_grammar.specs.Event.{End, Ranged}
 use Rattle.cmark_grammar.specs.TagEnd.{end_of}
-use Rattle.cmark_grammar.specs.BlockDocument.{BlockKind, Paragraph, TightParagraph, Heading, ThematicBreak, IndentedCode, FencedCode, HtmlBlock, LinkDefinition, MetadataBlock, BlockQuote, BlockList, ListItem, TaskMarker, FootnoteDefinition, DefinitionList, DefinitionListTitle, DefinitionListDefinition, Text, OwnedText, Html, BlockNode, BlockDocument, Nil, Node, Table, TableHead, TableRow, TableCell}
-use Rattle.cmark_grammar.specs.BlockReading.{Reads, Around, Inside, Alone, First, Silent, read_as, over, node_events, starts_of, starts_as, starts_before, first_event, first_in, with_first, block_reading, is_title, title_as, begins_title}
+use Rattle.cmark_grammar.specs.BlockDocument.{BlockKind, LinkDefinition, BlockNode, BlockDocument, Nil, Node}
+use Rattle.cmark_grammar.specs.BlockReading.{Reads, Around, Inside, First, Silent, read_as, over, node_events, starts_of, starts_as, starts_before, first_event, first_in, with_first, block_reading, is_title, title_as, begins_title}
 use Rattle.cmark_grammar.specs.Derivation.{Derives}
 use Rattle.cmark_block_model.specs.DocumentModel.{document}
 use Rattle.cmark_block_model.specs.DrawnDocument.{is_definition, node_unless, settled, without_definitions}

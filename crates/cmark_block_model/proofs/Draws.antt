@@ -37,8 +37,8 @@ abbrev pub completed : Stand → OpenNode → BlockDocument → List OpenNode �
 completed (InList o) v here up loose s = record {
   here = join v.left (Node (node (list_kind o.delimiter o.number (not (o.loose || loose))) v.node.start (end_or o.end s.end)) (join here s.items) s.after);
   up = up;
-completed _ v here up loose s = record { here = join here s.after; up = up }
 }
+completed _ v here up loose s = record { here = join here s.after; up = up }
 
 abbrev pub loose_at : Stand → (blank : Bool) → Blocks → Bool
 loose_at (InList o) blank b = loose_from o.delimiter blank b

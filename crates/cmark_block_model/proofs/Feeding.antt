@@ -9,7 +9,7 @@ use Rattle.cmark_grammar.specs.TableRows.{count_missing, most_filled}
 use Rattle.cmark_grammar.specs.TableTokens.{row_cells, row_tokens}
 use Rattle.cmark_grammar.specs.Rows.{Row, begin_of, start_of}
 use Rattle.cmark_grammar.specs.Leaves.{underlines}
-use Rattle.cmark_grammar.specs.Openings.{Leaf, ThematicBreak, AtxHeading, IndentedCode, FencedCode, HtmlBlock, LinkDefinition, texts, MetadataBlock, Table}
+use Rattle.cmark_grammar.specs.Openings.{Leaf, LinkDefinition, texts, Table}
 use Rattle.cmark_grammar.specs.Blocks.{Blocks, Nil as NoBlocks, Paragraph, SetextHeading, LeafBlock, join as join_blocks}
 use Rattle.cmark_block_model.specs.BlocksByLine.{Between, InParagraph, InLeaf, lines_underline_or, lines_go_on_or, lines_begin, lines_feed}
 use Rattle.cmark_grammar.specs.Tokens.{stretch_then, paragraph_tokens}

@@ -84,8 +84,8 @@ module _ (text : List ℕ) (options : Options) (lookup : Lookup) where
     line_end_push first (delimiter ∷ rows) r,
     (row-taken options (length alignments) (cells_left (length alignments) most_filled rows) left r ahead f.1).1
         ∙ ap (λ k. count_rows options (length alignments) k ahead) (sym (left-push (length alignments) most_filled rows r)),
-  leaf-fits _ first had left r ahead n f = tt
   )
+  leaf-fits _ first had left r ahead n f = tt
 
   pub feed-fits : (o : OpenLines) (b : Bool) (r : Row) (ahead : List Row) (n : ℕ) → r.lazy ≡ false → Fits options b o (r ∷ ahead) n → Fits options false (lines_feed options o r ahead) ahead r.line_end
   feed-fits (Between closed) b r ahead n e f = starts-fit text options lookup closed r ahead e

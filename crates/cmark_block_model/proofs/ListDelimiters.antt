@@ -4,7 +4,7 @@ use Rattle.std.specs.Prelude.{if◌then◌else◌, nat_lt, nat_le}
 use Rattle.cmark_grammar.specs.BlockQuoteKind.{BlockQuoteKind}
 use Rattle.cmark_grammar.specs.Blocks.{Blocks, Nil, BlankLine, Paragraph, SetextHeading, LeafBlock, ContainerBlock, join}
 use Rattle.cmark_block_model.specs.BlocksByLine.{blank_lines}
-use Rattle.cmark_grammar.specs.Containers.{Container, BlockQuote, Item, Footnote, ListDefinition, Marker, marker_of, is_bullet, is_delimiter, digits, delimited, number_of, item_with, item_of, width_with, container_with, with_task, footnote_with, footnote_of, footnote_or, container_of, is_block_quote, block_quote_width}
+use Rattle.cmark_grammar.specs.Containers.{Container, Item, Marker, marker_of, is_bullet, is_delimiter, digits, delimited, number_of, item_with, item_of, width_with, container_with, with_task, footnote_with, footnote_of, footnote_or, container_of, is_block_quote, block_quote_width}
 use Rattle.cmark_grammar.specs.Alerts.{alert_in}
 use Rattle.cmark_grammar.specs.Footnotes.{Footnotes, Off, Gfm, Old, footnotes_in, footnote_in}
 use Rattle.cmark_grammar.specs.LinkDefinitions.{Parsed}

@@ -5,7 +5,7 @@ use Rattle.cmark_grammar.specs.Answers.{Lookup}
 use Rattle.cmark_grammar.specs.Options.{Options}
 use Rattle.cmark_grammar.specs.Rows.{Row}
 use Rattle.cmark_grammar.specs.Containers.{keeps, strip, strip_as, is_bare_start, bare_after}
-use Rattle.cmark_grammar.specs.Openings.{Leaf, ThematicBreak, AtxHeading, IndentedCode, FencedCode, HtmlBlock, LinkDefinition, lazily, MetadataBlock, Table}
+use Rattle.cmark_grammar.specs.Openings.{Leaf, lazily, Table}
 use Rattle.cmark_grammar.specs.Blocks.{Nil as NoBlocks, ContainerBlock, join as join_blocks, after_leaf}
 use Rattle.cmark_grammar.specs.Places.{allows_lazy}
 use Rattle.cmark_block_model.specs.BlocksModel.{within}

@@ -112,8 +112,8 @@ leaf-rectangular text options lookup (TableLeaf alignments) first more after h =
   (refl, row-counted text (length alignments) first, rows-counted text (length alignments) (drop 1 more)),
   (tt, row-rectangular text (length alignments) first, rows-rectangular text (length alignments) (drop 1 more)),
   h,
-leaf-rectangular text options lookup _ first more after h = (tt, tt, h)
 )
+leaf-rectangular text options lookup _ first more after h = (tt, tt, h)
 
 task-rectangular : (task : Option Bool) (start end : ℕ) (inside : BlockDocument) → HasRectangularTables inside → HasRectangularTables (task_then task start end inside)
 task-rectangular None start end inside h = h

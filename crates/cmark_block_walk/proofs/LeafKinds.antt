@@ -1,6 +1,6 @@
 -- The nodes that are leaves, and the nodes inside them.
 use Rattle.std.proofs.Common.{◌≡◌, Bool, true, false, if◌then◌else◌, List, [], ◌∷◌, refl, ap, ◌∙◌}
-use Rattle.cmark_grammar.specs.BlockDocument.{BlockKind, Paragraph, TightParagraph, Heading, ThematicBreak, IndentedCode, FencedCode, HtmlBlock, LinkDefinition, MetadataBlock, BlockQuote, BlockList, ListItem, TaskMarker, FootnoteDefinition, DefinitionList, DefinitionListTitle, DefinitionListDefinition, Text, OwnedText, Html, BlockDocument, Nil, Node, Table, TableHead, TableRow, TableCell}
+use Rattle.cmark_grammar.specs.BlockDocument.{BlockKind, Paragraph, TightParagraph, Heading, ThematicBreak, LinkDefinition, TaskMarker, DefinitionListTitle, Text, OwnedText, Html, BlockDocument, Nil, Node}
 use Rattle.cmark_grammar.specs.BlockReading.{Around, Inside, Alone, First, Silent, read_as}
 use Rattle.cmark_block_model.specs.DrawnDocument.{kind_within, settled}
 use Rattle.cmark_grammar.specs.LeafText.{Stretch, Leaf}

@@ -31,9 +31,7 @@ verbatim-closes text options lookup (leaf.Table columns left has_delimiter) wait
   ap (λ x. close_leaf text options lookup x m) s.0
       ∙ ap {A = Drawing} {B = model.Pass} (λ d. record m { drawing = closed_at m.line_end d; leaf = model.Closed }) (sym (drawn-nothing m.drawing))
       ∙ ap {A = Option Stretch} {B = model.Pass} (λ w. record m { drawing = closed_at m.line_end (drawn (texts_of (rest_of (shown_waits text w))) m.drawing); leaf = model.Closed }) (sym v),
-verbatim-closes text options lookup _ waits blanks o m v s = absurd v
 )
-verbatim-closes text options lookup (leaf.Indented others end) waits blanks o m v s = absurd v
 verbatim-closes text options lookup (leaf.Fenced delimiter run_length indent others) waits blanks o m v s = (
   s.3,
   ap (λ x. close_leaf text options lookup x m) s.2
@@ -50,3 +48,4 @@ verbatim-closes text options lookup (leaf.Metadata kind others) waits blanks o m
   ap (λ x. close_leaf text options lookup x m) s.0
       ∙ ap {A = Option Stretch} {B = model.Pass} (λ w. record m { drawing = closed_at m.line_end (drawn (texts_of (rest_of (shown_waits text w))) m.drawing); leaf = model.Closed }) (sym v),
 )
+verbatim-closes text options lookup _ waits blanks o m v s = absurd v

@@ -5,7 +5,7 @@ use Rattle.cmark_grammar.specs.Answers.{Lookup}
 use Rattle.cmark_grammar.specs.Options.{Options}
 use Rattle.cmark_grammar.specs.Rows.{Row, rows_from, shown, show_as}
 use Rattle.cmark_grammar.specs.Containers.{is_bare_start, bare_after}
-use Rattle.cmark_grammar.specs.Openings.{Leaf, ThematicBreak, AtxHeading, IndentedCode, FencedCode, HtmlBlock, LinkDefinition, MetadataBlock, Table}
+use Rattle.cmark_grammar.specs.Openings.{Leaf, Table}
 use Rattle.cmark_grammar.specs.Blocks.{after_leaf}
 use Rattle.cmark_grammar.specs.Places.{allows_lazy}
 use Rattle.cmark_block_model.specs.BlocksByLine.{Verbatim, Indented, Fenced, HtmlLines, Metadata, OpenLines, Between, AfterTag, InParagraph, InLeaf, InVerbatim, InContainer, lines_take_lazy, lines_feed}

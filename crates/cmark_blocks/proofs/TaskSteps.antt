@@ -5,7 +5,7 @@ use Rattle.std.specs.Prelude.{if◌then◌else◌}
 use Rattle.std.proofs.lemmas.List.Sums.{take_while-cons}
 use Rattle.cmark_grammar.specs.Answers.{Lookup}
 use Rattle.cmark_grammar.specs.Columns.{Column, is_blank, is_blank_byte, without_indent, bytes_of}
-use Rattle.cmark_grammar.specs.Containers.{Container, BlockQuote, Item, Footnote, ListDefinition, is_alert, marker_width, enter}
+use Rattle.cmark_grammar.specs.Containers.{Container, BlockQuote, Item, is_alert, marker_width, enter}
 use Rattle.cmark_grammar.specs.Leaves.{are_blank}
 use Rattle.cmark_grammar.specs.Letters.{first_is}
 use Rattle.cmark_grammar.specs.Openings.{Blank, Plain, opens, opens_at}

@@ -437,8 +437,6 @@ pub record IsSeeking (first : Run) (ss : List Standing) (before : ℕ) (bottoms 
   pub is : sought first ss ≡ with_more more (sought closer now)
   pub counted : before + more ≤ examined
 
-}
-
 pub seeking-next : (first closer : Run) (ss : List Standing) (before examined later : ℕ) (old new : OpenersBottom) (o r : code_run.Run) (stack front next : List code_run.Run) (i : ℕ) → IsSeeking first ss before old stack closer examined → IsNearest closer old.inactive_below stack i → o ≡ get_or stack i o
     → front ≡ take i stack → AreBottoms new front → ((other : Run) → bottom_of new other ≤ bottom_of old other) → new.inactive_below ≡ min old.inactive_below i → next ≡ with_rest r front → shown_run r ≡ rest_of_opener (shown_run o) closer → later ≡ examined + (length stack - i)
     → IsSeeking first ss before new next (rest_of_closer (shown_run o) closer) later

@@ -9,7 +9,7 @@ use Rattle.std.proofs.lemmas.Str.{IsUtf8-from_ascii, IsUtf8-nil, is_utf8-from_Is
 use Rattle.cmark_grammar.specs.Alignment.{Alignment, Unaligned, Left, Center, Right}
 use Rattle.cmark_grammar.specs.Attributes.{Attribute}
 use Rattle.cmark_grammar.specs.CodeBlockKind.{Indented, Fenced}
-use Rattle.cmark_grammar.specs.Event.{Event, Ranged, Start, End, Text, Code, InlineMath, DisplayMath, Html, InlineHtml, FootnoteReference, SoftBreak, HardBreak, Rule, TaskListMarker}
+use Rattle.cmark_grammar.specs.Event.{Event, Ranged, Start, Text, Code, InlineMath, DisplayMath, Html, InlineHtml, FootnoteReference}
 use Rattle.cmark_grammar.specs.Tag as tag
 use Rattle.cmark_grammar.specs.Tag.{Tag, Linked}
 use Rattle.cmark_flat.specs.Decode.{◌>>=◌, each, groups, ranged_of}

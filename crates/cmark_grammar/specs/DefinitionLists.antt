@@ -2,7 +2,7 @@
 use Rattle.std.specs.Prelude.{ℕ, Bool, true, false, ◌&&◌, not, nat_le, if◌then◌else◌, Option, Some, None}
 use Rattle.cmark_grammar.specs.Characters.{colon}
 use Rattle.cmark_grammar.specs.Rows.{Row, indent_of, words_of}
-use Rattle.cmark_grammar.specs.Containers.{Container, BlockQuote, Item, Footnote, ListDefinition, begins_with, width_with}
+use Rattle.cmark_grammar.specs.Containers.{Container, ListDefinition, begins_with, width_with}
 use Rattle.cmark_grammar.specs.Options.{Options}
 use Rattle.cmark_grammar.specs.Places.{Place, is_after_title}
 

@@ -2,7 +2,7 @@
 use Rattle.std.specs.Prelude.{ℕ, List, [], ◌∷◌, ◌++◌}
 use Rattle.cmark_grammar.specs.Event as event
 use Rattle.cmark_grammar.specs.Event.{Event, Start, End, Ranged}
-use Rattle.cmark_grammar.specs.Items.{ItemKind, Plain, Own, Written, Quoted, Delimiters, Code, InlineMath, DisplayMath, Autolink, Html, OwnedHtml, FootnoteReference, SoftBreak, HardBreak, Item}
+use Rattle.cmark_grammar.specs.Items.{ItemKind, Written, Code, InlineMath, DisplayMath, Html, OwnedHtml, FootnoteReference, SoftBreak, HardBreak, Item}
 use Rattle.cmark_grammar.specs.Siblings.{Inline, Nil, Single, Around}
 use Rattle.cmark_grammar.specs.TagEnd.{end_of}
 use Rattle.cmark_grammar.specs.Tokens.{slice}

@@ -1,7 +1,7 @@
 -- The link reference definitions of a document: the first of each label counts (CommonMark 4.7). Example: of `[a]: /b` and a later
 -- `[A]: /c` only the first counts.
 use Rattle.std.specs.Prelude.{ℕ, Bool, true, false, List, [], ◌∷◌, ◌++◌, bytes_eq, Option, Some, None, ◌≡◌}
-use Rattle.cmark_grammar.specs.BlockDocument.{Reference, BlockKind, Paragraph, TightParagraph, Heading, ThematicBreak, IndentedCode, FencedCode, HtmlBlock, LinkDefinition, MetadataBlock, BlockQuote, BlockList, ListItem, TaskMarker, FootnoteDefinition, DefinitionList, DefinitionListTitle, DefinitionListDefinition, Text, OwnedText, Html, BlockDocument, Nil, Node, Table, TableHead, TableRow, TableCell}
+use Rattle.cmark_grammar.specs.BlockDocument.{Reference, BlockKind, LinkDefinition, BlockDocument, Nil, Node}
 
 abbrev pub reference_of_kind : BlockKind → List Reference
 reference_of_kind (LinkDefinition reference) = reference ∷ []

@@ -4,7 +4,7 @@ use Rattle.std.specs.Prelude.{◌≡◌, ℕ, zero, suc, Bool, true, false, ◌|
 use Rattle.cmark_grammar.specs.Answers.{Lookup}
 use Rattle.cmark_grammar.specs.BlockDocument.{BlockKind, TableCell, FootnoteDefinition, BlockNode, BlockDocument, Nil, Node}
 pub use Rattle.cmark_grammar.specs.BlockReading.{is_leaf}
-use Rattle.cmark_grammar.specs.BlockReading.{Reads, Around, Inside, Alone, First, Silent, read_as, over, first_event, starts_before}
+use Rattle.cmark_grammar.specs.BlockReading.{Reads, Around, Inside, Alone, read_as, over, first_event, starts_before}
 use Rattle.cmark_grammar.specs.Derivation.{Derives}
 use Rattle.cmark_grammar.specs.Event.{Event, Start, End, Ranged}
 use Rattle.cmark_grammar.specs.Labels.{fold}

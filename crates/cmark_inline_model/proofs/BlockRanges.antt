@@ -4,7 +4,7 @@ use Rattle.std.specs.Str.{IsCharBoundary}
 use Rattle.std.proofs.Common.{ℕ, zero, suc, ◌≤◌, Bool, true, false, List, [], ◌∷◌, ◌++◌, length, arith}
 use Rattle.cmark_grammar.specs.Answers.{Lookup}
 use Rattle.cmark_grammar.specs.BlockDocument.{BlockDocument, BlockNode, Nil, Node}
-use Rattle.cmark_grammar.specs.BlockReading.{Alone, Around, First, Inside, Reads, Silent, first_event, is_leaf, over, read_as, starts_before}
+use Rattle.cmark_grammar.specs.BlockReading.{Alone, Around, First, Inside, Reads, first_event, is_leaf, over, read_as, starts_before}
 use Rattle.cmark_grammar.specs.Derivation.{Derives}
 use Rattle.cmark_grammar.specs.Event.{End, Ranged}
 use Rattle.cmark_inline_model.specs.LeafSpans.{IsRange}

@@ -5,7 +5,7 @@ use Rattle.cmark_grammar.specs.Tag.{Tag}
 use Rattle.cmark_grammar.specs.Event.{Ranged, Start, End}
 use Rattle.std.proofs.Common.{Bool, true, false, ℕ, ◌≤◌, List, [], ◌∷◌, ◌++◌, arith, ◌≡◌, refl, sym, true≢false, zero, suc, ◌⊎◌, inl, inr, ap, ◌∙◌, subst}
 use Rattle.cmark_grammar.specs.BlockDocument.{BlockKind, Paragraph, TightParagraph, Heading, ThematicBreak, IndentedCode, FencedCode, HtmlBlock, LinkDefinition, MetadataBlock, BlockQuote, BlockList, ListItem, TaskMarker, FootnoteDefinition, DefinitionList, DefinitionListTitle, DefinitionListDefinition, Text, OwnedText, Html, BlockNode, BlockDocument, Nil, Node, Table, TableHead, TableRow, TableCell}
-use Rattle.cmark_grammar.specs.BlockReading.{Reads, Around, Inside, Alone, First, Silent, starts_before, over, first_event, read_as, is_leaf, is_title, title_as, begins_title, starts_of, starts_as}
+use Rattle.cmark_grammar.specs.BlockReading.{Reads, Around, Inside, First, Silent, starts_before, over, first_event, read_as, is_leaf, is_title, title_as, begins_title, starts_of, starts_as}
 use Rattle.cmark_grammar.specs.LeafText.{InTurn}
 use Rattle.cmark_block_model.specs.Ranges.{InOrder}
 use Rattle.cmark_grammar.specs.SpanDocuments.{Segment, Given, Content, stretches_of, inside_of, node_segments, first_of_segments, with_first_segment, segments, leaf_of}

@@ -3,7 +3,7 @@ use Rattle.std.specs.Prelude.{if◌then◌else◌, get_or, nat_le, ◌==◌, max
 use Rattle.std.proofs.Common.{◌≡◌, ℕ, zero, suc, ◌+◌, ◌*◌, ◌<◌, ◌≤◌, Bool, true, false, List, [], ◌∷◌, ◌++◌, length, refl, ap, ◌∙◌, arith, Some, None}
 use Rattle.std.proofs.lemmas.List.{length-append}
 use Rattle.cmark_grammar.specs.BlockDocument.{BlockKind, BlockNode, BlockDocument, Nil as NoNodes, Node}
-use Rattle.cmark_grammar.specs.BlockReading.{Reads as ReadsAs, Around as AroundNode, Inside, Alone, First, Silent, first_event, is_leaf, read_as, over, starts_before}
+use Rattle.cmark_grammar.specs.BlockReading.{Reads as ReadsAs, Around as AroundNode, Inside, First, first_event, is_leaf, read_as, over, starts_before}
 use Rattle.cmark_grammar.specs.BracketDecisions.{decide}
 use Rattle.cmark_grammar.specs.BracketReading.{Reads}
 use Rattle.cmark_grammar.specs.BracketStates.{State, StaysText, Forms, moved, opened}

@@ -7,7 +7,7 @@ use Rattle.cmark_inline_model.specs.EmphasisModel.{spans_of}
 use Rattle.cmark_grammar.specs.Event.{Start, End, Ranged}
 use Rattle.cmark_grammar.specs.Flanking.{is_delimiter_run}
 use Rattle.cmark_grammar.specs.InlineReading.{event_of, inline_events, over}
-use Rattle.cmark_grammar.specs.Items.{ItemKind, Plain, Own, Written, Quoted, Delimiters, Code, InlineMath, DisplayMath, Autolink, Html, OwnedHtml, FootnoteReference, SoftBreak, HardBreak, Item}
+use Rattle.cmark_grammar.specs.Items.{ItemKind, Own, InlineMath, DisplayMath, FootnoteReference, Item}
 use Rattle.cmark_grammar.specs.LinkType as link_type
 use Rattle.cmark_grammar.specs.Options.{Options}
 use Rattle.cmark_grammar.specs.Parts.{Parts, Nil as NoParts, Single as SinglePart, Form, Closing, Opening, Linking, Footnote, Wiki}

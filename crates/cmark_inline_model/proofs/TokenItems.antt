@@ -14,7 +14,7 @@ use Rattle.cmark_grammar.specs.Flanking.{is_delimiter_run, is_intraword, opens_b
 use Rattle.cmark_grammar.specs.Formulas.{is_dollar, Braces, no_braces, braces_after, inline_in, display_in}
 use Rattle.cmark_grammar.specs.InlineHtml.{after_markup, takes_lines}
 use Rattle.cmark_grammar.specs.InlineTokens.{item_at, bracket, is_plain, from, before, character_before, character_at, break_or, code_or, escaped_backtick, escape_at, entity_or, autolink_or, tag_or_text, source_from, markup_or, less_than, run_at, formula_or, dollar, dots, hyphens, quote_at, smart_or, begins, begins_at, plain_end, longest, token, size_to, place_of}
-use Rattle.cmark_grammar.specs.Items.{ItemKind, Plain, Written, Html, OwnedHtml, Delimiters, InlineMath, DisplayMath, SoftBreak, HardBreak, Item, Bracket, Token, Stands, Opens, Closes, Ends, Own, Code, Autolink, Quoted}
+use Rattle.cmark_grammar.specs.Items.{ItemKind, Plain, Written, Html, OwnedHtml, Delimiters, InlineMath, DisplayMath, SoftBreak, HardBreak, Item, Bracket, Token, Stands, Opens, Closes, Own, Code, Autolink, Quoted}
 use Rattle.cmark_grammar.specs.LabelsOverLines.{piped}
 use Rattle.cmark_grammar.specs.LeafText.{Leaf}
 use Rattle.cmark_grammar.specs.Letters.{first_is, starts}

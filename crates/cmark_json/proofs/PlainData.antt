@@ -4,7 +4,7 @@ use Rattle.cmark_grammar.specs.Alignment.{Alignment}
 use Rattle.cmark_grammar.specs.Attributes.{Attribute, Attributes}
 use Rattle.cmark_grammar.specs.BlockQuoteKind.{BlockQuoteKind, Note, Tip, Important, Warning, Caution}
 use Rattle.cmark_grammar.specs.CodeBlockKind.{CodeBlockKind, Indented, Fenced}
-use Rattle.cmark_grammar.specs.Event.{Event, Start, End, Text, Code, InlineMath, DisplayMath, Html, InlineHtml, FootnoteReference, SoftBreak, HardBreak, Rule, TaskListMarker}
+use Rattle.cmark_grammar.specs.Event.{Event, Start, End}
 use Rattle.cmark_grammar.specs.LinkType.{LinkType, Inline, Reference, ReferenceUnknown, Collapsed, CollapsedUnknown, Shortcut, ShortcutUnknown, Autolink, Email, WikiLink}
 use Rattle.cmark_grammar.specs.Tag as tag
 use Rattle.cmark_grammar.specs.Tag.{Tag, Linked}

@@ -162,8 +162,6 @@ pipe_found bs n h = found_at bs n h.1 (λ k lt. h.0.before k (omega arith) lt) �
 pub no_pipe : (bs : List ℕ) → FindsNeedle bs escaped_pipe 0 None → with_escaped_pipes bs ≡ bs
 no_pipe bs h = none_at bs (λ k lt. h k (omega arith) lt)
 
-)
-
 -- boundaries after escapes
 pub punctuation_is_ascii : (b : ℕ) → IsAsciiPunctuation b → b < 128
 punctuation_is_ascii b h =

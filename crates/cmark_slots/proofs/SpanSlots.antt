@@ -286,8 +286,6 @@ pub record WritesOn (options : Options) (all left : List Span) (old now : List S
   pub before : (low : ℕ) → BeginFrom low all → SameBefore low old now × BeginFrom low left
   pub views : (leaf : LeafText) (texts : List CowStr) (links : List Link) → write_spans options left (shown_slots leaf texts links now) ≡ write_spans options all (shown_slots leaf texts links old)
 
-}
-
 -- some more of them are written
 pub writes-more : (options : Options) (all mine left : List Span) (old now new : List Slot) → WritesOn options all (mine ++ left) old now → KeepsSlots now new
     → ((others : List Span) → CanWrite now (mine ++ others) → CanWrite new others) → ((low : ℕ) → BeginFrom low mine → SameBefore low now new)

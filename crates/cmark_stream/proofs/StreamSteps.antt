@@ -134,10 +134,6 @@ module _ {E : Type 0} (replacement : E → Lookup) (s : Stream E) where
   }
 
 module _ {E : Type 0} (replacement : E → Lookup) (old : Stream E) (h : IsStream replacement old) where
-  }
-
-  }
-
   module _ (rest : Rest) (r : IsRest replacement old rest) (read : ℕ) (all : read ≡ length (text_of old)) where
     kept-later : rest.cut ≢ 0 → kept_at rest.cut (settled_of old) ≡ settled_of old
     kept-later later = go rest.cut refl

@@ -19,7 +19,7 @@ use Rattle.cmark_grammar.specs.TableRows.{table_head, table_interrupts}
 use Rattle.cmark_grammar.specs.Openings.{Leaf, ThematicBreak, AtxHeading, IndentedCode, FencedCode, HtmlBlock, LinkDefinition, MetadataBlock, Table, Opening, Blank, Nests, Takes, Plain, or_else, nests_if, fenced_if, html_if, break_if, heading_if, metadata_begun, defined_if, begins_no_link, interrupts, texts, lazily, text_lines, definition_of, table_if, text_of, leaf_of, whole_opens, opens, opens_at}
 use Rattle.cmark_grammar.specs.Blocks.{Blocks, Nil, BlankLine, Paragraph, LeafBlock, join, place_in}
 use Rattle.cmark_block_model.specs.BlocksModel.{within, place_after}
-use Rattle.cmark_block_model.specs.BlocksByLine.{OpenLines, Between, AfterTag, InParagraph, InLeaf, InVerbatim, InContainer, close_lines, lines_take_lazy, html_begun, leaf_begun, lines_begin_as, lines_begin_in, lines_begin}
+use Rattle.cmark_block_model.specs.BlocksByLine.{OpenLines, InParagraph, InContainer, close_lines, lines_take_lazy, html_begun, leaf_begun, lines_begin_as, lines_begin_in, lines_begin}
 use Rattle.cmark_stream_model.specs.Growth.{is_blank, Parts, are_blind, has_blank_line, are_resolved, is_outside_of_lists, stands_apart, last_list, may_continue}
 use Rattle.cmark_stream_model.proofs.GrowingTables.{same-apart}
 use Rattle.cmark_stream_model.proofs.SettledCuts.{resolved-append, last-join}

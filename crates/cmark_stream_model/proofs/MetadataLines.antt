@@ -12,7 +12,7 @@ use Rattle.cmark_grammar.specs.Rows.{Row, row_at, without, hold, place, first_pl
 use Rattle.cmark_grammar.specs.HtmlBlocks.{holds_end}
 use Rattle.cmark_grammar.specs.Leaves.{Continuation, GoesOn, Closes, Waits, Stops, underlines}
 use Rattle.cmark_grammar.specs.Containers.{Container, BlockQuote, Item, Footnote, ListDefinition, is_block_quote, block_quote_width, marker_width, width_of, enter, keep_as, keeps, strip_as, strip, is_alert, is_bare_start, bare_after}
-use Rattle.cmark_grammar.specs.Openings.{Leaf, ThematicBreak, AtxHeading, IndentedCode, FencedCode, HtmlBlock, LinkDefinition, MetadataBlock, Table, Opening, Blank, Nests, Takes, Plain, opens_at, texts, lazily}
+use Rattle.cmark_grammar.specs.Openings.{Leaf, HtmlBlock, Opening, Blank, Nests, Takes, Plain, opens_at, texts, lazily}
 use Rattle.cmark_grammar.specs.Blocks.{Blocks, Nil, Paragraph, SetextHeading, LeafBlock, ContainerBlock, join, place_in}
 use Rattle.cmark_block_model.specs.BlocksModel.{within, place_after}
 use Rattle.cmark_block_model.specs.BlocksByLine.{leaf_in, continuation_if, OpenLines, Between, AfterTag, InParagraph, InLeaf, InVerbatim, InContainer, blank_lines, close_lines, lines_take_lazy, html_begun, leaf_begun, lines_inside_begun, lines_begin_as, lines_begin_in, lines_begin, lines_underline_or, lines_go_on_or, lines_kept_or, verbatim_line, lines_feed}

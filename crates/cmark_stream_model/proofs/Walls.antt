@@ -10,7 +10,7 @@ use Rattle.cmark_grammar.specs.Metadata.{metadata_of, has_metadata, metadata_if,
 use Rattle.cmark_grammar.specs.Options.{Options}
 use Rattle.cmark_grammar.specs.Places.{Place, Apart, AfterLazy, is_after_task}
 use Rattle.cmark_grammar.specs.Rows.{Row, rows, shown, show_as, is_bare, is_blank_line, is_whole_line, indent_of, words_of}
-use Rattle.cmark_grammar.specs.Leaves.{Fence, Continuation, GoesOn, Closes, Waits, Stops, underlines, is_thematic_break, is_atx_heading, run, fence_of, counted, code_continuation}
+use Rattle.cmark_grammar.specs.Leaves.{Fence, Continuation, Stops, underlines, is_thematic_break, is_atx_heading, run, fence_of, counted, code_continuation}
 use Rattle.cmark_grammar.specs.LinkDefinitions.{definition_in, further_bytes, bytes_over}
 use Rattle.cmark_grammar.specs.HtmlBlocks.{html_kind}
 use Rattle.cmark_grammar.specs.Containers.{Container, is_alert, enter, keeps, strip, strip_as, strips, is_bare_start, bare_after, container_of, width_of}

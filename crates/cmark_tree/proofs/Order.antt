@@ -6,5 +6,3 @@ zero_or zero = inl refl
 zero_or (suc n) = inr (omega arith)
 
 module _ {T : Type 0} where
-
-  ]

@@ -23,8 +23,6 @@ hits-one (suc n) k lt le = elim (same_or_not k (suc n)) [
   | inr ne ↦ omega (arith, hits-one n k lt (omega (arith, le, ne)))
 ]
 
-]
-
 module _ {T : Type 0} where
   -- the number of times that a place occurs, part by part
   pub times-at : (i : ℕ) (left : Forest (Placed T)) (p : Placed T) (inside after : Forest (Placed T)) (up : List (Level T)) → times i (plug up (join left (Node p inside after))) ≡ (times i left + (hit p.ix i + (times i inside + times i after))) + outside i up
