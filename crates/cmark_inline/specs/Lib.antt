@@ -16,6 +16,7 @@ pub mod MarkupInSource
 pub mod Paid
 pub mod PlainStretches
 pub mod Reached
+pub mod Readings
 pub mod ReadsLeafOn
 pub mod ReadsOn
 pub mod Resolved

@@ -32,7 +32,8 @@ impl<'a> InlineState<'a> {
     ) -> Result<Cursor, AllocError>
         requires byte { IsAtByte text.now here self.old }
         ensures reads_on { ReadsOn text.now here self.old self.new result }
-        ensures token { (lookup : Lookup) (is_cell : Bool) → slice_index text.now here.at ≡ exclamation_mark
+        ensures token { (lookup : Lookup) (is_cell : Bool)
+            → slice_index text.now here.at ≡ exclamation_mark
             → IfOk result
             (λ next. Passes (shown_options options) lookup is_cell text.now here self.old self.new
             next

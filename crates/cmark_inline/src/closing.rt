@@ -7,6 +7,7 @@ ghost use Rattle.cmark_inline.specs.AtCloser.{AsksLeft, CanLink, DropsAfterBrack
 ghost use Rattle.cmark_inline.specs.TextOf.{IsTextOf};
 ghost use Rattle.cmark_inline.specs.Closers.{AsksOfCloser, AsksOfLink, Closes, DeactivatesAfter, LinksTaken};
 ghost use Rattle.cmark_slots.specs.Standing.{AreEnded, CanSettle, IsSettled};
+ghost use Rattle.cmark_inline.specs.Readings.{reading_of};
 ghost use Rattle.cmark_inline.specs.Sound.{IsSound, IsTakenFrom};
 ghost use Rattle.cmark_inline.specs.Stands.{IsAtByte, Stands, IsTarget};
 ghost use Rattle.cmark_slots.specs.Slots.{HoldNoLink, IsBracket};
@@ -57,13 +58,11 @@ impl<'a> InlineState<'a> {
         requires sound { IsSound self.old }
         requires ready { F.ready callback.old }
         ensures closes { IfOk result
-            (λ next. Closes F.answers (shown_options reader.now.options)
-            (E.replacement reader.now.entities.now) reader.now.references.now footnotes.old
+            (λ next. reading_of E.replacement reader.now (Closes F.answers) footnotes.old
             footnotes.new leaf.now text.now here.pending here.at self.old self.new next callback.old
             callback.new) }
         ensures stops { OnErr result
-            (AsksOfCloser F.answers (shown_options reader.now.options)
-            (E.replacement reader.now.entities.now) reader.now.references.now footnotes.old leaf.now
+            (reading_of E.replacement reader.now (AsksOfCloser F.answers) footnotes.old leaf.now
             text.now here.at self.old callback.old callback.new) }
         ensures asks { AsksLeft F.ready F.answers self.old self.new callback.old callback.new }
         ensures uses { UsesUpTo 1 footnotes.old footnotes.new }
@@ -112,13 +111,11 @@ impl<'a> InlineState<'a> {
         requires close { IsPart text.now close (close + 1) }
         requires ready { F.ready callback.old }
         ensures links { IfOk result
-            (λ next. LinksTaken F.answers (shown_options reader.now.options)
-            (E.replacement reader.now.entities.now) reader.now.references.now leaf.now text.now
+            (λ next. reading_of E.replacement reader.now (LinksTaken F.answers) leaf.now text.now
             taken close self.old self.new next callback.old callback.new) }
         ensures stops { OnErr result
-            (AsksOfLink F.answers (shown_options reader.now.options)
-            (E.replacement reader.now.entities.now) reader.now.references.now leaf.now text.now
-            taken close self.old callback.old callback.new) }
+            (reading_of E.replacement reader.now (AsksOfLink F.answers) leaf.now text.now taken
+            close self.old callback.old callback.new) }
         ensures asks { AsksLeft F.ready F.answers self.old self.new callback.old callback.new }
         ensures steps { self.new.steps ≡ self.old.steps }
         ensures goes_on { IfOk result (GoesOn text.now close self.old self.new) }
@@ -171,13 +168,11 @@ impl<'a> InlineState<'a> {
         requires text { IsTextOf leaf.now text.now }
         requires ready { F.ready callback.old }
         ensures decides { IfOk result
-            (λ found. TargetDecides F.answers (shown_options reader.now.options)
-            (E.replacement reader.now.entities.now) reader.now.references.now leaf.now text.now
-            bracket close self.old self.new found callback.old callback.new) }
+            (λ found. reading_of E.replacement reader.now (TargetDecides F.answers) leaf.now
+            text.now bracket close self.old self.new found callback.old callback.new) }
         ensures stops { OnErr result
-            (AsksOfTarget F.answers (shown_options reader.now.options)
-            (E.replacement reader.now.entities.now) reader.now.references.now leaf.now text.now
-            bracket close self.old callback.old callback.new) }
+            (reading_of E.replacement reader.now (AsksOfTarget F.answers) leaf.now text.now bracket
+            close self.old callback.old callback.new) }
         ensures asks { AsksLeft F.ready F.answers self.old self.new callback.old callback.new }
         ensures others { self.new
             ≡ record self.old

@@ -73,7 +73,8 @@ impl<'a> InlineState<'a> {
         ensures moves { IfOk result (Moves text.now here.at self.new) }
         ensures token { (options : Options) (lookup : Lookup) (is_cell : Bool)
             → options.smart_punctuation ≡ true
-            → (slice_index text.now here.at ≡ quotation_mark) ⊎ (slice_index text.now here.at ≡ apostrophe)
+            → (slice_index text.now here.at ≡ quotation_mark)
+            ⊎ (slice_index text.now here.at ≡ apostrophe)
             → IfOk result (AppendsQuote options lookup is_cell text.now here self.old self.new) }
     {
         let end = following(text, here.at);

@@ -5,6 +5,7 @@ ghost use Rattle.std.specs.Str.{IsCharBoundary};
 ghost use Rattle.cmark_grammar.specs.Characters.{right_bracket};
 ghost use Rattle.cmark_leaf_text.specs.Reads.{IsRead, source_of, text_of};
 ghost use Rattle.cmark_inline.specs.LeafPass.{CanReadOn, Fails, FindsToken, IsLaidOut, PassesTo, ReadsWholly, StaysBetween, StaysWithin};
+ghost use Rattle.cmark_inline.specs.Readings.{reading_of};
 ghost use Rattle.cmark_inline.specs.ReadsLeafOn.{ReadsLeafOn};
 ghost use Rattle.cmark_inline.specs.Sought.{AreOfText, IsSoughtIn};
 ghost use Rattle.cmark_inline.specs.TextOf.{IsTextOf};
@@ -71,9 +72,8 @@ impl<'a> InlineState<'a> {
         requires ready { F.ready callback.old }
         ensures reads { IsSetOf (shown_options reader.now.options) reader.now.special.now
             → OnOk result
-            (ReadsWholly F.answers (shown_options reader.now.options)
-            (E.replacement reader.now.entities.now) reader.now.references.now footnotes.old
-            footnotes.new leaf.now self.old self.new callback.old callback.new) }
+            (reading_of E.replacement reader.now (ReadsWholly F.answers) footnotes.old footnotes.new
+            leaf.now self.old self.new callback.old callback.new) }
         ensures laid_out { OnOk result (IsLaidOut leaf.now self.new) }
         ensures within { StaysWithin F.ready F.answers leaf.now self.old.expansion_left
             footnotes.old footnotes.new callback.old callback.new }
@@ -82,8 +82,7 @@ impl<'a> InlineState<'a> {
             footnotes.new callback.old callback.new }
         ensures stops { IsSetOf (shown_options reader.now.options) reader.now.special.now
             → OnErr result
-            (Stops F.answers (shown_options reader.now.options)
-            (E.replacement reader.now.entities.now) reader.now.references.now footnotes.old leaf.now
+            (reading_of E.replacement reader.now (Stops F.answers) footnotes.old leaf.now
             self.old.expansion_left callback.old callback.new) }
     {
         if self.failed {
@@ -108,9 +107,8 @@ impl<'a> InlineState<'a> {
         requires ready { F.ready callback.old }
         ensures reads { IsSetOf (shown_options reader.now.options) reader.now.special.now
             → OnOk result
-            (ReadsWholly F.answers (shown_options reader.now.options)
-            (E.replacement reader.now.entities.now) reader.now.references.now footnotes.old
-            footnotes.new leaf.now self.old self.new callback.old callback.new) }
+            (reading_of E.replacement reader.now (ReadsWholly F.answers) footnotes.old footnotes.new
+            leaf.now self.old self.new callback.old callback.new) }
         ensures laid_out { OnOk result (IsLaidOut leaf.now self.new) }
         ensures within { StaysWithin F.ready F.answers leaf.now self.old.expansion_left
             footnotes.old footnotes.new callback.old callback.new }
@@ -119,8 +117,7 @@ impl<'a> InlineState<'a> {
         ensures succeeds { text_of leaf.now ≡ [] → IsOk result }
         ensures stops { IsSetOf (shown_options reader.now.options) reader.now.special.now
             → OnErr result
-            (Stops F.answers (shown_options reader.now.options)
-            (E.replacement reader.now.entities.now) reader.now.references.now footnotes.old leaf.now
+            (reading_of E.replacement reader.now (Stops F.answers) footnotes.old leaf.now
             self.old.expansion_left callback.old callback.new) }
     {
         self.clear();
@@ -172,14 +169,12 @@ impl<'a> InlineState<'a> {
         requires ready { F.ready callback.old }
         ensures come { IsSetOf (shown_options reader.now.options) reader.now.special.now
             → IfOk result
-            (λ next. ComesOn F.answers (shown_options reader.now.options)
-            (E.replacement reader.now.entities.now) reader.now.references.now footnotes.old
+            (λ next. reading_of E.replacement reader.now (ComesOn F.answers) footnotes.old
             footnotes.new leaf.now sought.old sought.new cursor next self.old self.new callback.old
             callback.new) }
         ensures stops { IsSetOf (shown_options reader.now.options) reader.now.special.now
             → OnErr result
-            (StopsOn F.answers (shown_options reader.now.options)
-            (E.replacement reader.now.entities.now) reader.now.references.now footnotes.old leaf.now
+            (reading_of E.replacement reader.now (StopsOn F.answers) footnotes.old leaf.now
             sought.old cursor self.old callback.old callback.new) }
         ensures finds { IfOk result
             (FindsToken (shown_options reader.now.options) (E.replacement reader.now.entities.now)

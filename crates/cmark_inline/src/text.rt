@@ -28,7 +28,8 @@ impl<'a> InlineState<'a> {
         requires byte { IsAtByte text.now here self.old }
         ensures reads_on { ReadsOn text.now here self.old self.new result }
         ensures token { (options : Options) (lookup : Lookup) (is_cell : Bool)
-            → (slice_index text.now here.at ≡ line_feed) ⊎ (slice_index text.now here.at ≡ carriage_return)
+            → (slice_index text.now here.at ≡ line_feed)
+            ⊎ (slice_index text.now here.at ≡ carriage_return)
             → IfOk result (Appends options lookup is_cell text.now here self.old self.new) }
     {
         let text_end = before_blanks(text, here);
@@ -51,7 +52,8 @@ impl<'a> InlineState<'a> {
     ) -> Result<Cursor, AllocError>
         requires byte { IsAtByte text.now here self.old }
         ensures reads_on { ReadsOn text.now here self.old self.new result }
-        ensures token { (options : Options) (lookup : Lookup) → slice_index text.now here.at ≡ backslash
+        ensures token { (options : Options) (lookup : Lookup)
+            → slice_index text.now here.at ≡ backslash
             → IfOk result
             (λ next. Passes options lookup is_cell text.now here self.old self.new next
             ⊎
@@ -103,7 +105,8 @@ impl<'a> InlineState<'a> {
     ) -> Result<Cursor, AllocError>
         requires byte { IsAtByte text.now here self.old }
         ensures reads_on { ReadsOn text.now here self.old self.new result }
-        ensures token { (options : Options) (is_cell : Bool) → slice_index text.now here.at ≡ ampersand
+        ensures token { (options : Options) (is_cell : Bool)
+            → slice_index text.now here.at ≡ ampersand
             → IfOk result
             (λ next. Passes options (E.replacement entities.now) is_cell text.now here self.old
             self.new next

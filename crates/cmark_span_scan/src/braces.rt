@@ -79,7 +79,8 @@ impl Braces {
     // Leaves the innermost context; the outermost one gets the next number.
     fn leave(&mut self)
         requires room { self.old.next < 18446744073709551615 }
-        ensures braces { shown_braces self.new ≡ after_byte false right_brace (shown_braces self.old) }
+        ensures braces { shown_braces self.new
+            ≡ after_byte false right_brace (shown_braces self.old) }
         ensures next { self.new.next ≤ self.old.next + 1 }
     {
         if self.entered.pop().is_none() {
