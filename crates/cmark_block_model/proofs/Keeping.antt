@@ -8,7 +8,7 @@ use Rattle.cmark_grammar.specs.Rows.{Row, lazy_row, show_as}
 use Rattle.cmark_grammar.specs.Leaves.{Continuation, GoesOn, Closes, Waits, Stops, underlines, code_continuation, closes_fence}
 use Rattle.cmark_grammar.specs.HtmlBlocks.{html_continuation}
 use Rattle.cmark_grammar.specs.Containers.{Container, keeps, strip, is_bare_start, bare_after}
-use Rattle.cmark_grammar.specs.Openings.{Leaf, ThematicBreak, AtxHeading, IndentedCode, FencedCode, HtmlBlock, LinkDefinition, MetadataBlock, Table, texts, lazily, count_rows}
+use Rattle.cmark_grammar.specs.Openings.{Leaf, Table, texts, lazily, count_rows}
 use Rattle.cmark_grammar.specs.TableRows.{most_filled}
 use Rattle.cmark_grammar.specs.Blocks.{Blocks, Nil as NoBlocks, Paragraph, SetextHeading, LeafBlock, ContainerBlock, join as join_blocks}
 use Rattle.cmark_block_model.specs.BlocksModel.{within}

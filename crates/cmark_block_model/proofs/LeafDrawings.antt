@@ -6,7 +6,7 @@ use Rattle.cmark_grammar.specs.Event.{End}
 use Rattle.cmark_grammar.specs.TagEnd.{end_of}
 use Rattle.cmark_grammar.specs.Rows.{Row, without, first_place, begin_of, start_of, last_line_end, words_of}
 use Rattle.cmark_grammar.specs.Containers.{BlockQuote, Item, Footnote, ListDefinition}
-use Rattle.cmark_grammar.specs.Openings.{Leaf, ThematicBreak as ThematicBreakLeaf, AtxHeading as AtxHeadingLeaf, IndentedCode as IndentedCodeLeaf, FencedCode as FencedCodeLeaf, HtmlBlock as HtmlBlockLeaf, LinkDefinition as LinkDefinitionLeaf, MetadataBlock as MetadataBlockLeaf, Table as TableLeaf}
+use Rattle.cmark_grammar.specs.Openings.{Leaf, AtxHeading as AtxHeadingLeaf, IndentedCode as IndentedCodeLeaf, FencedCode as FencedCodeLeaf, HtmlBlock as HtmlBlockLeaf, MetadataBlock as MetadataBlockLeaf, Table as TableLeaf}
 use Rattle.cmark_grammar.specs.Blocks.{Blocks, Nil as NoBlocks, BlankLine, Paragraph as ParagraphBlock, SetextHeading, LeafBlock, ContainerBlock}
 use Rattle.cmark_grammar.specs.Lists.{ListBefore, tight_after, goes_on, definition_delimiter, is_title, title_tight_after}
 use Rattle.cmark_grammar.specs.Tokens.{Piece, end_place, piece_if, texts_then, words_end, stretch_then, stretches, html_then, html_tokens, verbatim_line, after_hashes, heading_columns, code_pieces, fenced_lines, lines_before, paragraph_tokens}
@@ -15,7 +15,7 @@ use Rattle.cmark_grammar.specs.SetextAttributes.{content_of, ends_in_braces, att
 use Rattle.cmark_grammar.specs.TableRows.{cells_start, cells_of}
 use Rattle.cmark_grammar.specs.TableTokens.{cells_then, row_cells, row_tokens}
 use Rattle.cmark_grammar.specs.BlockDocument.{Text, OwnedText, ListItem, BlockKind, BlockNode, BlockDocument, Nil, Node, node, BlockList, DefinitionList, DefinitionListTitle, DefinitionListDefinition}
-use Rattle.cmark_grammar.specs.BlockReading.{Reads, Around, Inside, Alone, First, Silent, read_as, over, first_event, starts_before}
+use Rattle.cmark_grammar.specs.BlockReading.{Reads, Around, Inside, First, read_as, over, first_event, starts_before}
 use Rattle.cmark_grammar.specs.Derivation.{Derives, leaf_then, item_then, task_then, document_of, list_kind, paragraph_kind}
 use Rattle.cmark_block_model.specs.DocumentModel.{document}
 use Rattle.cmark_block_model.specs.DrawnDocument.{is_definition, node_unless, settled, without_definitions}

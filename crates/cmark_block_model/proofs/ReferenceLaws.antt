@@ -3,7 +3,8 @@ use Rattle.std.proofs.Common.{◌≡◌, ℕ, Bool, true, false, List, [], ◌�
 use Rattle.std.specs.Prelude.{bytes_eq}
 use Rattle.std.proofs.lemmas.Slice.Eq.{bytes_eq-Decides}
 use Rattle.cmark_grammar.specs.BlockDocument.{Reference}
-use Rattle.cmark_grammar.specs.References.{found_or, first_with, keep_or, without_label, table, EachOnce}
+use Rattle.cmark_grammar.specs.References.{found_or, first_with}
+use Rattle.cmark_block_model.specs.ReferenceTable.{keep_or, without_label, table, EachOnce}
 
 same_bytes : (x y : List ℕ) → bytes_eq x y ≡ true → x ≡ y
 same_bytes x y = (bytes_eq-Decides x y).0

@@ -12,7 +12,7 @@ use Rattle.cmark_grammar.specs.Metadata.{metadata_kind, metadata_continuation, h
 use Rattle.cmark_grammar.specs.MetadataBlockKind.{MetadataBlockKind}
 use Rattle.cmark_grammar.specs.BlockQuoteKind.{BlockQuoteKind}
 use Rattle.cmark_grammar.specs.Containers.{marker_width, Container, BlockQuote, Item, Footnote, ListDefinition, Marker, is_bullet, is_digit, is_delimiter, digits, number_of, delimited, marker_of, after_marker, padding, width_with, item_with, item_of, begins_with, is_block_quote, one_blank, block_quote_width, container_with, container_of, width_of, enter, keep_as, keeps, strip_as, strip, strips, footnote_width, footnote_with, footnote_of, footnote_or, with_task}
-use Rattle.cmark_grammar.specs.Openings.{Leaf, ThematicBreak, AtxHeading, IndentedCode, FencedCode, HtmlBlock, LinkDefinition, MetadataBlock, Opening, Blank, Nests, Takes, Plain, or_else, nests_if, fenced_if, metadata_begun, html_if, break_if, heading_if, text_lines, defined_if, definition_of, leaf_of, whole_opens, opens, Table, table_if, text_of, begins_no_link}
+use Rattle.cmark_grammar.specs.Openings.{Leaf, AtxHeading, IndentedCode, MetadataBlock, Opening, Blank, Nests, Takes, Plain, or_else, nests_if, fenced_if, metadata_begun, html_if, break_if, heading_if, text_lines, defined_if, definition_of, leaf_of, whole_opens, opens, table_if, text_of, begins_no_link}
 use Rattle.cmark_grammar.specs.Alignment.{Alignment}
 use Rattle.cmark_grammar.specs.TableRows.{table_head}
 use Rattle.cmark_block_model.proofs.FootnoteMarkers.{IsAsciiAt, colon-ascii}

@@ -9,6 +9,7 @@ pub mod DrawnDocument
 pub mod MetadataPlaces
 pub mod OpenBlocks
 pub mod Ranges
+pub mod ReferenceTable
 pub mod TableShape
 pub mod Tails
 pub mod Tightness

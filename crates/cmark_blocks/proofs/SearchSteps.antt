@@ -29,7 +29,7 @@ use Rattle.cmark_block_model.proofs.Theorem.{bottom_after}
 use Rattle.cmark_blocks.proofs.LineFacts.{one-fed, next-fits, shown-whole, whole-rows}
 use Rattle.cmark_stream_model.specs.Growth.{ends_whole, fed_before, open_after, Parts, looks_ahead, are_blind, are_resolved, is_outside_of_lists, is_blank, last_list, may_continue}
 use Rattle.cmark_stream_model.specs.Settled.{IsSettledCut, IsSettledAt}
-use Rattle.cmark_stream_model.specs.Undecided.{Undecided, Nothing, Begun, Open, Forever, is_nothing, undecided_after}
+use Rattle.cmark_stream_model.specs.Undecided.{Undecided, Nothing, is_nothing, undecided_after}
 use Rattle.cmark_stream_model.proofs.FirstLines.{not-blank, outside-begins, blank-begins, parts-any, resolved-blind, resolved-blank}
 use Rattle.cmark_stream_model.proofs.Fronts.{Steady, feed-steady, parts-begin}
 use Rattle.cmark_stream_model.proofs.MetadataLines.{AreLines, are-lines, lines-front}

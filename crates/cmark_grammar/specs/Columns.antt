@@ -1,6 +1,6 @@
 -- The columns of a line (CommonMark 2.2: a tab is as wide as the spaces up to the next tab stop; tab stops are four columns apart).
 -- Example: after two columns a tab is two columns wide.
-use Rattle.std.specs.Prelude.{ℕ, zero, suc, ◌+◌, ◌-◌, ◌%◌, Bool, true, ◌==◌, ◌||◌, if◌then◌else◌, List, [], ◌∷◌, ◌++◌, length, drop, take_while}
+use Rattle.std.specs.Prelude.{ℕ, zero, suc, ◌+◌, ◌-◌, ◌%◌, Bool, ◌==◌, ◌||◌, if◌then◌else◌, List, [], ◌∷◌, ◌++◌, length, drop, take_while}
 use Rattle.cmark_grammar.specs.Characters.{space, tab}
 
 -- a column of a line: its byte, and the place of that byte in the text. Part: the number of columns of the same byte before it, which is
@@ -49,17 +49,6 @@ put_before dropped x (y ∷ ys) = x ∷ (y ∷ ys)
 abbrev pub drop_end : {A : Type 0} → (A → Bool) → List A → List A
 drop_end p [] = []
 drop_end p (x ∷ xs) = put_before (p x) x (drop_end p xs)
-
--- no element, or a first one that passes the test
-abbrev pub none_or_first : {A : Type 0} → (A → Bool) → List A → Bool
-none_or_first p [] = true
-none_or_first p (x ∷ xs) = p x
-
--- no element, or a last one that passes the test
-abbrev pub none_or_last : {A : Type 0} → (A → Bool) → List A → Bool
-none_or_last p [] = true
-none_or_last p (x ∷ []) = p x
-none_or_last p (x ∷ y ∷ ys) = none_or_last p (y ∷ ys)
 
 abbrev pub without_trailing_blanks : List Column → List Column
 without_trailing_blanks cs = drop_end is_blank cs

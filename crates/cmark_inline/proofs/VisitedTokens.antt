@@ -11,7 +11,7 @@ use Rattle.cmark_grammar.specs.Flanking.{Flanking, flanking, is_run_delimiter}
 use Rattle.cmark_grammar.specs.Formulas.{is_dollar}
 use Rattle.cmark_grammar.specs.InlineHtml.{after_markup, takes_lines}
 use Rattle.cmark_grammar.specs.InlineTokens.{autolink_or, begins, break_or, character_at, character_before, code_or, entity_or, escape_at, escaped_backtick, formula_or, from, item_at, less_than, markup_or, run_or, size_to, smart_or, source_from, tag_or_text}
-use Rattle.cmark_grammar.specs.Items.{ItemKind, Plain, Html, OwnedHtml, SoftBreak, HardBreak, Item, Token, Stands, Opens, Closes, Ends}
+use Rattle.cmark_grammar.specs.Items.{ItemKind, Plain, Html, OwnedHtml, SoftBreak, HardBreak, Item, Token, Stands}
 use Rattle.cmark_grammar.specs.LabelsOverLines.{piped}
 use Rattle.cmark_grammar.specs.LeafText.{Leaf}
 use Rattle.cmark_grammar.specs.Letters.{first_is, starts}

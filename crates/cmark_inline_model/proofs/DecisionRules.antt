@@ -7,8 +7,8 @@ use Rattle.cmark_grammar.specs.BracketStates.{State, Outcome, Decision, Settled,
 use Rattle.cmark_grammar.specs.Items.{Bracket}
 use Rattle.cmark_grammar.specs.Labels.{normal_form}
 use Rattle.cmark_grammar.specs.LeafText.{Leaf}
-use Rattle.cmark_grammar.specs.LinkType.{LinkType, Inline, Reference, ReferenceUnknown, Collapsed, CollapsedUnknown, Shortcut, ShortcutUnknown, Autolink, Email, WikiLink, to_unknown}
-use Rattle.cmark_grammar.specs.Parts.{Formed, Linking, Footnote, Wiki}
+use Rattle.cmark_grammar.specs.LinkType.{LinkType, Reference, ReferenceUnknown, Collapsed, CollapsedUnknown, Shortcut, ShortcutUnknown, to_unknown}
+use Rattle.cmark_grammar.specs.Parts.{Formed, Linking}
 use Rattle.cmark_grammar.specs.Questions.{Exchange}
 use Rattle.cmark_grammar.specs.Readers.{Reader}
 use Rattle.cmark_grammar.specs.Tag.{Linked}

@@ -13,7 +13,7 @@ use Rattle.cmark_grammar.specs.Letters.{first_is}
 use Rattle.cmark_grammar.specs.Lines.{is_content}
 use Rattle.cmark_grammar.specs.LinkTails.{LinkTail, link_tail_in}
 use Rattle.cmark_grammar.specs.OpenBrackets.{Taken}
-use Rattle.cmark_grammar.specs.Parts.{Formed, Linking, Footnote, Wiki, Parts, Nil, Single, Form, Closing, Opening, openings}
+use Rattle.cmark_grammar.specs.Parts.{Formed, Wiki, Parts, Nil, Single, Form, Closing, Opening, openings}
 use Rattle.cmark_grammar.specs.Questions.{Exchange, Saying}
 use Rattle.cmark_grammar.specs.Readers.{Reader}
 use Rattle.cmark_inline_model.proofs.ShorterRests.{TailBelow, link_tail-shorter}

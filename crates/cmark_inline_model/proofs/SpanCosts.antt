@@ -20,7 +20,7 @@ use Rattle.cmark_grammar.specs.Tag.{Tag, Linked}
 use Rattle.cmark_grammar.specs.TagEnd.{end_of}
 use Rattle.cmark_inline_model.proofs.SpanPlaces.{places}
 use Rattle.cmark_inline_model.specs.ReferenceExpansion.{cost_as, costs}
-use Rattle.cmark_inline_model.specs.ReadingLinks.{LinkEvent, Begins, Finishes, Neither, of_tag, own_cost, costs_by, reference_costs}
+use Rattle.cmark_inline_model.specs.ReadingLinks.{LinkEvent, Begins, of_tag, own_cost, costs_by, reference_costs}
 use Rattle.cmark_inline_model.proofs.CostLists.{Fewer, fewer-same, fewer-then, fewer-following, fewer-both}
 use Rattle.cmark_inline_model.proofs.KindViews.{KindView, AQuote, ARun, AnAutolink, AText, kind-view}
 use Rattle.cmark_inline_model.proofs.LinkSpans.{TagView, ALink, NoLink, tag-view, span-neither, item-neither}

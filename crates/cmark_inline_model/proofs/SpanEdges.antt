@@ -4,7 +4,7 @@ use Rattle.std.specs.Str.{IsCharBoundary}
 use Rattle.std.proofs.Common.{◌≡◌, ℕ, ◌+◌, ◌<◌, ◌≤◌, Bool, true, false, List, [], ◌∷◌, ◌++◌, length, Option, Some, None, refl, sym, ap, subst, arith, ◌∙◌}
 use Rattle.std.proofs.lemmas.Str.{IsCharBoundary-start}
 use Rattle.cmark_grammar.specs.BlockDocument.{BlockDocument, BlockNode, Nil as NoNodes, Node}
-use Rattle.cmark_grammar.specs.BlockReading.{Reads as ReadsAs, Around as AroundNode, Inside, Alone, First, Silent, first_event, is_leaf, over, read_as, starts_before}
+use Rattle.cmark_grammar.specs.BlockReading.{Reads as ReadsAs, Around as AroundNode, Inside, First, first_event, is_leaf, over, read_as, starts_before}
 use Rattle.cmark_inline_model.specs.EmphasisModel.{spans_of}
 use Rattle.cmark_grammar.specs.Event.{End, Ranged}
 use Rattle.cmark_grammar.specs.InlineReading.{inline_events}

@@ -6,7 +6,7 @@ use Rattle.std.proofs.lemmas.List.{append_assoc}
 use Rattle.cmark_grammar.specs.Answers.{Lookup}
 use Rattle.cmark_block_model.specs.Balance.{IsSingle}
 use Rattle.cmark_grammar.specs.BlockDocument.{BlockKind, Paragraph, TightParagraph, Heading, ThematicBreak, IndentedCode, FencedCode, HtmlBlock, LinkDefinition, MetadataBlock, BlockQuote, BlockList, ListItem, TaskMarker, FootnoteDefinition, DefinitionList, DefinitionListTitle, DefinitionListDefinition, Text, OwnedText, Html, BlockNode, BlockDocument, Nil, Node, Table, TableHead, TableRow, TableCell}
-use Rattle.cmark_grammar.specs.BlockReading.{Reads, Around, Inside, Alone, First, Silent, first_event, read_as, over, starts_before}
+use Rattle.cmark_grammar.specs.BlockReading.{Reads, Around, Inside, Alone, First, first_event, read_as, over, starts_before}
 use Rattle.cmark_grammar.specs.Derivation.{Derives}
 use Rattle.cmark_grammar.specs.Event.{Event, Start, End, Text as TextEvent, Code, InlineHtml, SoftBreak, HardBreak, Ranged}
 use Rattle.cmark_grammar.specs.Event as event

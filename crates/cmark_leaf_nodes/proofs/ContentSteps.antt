@@ -2,7 +2,7 @@
 use Rattle.std.proofs.Common.{◌≡◌, ℕ, suc, Bool, true, false, ◌==◌, ◌&&◌, ◌||◌, not, List, [], ◌∷◌, ◌++◌, length, map, refl, sym, ap, ◌∙◌, subst, arith, true≢false}
 use Rattle.std.specs.Prelude.{if◌then◌else◌, nat_lt}
 use Rattle.cmark_grammar.specs.Attributes.{is_brace, closes, before_braces, without_last, inside_braces}
-use Rattle.cmark_grammar.specs.Columns.{Column, is_blank_byte, drop_end, put_before, none_or_last, bytes_of}
+use Rattle.cmark_grammar.specs.Columns.{Column, is_blank_byte, drop_end, put_before, bytes_of}
 use Rattle.cmark_grammar.specs.Rows.{Row}
 use Rattle.cmark_grammar.specs.SetextAttributes.{line_end_column, content_of, ends_in_braces}
 use Rattle.cmark_line_rules.specs.Rests.{row_of}
@@ -26,6 +26,12 @@ join-tabs (c ∷ a) b s t = (s.0, join-tabs a b s.1 t)
 pub front-tabs : (a b : List Column) → AreTabs (a ++ b) → AreTabs a
 front-tabs [] b t = tt
 front-tabs (c ∷ a) b t = (t.0, front-tabs a b t.1)
+
+-- no element, or a last one that passes the test
+abbrev none_or_last : {A : Type 0} → (A → Bool) → List A → Bool
+none_or_last p [] = true
+none_or_last p (x ∷ []) = p x
+none_or_last p (x ∷ y ∷ ys) = none_or_last p (y ∷ ys)
 
 -- a byte begins in the last column
 abbrev pub ends_whole : List Column → Bool

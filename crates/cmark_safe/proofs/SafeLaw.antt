@@ -3,7 +3,7 @@ use Rattle.std.proofs.Common.{◌≡◌, ℕ, Bool, true, false, not, ◌&&◌, 
 use Rattle.std.specs.Prelude.{codes, map, Option, Some, None}
 use Rattle.std.proofs.lemmas.List.{append_assoc, append-nil}
 use Rattle.cmark_grammar.specs.Escapes.{escaped_href}
-use Rattle.cmark_grammar.specs.Event.{Event, Start, End, Text, Code, InlineMath, DisplayMath, Html, InlineHtml, FootnoteReference, SoftBreak, HardBreak, Rule, TaskListMarker}
+use Rattle.cmark_grammar.specs.Event.{Event, Start, End, Text, Code, InlineMath, DisplayMath, Html, InlineHtml, FootnoteReference, TaskListMarker}
 use Rattle.cmark_grammar.specs.Html.{Writing, OpenImage, TableState, no_table, title_attribute, image_start, image_end, footnote_number, alt_text, piece, moved, moved_all, pieces_from, last_piece, line_start_after, metadata_after, table_after, names_after, names_after_inside, deeper, less_deep}
 use Rattle.cmark_grammar.specs.Tag as tag
 use Rattle.cmark_safe.specs.SafeHtml.{IsValue, Empty, Byte, IsTitle, Image, IsSafe, Nothing, Tagged, own_prefix}

@@ -4,7 +4,7 @@ use Rattle.std.specs.Prelude.{map}
 use Rattle.std.proofs.Math.Seq.{drop-cons}
 use Rattle.std.proofs.lemmas.List.{get_or-set_other, map-append, set_comm}
 use Rattle.cmark_grammar.specs.Options.{Options}
-use Rattle.cmark_grammar.specs.Spans.{Span, SpanKind, Emphasis, Strong, SingleTilde, DoubleTilde, Caret, DoubleEquals, span_tag, span_width, Spans, Nil, Single, Around, TakePlaces}
+use Rattle.cmark_grammar.specs.Spans.{Span, SpanKind, Strong, DoubleTilde, DoubleEquals, span_tag, span_width, Spans, Nil, Single, Around, TakePlaces}
 use Rattle.cmark_grammar.specs.Tag.{Tag}
 use Rattle.cmark_inline_model.specs.SlotRows.{Mark, Stays, Begins, Ends, Blank, Slot, NothingSlot, EndSlot, BeginSlot, ItemSlot, closing, end_in, marked, marks_of, opening, spanned, start_in, used_up}
 use Rattle.cmark_grammar.specs.Items as items

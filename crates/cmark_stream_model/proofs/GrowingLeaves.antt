@@ -18,7 +18,7 @@ use Rattle.cmark_grammar.specs.InlineHtml.{after_markup}
 use Rattle.cmark_grammar.specs.InlineReading.{event_of, inline_events}
 use Rattle.cmark_grammar.specs.InlineTokens.{item_at, is_plain, first_of, from, before, place_of, character_before, character_at, line_begins, read_on, break_to, break_or, code_or, escaped_backtick, escape_at, entity_or, autolink_or, tag_kind, tag_or_text, source_from, markup_to, markup_or, less_than, run_or, run_at, formula_or, dollar, hyphens, smart_or, begins, begins_at, goes_on, plain_end, longest, token}
 use Rattle.cmark_grammar.specs.Items as items
-use Rattle.cmark_grammar.specs.Items.{ItemKind, Item, Bracket, Token, Stands, Opens, Closes, Ends, HardBreak, SoftBreak, InlineMath, DisplayMath, Html}
+use Rattle.cmark_grammar.specs.Items.{ItemKind, Item, Bracket, Token, Stands, Opens, Closes, HardBreak, SoftBreak, InlineMath, DisplayMath, Html}
 use Rattle.cmark_grammar.specs.Labels.{fold, normal_form}
 use Rattle.cmark_grammar.specs.LeafReading.{Between, entering, ReadsLeaf}
 use Rattle.cmark_grammar.specs.LeafText.{Stretch, Leaf, bytes_from, bytes_before, size_of, begin_of, end_of, InTurn}

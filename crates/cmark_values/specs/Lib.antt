@@ -4,3 +4,4 @@ pub mod InPlace
 pub mod Labelled
 pub mod Lending
 pub mod Shown
+pub mod CodeBlockKinds

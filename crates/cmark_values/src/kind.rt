@@ -5,7 +5,7 @@ ghost use Rattle.std.specs.Fmt.{padded};
 ghost use Rattle.cmark_grammar.specs.LinkType.{to_unknown};
 ghost use Rattle.cmark_values.specs.InPlace.{KindCopiesInPlace, KindStaysInPlace};
 ghost use Rattle.cmark_values.specs.Shown.{level_number, shown_code_block_kind, shown_link_type};
-ghost use Rattle.cmark_grammar.specs.CodeBlockKind.{is_fenced, is_indented};
+ghost use Rattle.cmark_values.specs.CodeBlockKinds.{is_fenced, is_indented};
 
 use crate::text::CowStr;
 use std::alloc::{AllocError, Global};
