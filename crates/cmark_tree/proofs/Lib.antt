@@ -4,7 +4,6 @@ pub mod Cutting
 pub mod Entries
 pub mod Items
 pub mod Moving
-pub mod Order
 pub mod Reading
 pub mod Releasing
 pub mod Relinks

@@ -5,7 +5,6 @@ pub mod Forest
 pub mod Lending
 pub mod Links
 pub mod Nodes
-pub mod Order
 pub mod Reading
 pub mod Tree
 pub mod Truncated
