@@ -1,5 +1,5 @@
 -- The loop that finds where siblings are cut, and the siblings that end there.
-use Rattle.std.proofs.Common.{◌≡◌, ◌⊎◌, inl, inr, ℕ, suc, ◌+◌, ◌<◌, ◌≤◌, Bool, true, false, if◌then◌else◌, List, [], ◌∷◌, Some, None, refl, sym, ap, ◌∙◌, subst, arith}
+use Rattle.std.proofs.Common.{◌≡◌, ◌⊎◌, inl, inr, ℕ, suc, ◌+◌, ◌<◌, ◌≤◌, Bool, true, false, if◌then◌else◌, List, [], ◌∷◌, Some, None, refl, sym, ap, ◌∙◌, subst, arith, zero}
 use Rattle.std.proofs.lemmas.Bool.{lt-ltb}
 use Rattle.std.proofs.lemmas.Option.{same_Some}
 use Rattle.cmark_tree.specs.declared.nodes.Nodes.{Nodes}
@@ -19,7 +19,10 @@ use Rattle.cmark_tree.proofs.Entries.{node_at-within}
 use Rattle.cmark_tree.proofs.Steps.{first_none, rewritten}
 use Rattle.cmark_tree.proofs.Surgery.{size-count, times-at, dropped_after, dropped_inside}
 use Rattle.cmark_tree.proofs.Truncating.{lt_false}
-use Rattle.cmark_tree.proofs.Order.{zero_or}
+
+zero_or : (n : ℕ) → (n ≡ 0) ⊎ (0 < n)
+zero_or zero = inl refl
+zero_or (suc n) = inr (omega arith)
 
 module _ {T : Type 0} where
   -- the number of trees
