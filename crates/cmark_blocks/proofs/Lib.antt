@@ -11,7 +11,6 @@ pub mod FeedSteps
 pub mod FlushRows
 pub mod FootnoteSteps
 pub mod GatherSteps
-pub mod HeadingBodies
 pub mod HtmlSteps
 pub mod IndentedSteps
 pub mod InfoSteps

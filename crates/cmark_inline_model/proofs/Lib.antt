@@ -44,7 +44,6 @@ pub mod LeafParts
 pub mod LeafPlaces
 pub mod LeafPrefixes
 pub mod LeafRules
-pub mod LeafSpanLaws
 pub mod LeafSteps
 pub mod LeafStretches
 pub mod LikeSlots

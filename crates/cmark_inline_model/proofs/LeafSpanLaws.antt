@@ -1,1 +1,0 @@
--- The leaves of each document can have spans.
