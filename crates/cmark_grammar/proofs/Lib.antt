@@ -8,6 +8,7 @@ mod LeafSamples
 mod LineSamples
 mod MetadataSamples
 pub mod QuoteSamples
+mod SiblingSamples
 mod TableSamples
 pub mod TagSamples
 pub mod TaskSamples
