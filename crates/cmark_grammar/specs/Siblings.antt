@@ -77,7 +77,7 @@ one_by_one Nil = []
 one_by_one (Single x after) = item_by_item x.kind x (one_by_one after)
 one_by_one (Around tag start end inside after) = Around tag start end inside Nil ∷ one_by_one after
 
--- the offsets of the first of some siblings
+-- where the first of some siblings begins, and where it ends
 abbrev pub start_of : Inline → ℕ
 start_of Nil = 0
 start_of (Single x after) = x.start
