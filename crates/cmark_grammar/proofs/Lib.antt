@@ -9,6 +9,7 @@ mod LeafSamples
 mod LineSamples
 mod MetadataSamples
 pub mod QuoteSamples
+mod SiblingSamples
 mod TableSamples
 pub mod TagSamples
 pub mod TaskSamples

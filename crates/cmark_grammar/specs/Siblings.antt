@@ -2,14 +2,14 @@
 use Rattle.std.specs.Prelude.{◌≡◌, ℕ, zero, suc, ◌+◌, ◌-◌, Bool, true, false, ◌==◌, nat_le, if◌then◌else◌, max, List, [], ◌∷◌, drop, get_or, encode_utf8, Option, Some, None}
 use Rattle.cmark_grammar.specs.Autolinks.{has_scheme}
 use Rattle.cmark_grammar.specs.BracketDecisions.{linked}
-use Rattle.cmark_grammar.specs.Emphasis.{Pair, Sibling, Delimiter, IsEmphasis}
+use Rattle.cmark_grammar.specs.Emphasis.{Pair, Sibling, Plain, Delimiter, IsEmphasis}
 use Rattle.cmark_grammar.specs.Items.{ItemKind, Own, Written, Quoted, Delimiters, Autolink, FootnoteReference, Item, Bracket}
 use Rattle.cmark_grammar.specs.LinkType as link_type
 use Rattle.cmark_grammar.specs.Options.{Options}
 use Rattle.cmark_grammar.specs.Parts.{Parts, Nil as NoParts, Single as SinglePart, Form, Closing, Opening, Linking, Footnote, Wiki}
 use Rattle.cmark_grammar.specs.Quotes.{Quote, quote_characters}
 use Rattle.cmark_grammar.specs.Spans as spans
-use Rattle.cmark_grammar.specs.Spans.{span_tag, span_width, Spans}
+use Rattle.cmark_grammar.specs.Spans.{span_tag, Spans}
 use Rattle.cmark_grammar.specs.Tag.{Tag, Linked, Link, Image}
 
 -- siblings: items, and elements around others
@@ -53,50 +53,40 @@ with_quotes siblings = with_characters siblings (quote_characters [] (quotes_of 
 
 -- ## Emphasis (CommonMark 6.2, GFM 6.5)
 
--- the delimiter runs among siblings; their bytes are counted from 0
-abbrev pub run_then : ℕ → ItemKind → (ℕ → List Sibling) → List Sibling
-run_then n (Delimiters run) after = Delimiter (record { delimiter = run.delimiter; run_length = run.run_length; at = n; left = run.run_length; opens = run.opens; closes = run.closes }) ∷ after (n + run.run_length)
-run_then n _ after = after n
+-- each sibling has a place: a delimiter run one for each of its bytes, any other sibling one
+abbrev pub sibling_then : ℕ → ItemKind → (ℕ → List Sibling) → List Sibling
+sibling_then n (Delimiters run) after = Delimiter (record { delimiter = run.delimiter; run_length = run.run_length; at = n; left = run.run_length; opens = run.opens; closes = run.closes }) ∷ after (n + run.run_length)
+sibling_then n _ after = Plain n ∷ after (suc n)
 
-abbrev pub runs_from : Inline → ℕ → List Sibling
-runs_from Nil n = []
-runs_from (Single x after) n = run_then n x.kind (runs_from after)
-runs_from (Around tag start end inside after) n = runs_from after n
+abbrev pub siblings_from : Inline → ℕ → List Sibling
+siblings_from Nil n = []
+siblings_from (Single x after) n = sibling_then n x.kind (siblings_from after)
+siblings_from (Around tag start end inside after) n = Plain n ∷ siblings_from after (suc n)
 
--- the bytes of the runs, in order
-abbrev pub bytes_then : (start run_length : ℕ) → List Item → List Item
-bytes_then start zero after = after
-bytes_then start (suc run_length) after = item Own start (suc start) ∷ bytes_then (suc start) run_length after
+-- what is at each place: a byte of a run, or a sibling
+abbrev pub byte_by_byte : (start run_length : ℕ) → List Inline → List Inline
+byte_by_byte start zero after = after
+byte_by_byte start (suc run_length) after = Single (item Own start (suc start)) Nil ∷ byte_by_byte (suc start) run_length after
 
-abbrev pub run_bytes_then : ItemKind → (start : ℕ) → List Item → List Item
-run_bytes_then (Delimiters run) start after = bytes_then start run.run_length after
-run_bytes_then _ start after = after
+abbrev pub item_by_item : ItemKind → Item → List Inline → List Inline
+item_by_item (Delimiters run) x after = byte_by_byte x.start run.run_length after
+item_by_item _ x after = Single x Nil ∷ after
 
-abbrev pub run_bytes : Inline → List Item
-run_bytes Nil = []
-run_bytes (Single x after) = run_bytes_then x.kind x.start (run_bytes after)
-run_bytes (Around tag start end inside after) = run_bytes after
+abbrev pub one_by_one : Inline → List Inline
+one_by_one Nil = []
+one_by_one (Single x after) = item_by_item x.kind x (one_by_one after)
+one_by_one (Around tag start end inside after) = Around tag start end inside Nil ∷ one_by_one after
 
--- the siblings between these bytes: those before each byte, after the byte before it; and then those after all bytes
-abbrev pub put_gap : (Inline → Inline) → List Inline → List Inline
-put_gap put [] = put Nil ∷ []
-put_gap put (gap ∷ gaps) = put gap ∷ gaps
+-- where the first of some siblings begins, and where it ends
+abbrev pub start_of : Inline → ℕ
+start_of Nil = 0
+start_of (Single x after) = x.start
+start_of (Around tag start end inside after) = start
 
-abbrev pub no_gaps : ℕ → List Inline → List Inline
-no_gaps zero gaps = gaps
-no_gaps (suc n) gaps = Nil ∷ no_gaps n gaps
-
-abbrev pub gap_then : ItemKind → Item → List Inline → List Inline
-gap_then (Delimiters run) x gaps = no_gaps run.run_length gaps
-gap_then _ x gaps = put_gap (Single x) gaps
-
-abbrev pub gaps_of : Inline → List Inline
-gaps_of Nil = Nil ∷ []
-gaps_of (Single x after) = gap_then x.kind x (gaps_of after)
-gaps_of (Around tag start end inside after) = put_gap (Around tag start end inside) (gaps_of after)
-
-abbrev pub no_item : Item
-no_item = item Own 0 0
+abbrev pub end_of : Inline → ℕ
+end_of Nil = 0
+end_of (Single x after) = x.end
+end_of (Around tag start end inside after) = end
 
 -- an element, or one text over all of it
 abbrev pub element : Option Tag → (start end : ℕ) → (inside after : Inline) → Inline
@@ -104,24 +94,19 @@ element (Some tag) start end inside after = Around tag start end inside after
 element None start end inside after = Single (item Own start end) after
 
 module _ (options : Options) where
-  -- spans around the bytes of the runs, with the siblings between these
-  abbrev pub dressed : List Inline → List Item → Spans → Inline
-  dressed gaps bytes spans.Nil = Nil
-  dressed gaps bytes (spans.Single at after) = Single (get_or bytes at no_item) (append (get_or gaps (suc at) Nil) (dressed gaps bytes after))
-  dressed gaps bytes (spans.Around span inside after) =
-      element (span_tag options span.kind) (get_or bytes span.start no_item).start (get_or bytes (span.end - 1) no_item).end
-      (append (get_or gaps (span.start + span_width span.kind) Nil) (dressed gaps bytes inside))
-      (append (get_or gaps span.end Nil) (dressed gaps bytes after))
-
-  abbrev pub dressed_all : Inline → Spans → Inline
-  dressed_all siblings spans = append (get_or (gaps_of siblings) 0 Nil) (dressed (gaps_of siblings) (run_bytes siblings) spans)
+  -- spans around what is at their places; an element begins with the first of its bytes, and ends with the last
+  abbrev pub with_spans : List Inline → Spans → Inline
+  with_spans places spans.Nil = Nil
+  with_spans places (spans.Single at after) = append (get_or places at Nil) (with_spans places after)
+  with_spans places (spans.Around span inside after) =
+      element (span_tag options span.kind) (start_of (get_or places span.start Nil)) (end_of (get_or places (span.end - 1) Nil)) (with_spans places inside) (with_spans places after)
 
   -- one list of siblings with its quotes and its emphasis
   pub record IsDressed (siblings result : Inline) : Type 0 where
     pub pairs : List Pair
     pub spans_are : Spans
-    pub emphasis : IsEmphasis (runs_from (with_quotes siblings) 0) pairs spans_are
-    pub result_is : result ≡ dressed_all (with_quotes siblings) spans_are
+    pub emphasis : IsEmphasis (siblings_from (with_quotes siblings) 0) pairs spans_are
+    pub result_is : result ≡ with_spans (one_by_one (with_quotes siblings)) spans_are
 
 -- ## The elements and texts of the parts
 

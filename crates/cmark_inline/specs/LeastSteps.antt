@@ -21,7 +21,8 @@ use Rattle.cmark_grammar.specs.Options.{Options}
 use Rattle.cmark_grammar.specs.Parts.{Formed, Linking, Parts, Nil, Single, Form, Closing, Opening}
 use Rattle.cmark_grammar.specs.Questions.{Exchange, IsNext}
 use Rattle.cmark_grammar.specs.Readers.{Reader}
-use Rattle.cmark_grammar.specs.Siblings.{Inline, runs_from}
+use Rattle.cmark_grammar.specs.Siblings.{Inline}
+use Rattle.cmark_inline_model.specs.RunSpans.{runs_from}
 use Rattle.cmark_inline_model.specs.SiblingsModel.{siblings_of}
 use Rattle.cmark_references.specs.declared.definitions.RefDefs.{RefDefs}
 use Rattle.cmark_references.specs.declared.footnotes.FootnoteDefs.{FootnoteDefs}

@@ -17,7 +17,8 @@ use Rattle.cmark_grammar.specs.Parts.{Parts, Nil as NoParts, Single as SinglePar
 use Rattle.cmark_grammar.specs.Questions.{AnyAnswer}
 use Rattle.cmark_grammar.specs.Quotes.{Quote, quote_characters}
 use Rattle.cmark_grammar.specs.Readers.{Reader}
-use Rattle.cmark_grammar.specs.Siblings.{Inline, Nil, Single, Around, item, no_item, item_then, footnote_then, quotes_of, tag_by, from_place, display_from}
+use Rattle.cmark_grammar.specs.Siblings.{Inline, Nil, Single, Around, item, item_then, footnote_then, quotes_of, tag_by, from_place, display_from}
+use Rattle.cmark_inline_model.specs.RunSpans.{no_item}
 use Rattle.cmark_inline_model.specs.SiblingsModel.{dress, siblings_of}
 use Rattle.cmark_grammar.specs.Spans.{Spans}
 use Rattle.cmark_inline_model.specs.BracketPass.{Pass, closed_by}

@@ -21,7 +21,8 @@ use Rattle.cmark_grammar.specs.Questions.{Exchange, IsNext, Saying}
 use Rattle.cmark_grammar.specs.Quotes.{quote_characters}
 use Rattle.cmark_block_model.specs.Ranges.{count_nodes, count_tables}
 use Rattle.cmark_grammar.specs.Readers.{Reader}
-use Rattle.cmark_grammar.specs.Siblings.{Inline, Nil, Single, Around, item, quote_as, with_characters, with_quotes, item_then, footnote_then, from_place, display_from, quotes_of, runs_from}
+use Rattle.cmark_grammar.specs.Siblings.{Inline, Nil, Single, Around, item, quote_as, with_characters, with_quotes, item_then, footnote_then, from_place, display_from, quotes_of}
+use Rattle.cmark_inline_model.specs.RunSpans.{runs_from}
 use Rattle.cmark_inline_model.specs.SiblingsModel.{dress, siblings_of, spans_in}
 use Rattle.cmark_grammar.specs.SpanDocuments.{Segment, Given, Content, IsReading, Profile, ReadsAll, at_start, first_of_segments, inside_of, leaf_of, node_segments, reader_of, segments, with_first_segment}
 use Rattle.cmark_grammar.specs.TagEnd.{end_of as end_of_tag}

@@ -18,13 +18,15 @@ use Rattle.cmark_grammar.specs.Parts.{Parts, Nil as NoParts, Single as SinglePar
 use Rattle.cmark_grammar.specs.Questions.{Saying}
 use Rattle.cmark_grammar.specs.Quotes.{quote_characters}
 use Rattle.cmark_grammar.specs.Readers.{Reader}
-use Rattle.cmark_grammar.specs.Siblings.{Inline, Nil, Single, Around, append, quotes_of, quote_as, with_characters, with_quotes, run_then, runs_from, run_bytes, put_gap, gap_then, gaps_of, no_item, element, dressed, dressed_all, IsDressed, item_then, footnote_then, AreSiblings, AreSpans}
+use Rattle.cmark_grammar.specs.Siblings.{Inline, Nil, Single, Around, append, quotes_of, quote_as, with_characters, with_quotes, element, item_then, footnote_then, AreSiblings, AreSpans, siblings_from, one_by_one, with_spans}
+use Rattle.cmark_inline_model.specs.RunSpans.{run_then, runs_from, run_bytes, put_gap, gap_then, gaps_of, no_item, dressed, dressed_all, IsDressedByRuns}
 use Rattle.cmark_grammar.specs.Spans as spans
 use Rattle.cmark_grammar.specs.Spans.{span_tag, span_width, Spans, TakePlaces}
 use Rattle.cmark_grammar.specs.Tag.{Tag}
 use Rattle.cmark_grammar.specs.Tokens.{slice}
 use Rattle.cmark_inline_model.proofs.EmphasisOne.{one}
 use Rattle.cmark_inline_model.proofs.SpanPlaces.{places}
+use Rattle.cmark_inline_model.proofs.SpanPlacing.{by-runs}
 use Rattle.cmark_inline_model.specs.FirstEvents.{IsEnd, BeginWithEnd}
 use Rattle.cmark_inline_model.specs.OptionRules.{IsRead, AllItems}
 use Rattle.cmark_inline_model.specs.TextPlaces.{text_of}
@@ -150,7 +152,7 @@ dressed_span options siblings (spans.Around span inside after) h t =
     (element_span (span_tag options span.kind) (get_or bytes span.start no_item).start (get_or bytes (span.end - 1) no_item).end
     (append (get_or gaps (span.start + span_width span.kind) Nil) (dressed options gaps bytes inside)) (append (get_or gaps span.end Nil) (dressed options gaps bytes after)))
 
-dress_span : (options : Options) (siblings result : Inline) → AreSome siblings → IsDressed options siblings result → IsSpan result
+dress_span : (options : Options) (siblings result : Inline) → AreSome siblings → IsDressedByRuns options siblings result → IsSpan result
 dress_span options siblings result h d =
     let quoted = with_quotes siblings in
     let runs = runs_from quoted 0 in
@@ -212,13 +214,13 @@ module _ (reader : Reader) (Says : Saying) (leaf : Leaf) (before : Between) (eve
   no_part e (Opening opener more) t h = absurd (let f = sym e ∙ h.0 in let d : ⊥ = cc in d)
 
   no_span : (parts : Parts) (f : Inline) → parts ≡ NoParts → AreSpans reader.options parts f → f ≡ Nil
-  no_span parts f e h = h.dressed_so.result_is ∙ ap (λ (l : Inline). dressed_all reader.options (with_quotes l) h.dressed_so.spans_are) none ∙ ap (λ s. dressed_all reader.options Nil s) spans_none
+  no_span parts f e h = h.dressed_so.result_is ∙ ap (λ (l : Inline). with_spans reader.options (one_by_one (with_quotes l)) h.dressed_so.spans_are) none ∙ ap (with_spans reader.options []) spans_none
     where
       none : h.siblings ≡ Nil
       none = subst (λ p. AreSiblings reader.options p h.siblings) e h.are
 
       spans_none : h.dressed_so.spans_are ≡ spans.Nil
-      spans_none = (one (runs_from (with_quotes h.siblings) 0) h.dressed_so.pairs h.dressed_so.spans_are h.dressed_so.emphasis).1 ∙ ap (λ (l : Inline). spans_of (runs_from (with_quotes l) 0)) none
+      spans_none = (one (siblings_from (with_quotes h.siblings) 0) h.dressed_so.pairs h.dressed_so.spans_are h.dressed_so.emphasis).1 ∙ ap (λ (l : Inline). spans_of (siblings_from (with_quotes l) 0)) none
 
   pub leaf-none : InTurn 0 leaf.stretches (length reader.source) → text_of reader leaf ≡ [] → ReadsLeaf reader Says leaf before events after → events ≡ []
   leaf-none turn empty h =
@@ -243,7 +245,7 @@ module _ (reader : Reader) (Says : Saying) (leaf : Leaf) (before : Between) (eve
       let begin : from reader leaf first.at ≢ [] = λ none. some (sym (begin_bytes reader.source leaf.stretches (length reader.source) turn) ∙ none) in
       let part = some_part begin h.parts h.last h.reads.reads h.reads.ends in
       let siblings = siblings_some reader.options h.parts h.are.siblings part (leaf-items reader leaf Says first h.parts h.last h.reads.reads) h.are.are in
-      event_some reader.source h.spans (dress_span reader.options h.are.siblings h.spans siblings h.are.dressed_so) (sym h.events_are ∙ e)
+      event_some reader.source h.spans (dress_span reader.options h.are.siblings h.spans siblings (by-runs reader.options h.are.siblings h.spans h.are.dressed_so)) (sym h.events_are ∙ e)
 
   pub leaf-first : ReadsLeaf reader Says leaf before events after → BeginWithEnd events → ⊥
   leaf-first h b = first_no_end reader.source h.spans (subst BeginWithEnd h.events_are b)

@@ -3,7 +3,8 @@ use Rattle.std.proofs.Common.{◌≡◌, ℕ, List, refl}
 use Rattle.cmark_grammar.specs.Emphasis.{Run, Sibling}
 use Rattle.cmark_grammar.specs.Items.{ItemKind, Plain, Own, Written, Quoted, Delimiters, Code, InlineMath, DisplayMath, Autolink, Html, OwnedHtml, FootnoteReference, SoftBreak, HardBreak, Item}
 use Rattle.cmark_grammar.specs.Quotes.{Quote}
-use Rattle.cmark_grammar.specs.Siblings.{Inline, Single, quote_as, run_then, run_bytes_then, gap_then, put_gap, item_then}
+use Rattle.cmark_grammar.specs.Siblings.{Inline, Single, quote_as, item_then}
+use Rattle.cmark_inline_model.specs.RunSpans.{run_then, run_bytes_then, gap_then, put_gap}
 
 pub record Stays (kind : ItemKind) : Type 0 where
   pub quote : (quoted other : List ℕ → Inline) (cs : List ℕ) → quote_as quoted other kind cs ≡ other cs

@@ -75,6 +75,7 @@ pub mod ReadingPlaces
 pub mod ReadingQuestionLaws
 pub mod RowParts
 pub mod RowPasses
+pub mod RunsAlone
 pub mod SampleReading
 pub mod SegmentLaws
 pub mod ShorterRests
@@ -96,6 +97,7 @@ pub mod SpanEntries
 pub mod SpanItems
 pub mod SpanKinds
 pub mod SpanPlaces
+pub mod SpanPlacing
 pub mod SpanRanges
 pub mod SpentEvents
 pub mod SpentLaws

@@ -25,7 +25,8 @@ use Rattle.cmark_grammar.specs.Parts.{Parts}
 use Rattle.cmark_grammar.specs.Questions.{Exchange, IsNext}
 use Rattle.cmark_grammar.specs.Quotes.{quote_characters}
 use Rattle.cmark_grammar.specs.Readers.{Reader}
-use Rattle.cmark_grammar.specs.Siblings.{Inline, Nil, Single, AreSiblings, AreSpans, IsDressed, append, gaps_of, put_gap, quotes_of, runs_from, with_characters, with_quotes}
+use Rattle.cmark_grammar.specs.Siblings.{Inline, Nil, Single, AreSiblings, AreSpans, append, quotes_of, with_characters, with_quotes}
+use Rattle.cmark_inline_model.specs.RunSpans.{IsDressedByRuns, gaps_of, put_gap, runs_from}
 use Rattle.cmark_grammar.specs.Spans as spans
 use Rattle.cmark_grammar.specs.Tags.{after_ending, after_line_feed}
 use Rattle.cmark_grammar.specs.Tokens.{slice}
@@ -36,6 +37,7 @@ use Rattle.cmark_inline_model.specs.TextPlaces.{text_of, place_in}
 use Rattle.cmark_inline_model.proofs.LeafEndings.{leaf-placed}
 use Rattle.cmark_inline_model.proofs.LeafSteps.{slice-size, slice_drop}
 use Rattle.cmark_inline_model.proofs.PlacedTokens.{no-break, from-text, from-place}
+use Rattle.cmark_inline_model.proofs.SpanPlacing.{by-places}
 use Rattle.cmark_inline_model.proofs.PlainTokens.{NotPlain, markup-not, one-text, token-at}
 
 -- ## No break begins inside a line
@@ -289,7 +291,7 @@ append_none : (start : ℕ) (lines : List (List ℕ)) (last : List ℕ) → appe
 append_none start [] last = refl
 append_none start (line ∷ lines) last = ap (λ after. Single (plain start (start + length line)) (Single (soft (start + length line)) after)) (append_none (suc (start + length line)) lines last)
 
-dressed_same : (options : Options) (start : ℕ) (lines : List (List ℕ)) (last : List ℕ) → IsDressed options (siblings_at start lines last) (siblings_at start lines last)
+dressed_same : (options : Options) (start : ℕ) (lines : List (List ℕ)) (last : List ℕ) → IsDressedByRuns options (siblings_at start lines last) (siblings_at start lines last)
 dressed_same options start lines last =
     let siblings = siblings_at start lines last in
     let quoted : with_quotes siblings ≡ siblings = characters_same start lines last (quote_characters [] (quotes_of siblings)) in
@@ -306,7 +308,7 @@ dressed_same options start lines last =
     }
 
 are_spans : (options : Options) (start : ℕ) (lines : List (List ℕ)) (last : List ℕ) → AreSpans options (parts_at start lines last) (siblings_at start lines last)
-are_spans options start lines last = record { siblings = siblings_at start lines last; are = are_siblings options start lines last; dressed_so = dressed_same options start lines last }
+are_spans options start lines last = record { siblings = siblings_at start lines last; are = are_siblings options start lines last; dressed_so = by-places options (siblings_at start lines last) (siblings_at start lines last) (dressed_same options start lines last) }
 
 -- ## A leaf of plain lines
 

@@ -8,7 +8,8 @@ use Rattle.cmark_grammar.specs.Items.{ItemKind, Written, Quoted, Delimiters, Foo
 use Rattle.cmark_grammar.specs.Options.{Options}
 use Rattle.cmark_grammar.specs.Parts.{Parts, Nil as NoParts, Single as SinglePart, Form, Closing, Opening, Linking, Footnote, Wiki, openings}
 use Rattle.cmark_grammar.specs.Quotes.{Quote, quote_characters}
-use Rattle.cmark_grammar.specs.Siblings.{Inline, Nil, Single, Around, append, item, item_then, text_then, footnote_then, tag_by, wiki_tag, name_text, display_from, quote_then, quotes_of, quote_as, with_characters, with_quotes, run_then, runs_from, dressed_all}
+use Rattle.cmark_grammar.specs.Siblings.{Inline, Nil, Single, Around, append, item, item_then, text_then, footnote_then, tag_by, wiki_tag, name_text, display_from, quote_then, quotes_of, quote_as, with_characters, with_quotes}
+use Rattle.cmark_inline_model.specs.RunSpans.{run_then, runs_from, dressed_all}
 use Rattle.cmark_inline_model.specs.SiblingsModel.{dress, siblings_of}
 use Rattle.cmark_grammar.specs.Spans.{Spans}
 use Rattle.cmark_inline_model.proofs.EmphasisOne.{one}

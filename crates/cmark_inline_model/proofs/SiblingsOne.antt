@@ -1,25 +1,28 @@
 -- The parts of a text have exactly one list of spans, that of the model.
-use Rattle.std.proofs.Common.{◌≡◌, true, false, refl, ap, ◌∙◌, Some, None}
+use Rattle.std.proofs.Common.{◌≡◌, true, false, refl, sym, ap, ◌∙◌, Some, None}
 use Rattle.cmark_inline_model.specs.EmphasisModel.{pairs_of, spans_of}
 use Rattle.cmark_grammar.specs.Options.{Options}
 use Rattle.cmark_grammar.specs.Parts.{Parts, Nil as NoParts, Single as SinglePart, Form, Closing, Opening, Linking, Footnote, Wiki}
-use Rattle.cmark_grammar.specs.Siblings.{Inline, Around, with_quotes, runs_from, dressed_all, IsDressed, item_then, text_then, tag_by, footnote_then, wiki_tag, name_text, display_from, AreSiblings, AreSpans}
+use Rattle.cmark_grammar.specs.Siblings.{Inline, Around, with_quotes, item_then, text_then, tag_by, footnote_then, wiki_tag, name_text, display_from, AreSiblings, AreSpans, IsDressed, siblings_from, one_by_one, with_spans}
 use Rattle.cmark_inline_model.specs.SiblingsModel.{dress, siblings_of, spans_in}
 use Rattle.cmark_inline_model.proofs.EmphasisSound.{sound}
 use Rattle.cmark_inline_model.proofs.EmphasisOne.{one}
+use Rattle.cmark_inline_model.proofs.SpanPlacing.{spans-placed}
 
 module _ (options : Options) where
   pub dress-sound : (siblings : Inline) → IsDressed options siblings (dress options siblings)
   dress-sound siblings = record {
-    pairs = pairs_of (runs_from (with_quotes siblings) 0);
-    spans_are = spans_of (runs_from (with_quotes siblings) 0);
-    emphasis = sound (runs_from (with_quotes siblings) 0);
-    result_is = refl;
+    pairs = pairs_of (siblings_from (with_quotes siblings) 0);
+    spans_are = spans_of (siblings_from (with_quotes siblings) 0);
+    emphasis = sound (siblings_from (with_quotes siblings) 0);
+    result_is = sym (spans-placed options (with_quotes siblings));
   }
 
   pub dress-one : (siblings result : Inline) → IsDressed options siblings result → result ≡ dress options siblings
   dress-one siblings result h =
-      h.result_is ∙ ap (dressed_all options (with_quotes siblings)) (one (runs_from (with_quotes siblings) 0) h.pairs h.spans_are h.emphasis).1
+      h.result_is
+      ∙ ap (with_spans options (one_by_one (with_quotes siblings))) (one (siblings_from (with_quotes siblings) 0) h.pairs h.spans_are h.emphasis).1
+      ∙ spans-placed options (with_quotes siblings)
 
   pub siblings-sound : (parts : Parts) → AreSiblings options parts (siblings_of options parts)
   siblings-sound NoParts = refl

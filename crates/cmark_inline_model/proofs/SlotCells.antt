@@ -2,7 +2,8 @@
 use Rattle.std.proofs.Common.{◌≡◌, ℕ, zero, suc, ◌+◌, List, [], ◌∷◌, ◌++◌, length, get_or, refl, sym, ap, ◌∙◌, subst, arith, append_assoc, length-append}
 use Rattle.cmark_grammar.specs.Emphasis.{StandFrom, places_taken}
 use Rattle.cmark_grammar.specs.Items.{ItemKind, Own, Quoted, Delimiters, FootnoteReference, Item}
-use Rattle.cmark_grammar.specs.Siblings.{Inline, Nil, Single, Around, append, item, run_then, runs_from, bytes_then, run_bytes_then, run_bytes, put_gap, no_gaps, gap_then, gaps_of, no_item}
+use Rattle.cmark_grammar.specs.Siblings.{Inline, Nil, Single, Around, append, item}
+use Rattle.cmark_inline_model.specs.RunSpans.{run_then, runs_from, bytes_then, run_bytes_then, run_bytes, put_gap, no_gaps, gap_then, gaps_of, no_item}
 use Rattle.cmark_inline_model.specs.SlotRows.{Slot, ItemSlot, BeginSlot, EndSlot, NothingSlot, seen, slots_of, run_slots, run_places, LaysItem, LaysOut, item_slots, row_of, item_places, byte_places, item_quotes, quote_places}
 use Rattle.cmark_inline_model.proofs.SlotMarks.{Cell, no_cell, flatten, places_from}
 use Rattle.cmark_inline_model.proofs.TightSpans.{put-rest}

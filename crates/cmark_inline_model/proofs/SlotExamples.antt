@@ -13,7 +13,8 @@ use Rattle.cmark_grammar.specs.Flanking.{is_unicode_white_space, is_unicode_punc
 use Rattle.cmark_grammar.specs.InlineTokens.{token}
 use Rattle.cmark_grammar.specs.Options.{Options, no_options}
 use Rattle.cmark_grammar.specs.Quotes.{quote_characters}
-use Rattle.cmark_grammar.specs.Siblings.{Inline, quotes_of, runs_from}
+use Rattle.cmark_grammar.specs.Siblings.{Inline, quotes_of}
+use Rattle.cmark_inline_model.specs.RunSpans.{runs_from}
 use Rattle.cmark_inline_model.specs.SiblingsModel.{siblings_of}
 use Rattle.cmark_inline_model.specs.LeafModel.{leaf_parts}
 use Rattle.cmark_inline_model.specs.SlotRows.{row_of, byte_places, quote_places, quoted, marked, marks_by, slot_events}

@@ -7,7 +7,9 @@ use Rattle.cmark_grammar.specs.Event.{Start, End, Ranged}
 use Rattle.cmark_grammar.specs.InlineReading.{event_of, over, inline_events}
 use Rattle.cmark_grammar.specs.Options.{Options}
 use Rattle.cmark_grammar.specs.Quotes.{quote_characters}
-use Rattle.cmark_grammar.specs.Siblings.{Inline, Nil, Single, Around, quotes_of, with_quotes, runs_from, run_bytes, gaps_of, dressed, dressed_all, IsDressed}
+use Rattle.cmark_grammar.specs.Siblings.{Inline, Nil, Single, Around, quotes_of, with_quotes}
+use Rattle.cmark_inline_model.specs.RunSpans.{runs_from, run_bytes, gaps_of, dressed, dressed_all, IsDressedByRuns}
+use Rattle.cmark_inline_model.specs.SpanEntries.{entries_of}
 use Rattle.cmark_grammar.specs.Spans as spans
 use Rattle.cmark_grammar.specs.Spans.{SpanKind, Emphasis, Strong, SingleTilde, DoubleTilde, Caret, DoubleEquals, Spans, TakePlaces, span_tag, span_width}
 use Rattle.cmark_grammar.specs.Tag.{Tag}
@@ -175,7 +177,7 @@ module _ (source : List ℕ) where
       ∙ events-on spans (seen rest) opened
       ∙ ap (λ l. inline_events source spans ++ l) (sym (seen-events rest opened))
 
-  pub dressed-events : (options : Options) (siblings result : Inline) (d : IsDressed options siblings result) (slots : List Slot) (bytes quotes : List ℕ) → LaysOut 0 siblings slots bytes quotes
+  pub dressed-events : (options : Options) (siblings result : Inline) (d : IsDressedByRuns options siblings result) (slots : List Slot) (bytes quotes : List ℕ) → LaysOut 0 siblings slots bytes quotes
       → slot_events source (marked options bytes (marks_by (length bytes) d.pairs) (quoted quotes (quote_characters [] (quotes_of siblings)) slots) []) [] ≡ inline_events source result
   dressed-events options siblings result d slots bytes quotes h =
       let q = quotes-written siblings [] slots bytes quotes (quote_characters [] (quotes_of siblings)) h in

@@ -2,7 +2,8 @@
 use Rattle.std.proofs.Common.{◌≡◌, ℕ, zero, suc, ◌+◌, ◌-◌, List, [], ◌∷◌, ◌++◌, length, set, get_or, refl, sym, ap, ◌∙◌, arith, append_assoc, append-nil, length-append, Option, Some, None}
 use Rattle.cmark_grammar.specs.Items.{Own, Item}
 use Rattle.cmark_grammar.specs.Options.{Options}
-use Rattle.cmark_grammar.specs.Siblings.{item, no_item}
+use Rattle.cmark_grammar.specs.Siblings.{item}
+use Rattle.cmark_inline_model.specs.RunSpans.{no_item}
 use Rattle.cmark_grammar.specs.Spans.{SpanKind, span_tag}
 use Rattle.cmark_grammar.specs.Tag.{Tag}
 use Rattle.cmark_inline_model.specs.SlotRows.{Slot, ItemSlot, BeginSlot, EndSlot, NothingSlot, Mark, Stays, Begins, Ends, Blank, start_in, end_in, used_up, spanned, marked}

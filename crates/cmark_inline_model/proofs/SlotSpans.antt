@@ -2,7 +2,8 @@
 use Rattle.std.proofs.Common.{◌≡◌, ℕ, zero, suc, ◌+◌, ◌-◌, List, [], ◌∷◌, ◌++◌, length, refl, sym, ap, ◌∙◌, subst, arith, append_assoc, append-nil, Option, Some, None}
 use Rattle.cmark_grammar.specs.Items.{Own, Item}
 use Rattle.cmark_grammar.specs.Options.{Options}
-use Rattle.cmark_grammar.specs.Siblings.{Inline, Nil, append, item, element, dressed}
+use Rattle.cmark_grammar.specs.Siblings.{Inline, Nil, append, item, element}
+use Rattle.cmark_inline_model.specs.RunSpans.{dressed}
 use Rattle.cmark_grammar.specs.Spans as spans
 use Rattle.cmark_grammar.specs.Spans.{SpanKind, Emphasis, Strong, SingleTilde, DoubleTilde, Caret, DoubleEquals, Span, Spans, span_tag, span_width, TakePlaces}
 use Rattle.cmark_grammar.specs.Tag.{Tag}

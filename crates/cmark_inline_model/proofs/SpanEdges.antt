@@ -17,7 +17,8 @@ use Rattle.cmark_grammar.specs.Questions.{Exchange, IsNext, Saying}
 use Rattle.cmark_grammar.specs.Quotes.{quote_characters}
 use Rattle.cmark_block_model.specs.Ranges.{AllAt}
 use Rattle.cmark_grammar.specs.Readers.{Reader}
-use Rattle.cmark_grammar.specs.Siblings.{Inline, Nil, Single, Around, append, item, quotes_of, quote_as, with_characters, with_quotes, runs_from, bytes_then, run_bytes_then, run_bytes, put_gap, no_gaps, gap_then, gaps_of, no_item, element, dressed, item_then, footnote_then, from_place, display_from}
+use Rattle.cmark_grammar.specs.Siblings.{Inline, Nil, Single, Around, append, item, quotes_of, quote_as, with_characters, with_quotes, element, item_then, footnote_then, from_place, display_from}
+use Rattle.cmark_inline_model.specs.RunSpans.{runs_from, bytes_then, run_bytes_then, run_bytes, put_gap, no_gaps, gap_then, gaps_of, no_item, dressed}
 use Rattle.cmark_inline_model.specs.SiblingsModel.{dress, siblings_of, spans_in}
 use Rattle.cmark_grammar.specs.SpanDocuments.{Content, Given, IsReading, Profile, ReadsAll, Segment, at_start, first_of_segments, inside_of, leaf_of, node_segments, reader_of, segments, stretches_of, with_first_segment}
 use Rattle.cmark_grammar.specs.Spans as spans

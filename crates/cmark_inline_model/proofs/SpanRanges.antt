@@ -6,7 +6,8 @@ use Rattle.cmark_inline_model.specs.EmphasisModel.{spans_of}
 use Rattle.cmark_grammar.specs.Items.{ItemKind, Delimiters, Autolink, Item}
 use Rattle.cmark_grammar.specs.Options.{Options}
 use Rattle.cmark_grammar.specs.Quotes.{quote_characters}
-use Rattle.cmark_grammar.specs.Siblings.{Inline, Nil, Single, Around, append, quotes_of, quote_as, with_characters, with_quotes, run_then, runs_from, bytes_then, run_bytes_then, run_bytes, put_gap, no_gaps, gap_then, gaps_of, no_item, element, dressed}
+use Rattle.cmark_grammar.specs.Siblings.{Inline, Nil, Single, Around, append, quotes_of, quote_as, with_characters, with_quotes, element}
+use Rattle.cmark_inline_model.specs.RunSpans.{run_then, runs_from, bytes_then, run_bytes_then, run_bytes, put_gap, no_gaps, gap_then, gaps_of, no_item, dressed}
 use Rattle.cmark_inline_model.specs.SiblingsModel.{dress}
 use Rattle.cmark_grammar.specs.Spans as spans
 use Rattle.cmark_grammar.specs.Spans.{span_tag, span_width, Spans, TakePlaces}

@@ -4,7 +4,8 @@ use Rattle.cmark_grammar.specs.Emphasis.{Run, Pair, Sibling, Plain, Delimiter, P
 use Rattle.cmark_grammar.specs.Emphasis.{paired_count, pair_of, rest_of_opener, rest_of_closer, kinds_of, nest, wrapped, row, keep, is_tilde_or_caret, deactivates, deactivated, left_open, stand, Closes}
 use Rattle.cmark_inline_model.specs.EmphasisModel.{closed, resolve, spans_of}
 use Rattle.cmark_grammar.specs.Items.{ItemKind, Delimiters, Item}
-use Rattle.cmark_grammar.specs.Siblings.{Inline, Nil as NoSiblings, Single as SingleItem, Around as Element, run_then, runs_from, put_gap, no_gaps, gap_then, gaps_of}
+use Rattle.cmark_grammar.specs.Siblings.{Inline, Nil as NoSiblings, Single as SingleItem, Around as Element}
+use Rattle.cmark_inline_model.specs.RunSpans.{run_then, runs_from, put_gap, no_gaps, gap_then, gaps_of}
 use Rattle.cmark_grammar.specs.Spans.{SpanKind, span_width, Spans, Nil, Single, Around, join, singles}
 use Rattle.cmark_inline_model.specs.SlotRows.{AreTight}
 use Rattle.cmark_inline_model.proofs.EmphasisSound.{closed-closes}

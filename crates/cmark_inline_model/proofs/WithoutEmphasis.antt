@@ -1,13 +1,13 @@
 -- If siblings have no delimiter run of `=`, their spans are those of the grammar without highlight.
 use Rattle.std.specs.Prelude.{◌==◌, ◌&&◌, ◌||◌, not, nat_lt, nat_le, if◌then◌else◌, max, drop}
-use Rattle.std.proofs.Common.{◌≡◌, ℕ, ◌+◌, Bool, true, false, List, [], ◌∷◌, Some, None, refl, sym, ap, subst, ◌∙◌, true≢false, eqb-true}
+use Rattle.std.proofs.Common.{◌≡◌, ℕ, suc, ◌+◌, Bool, true, false, List, [], ◌∷◌, Some, None, refl, sym, ap, subst, ◌∙◌, true≢false, eqb-true}
 use Rattle.cmark_grammar.specs.Emphasis.{Run, Pair, Sibling, Plain as PlainSibling, Delimiter, Piece, Whole, Standing, keeps_rule_of_three, agrees, pair_of, rest_of_opener, rest_of_closer, emphasis_kinds, tilde_kinds, caret_kinds, equals_kinds, kinds_of, nest, wrapped, row, keep, stand, Misses, Closes, Pairs}
 use Rattle.cmark_grammar.specs.Flanking.{is_delimiter_run}
 use Rattle.cmark_grammar.specs.Items.{ItemKind, Plain, Own, Written, Quoted, Delimiters, Code, InlineMath, DisplayMath, Autolink, Html, OwnedHtml, FootnoteReference, SoftBreak, HardBreak, Item}
 use Rattle.cmark_grammar.specs.Options.{Options}
 use Rattle.cmark_grammar.specs.Parts.{Parts, Nil as NoParts, Single as SinglePart, Form, Closing, Opening, Linking, Footnote, Wiki}
 use Rattle.cmark_grammar.specs.Quotes.{quote_characters}
-use Rattle.cmark_grammar.specs.Siblings.{Inline, Nil, Single, Around, item, quotes_of, quote_as, with_characters, with_quotes, run_then, runs_from, item_then, footnote_then, from_place, display_from, IsDressed, AreSiblings, AreSpans}
+use Rattle.cmark_grammar.specs.Siblings.{Inline, Nil, Single, Around, item, quotes_of, quote_as, with_characters, with_quotes, sibling_then, siblings_from, item_then, footnote_then, from_place, display_from, AreSiblings, AreSpans, IsDressed}
 use Rattle.cmark_grammar.specs.Spans as spans
 use Rattle.cmark_grammar.specs.Spans.{Spans}
 use Rattle.cmark_inline_model.specs.OptionRules.{IsRead, AllItems}
@@ -165,19 +165,17 @@ characters_other (Single x after) cs h = go (characters_other after (drop 1 cs) 
     go quoted other _ (AnAutolink uri) = (h.0, other)
     go quoted other _ (AText kind t) = subst HasOthers (sym (t.quote (quoted_then x after) (other_then x after) cs)) (h.0, other)
 
-runs_other : (siblings : Inline) (n : ℕ) → HasOthers siblings → OtherRuns (runs_from siblings n)
-runs_other Nil n h = tt
-runs_other (Around tag start end inside after) n h = runs_other after n h
-runs_other (Single x after) n h = go x.kind h.0 (kind-view x.kind) (λ m. runs_other after m h.1)
-  where
-    go : (kind : ItemKind) → IsOtherKind kind → KindView kind → ((m : ℕ) → OtherRuns (runs_from after m)) → OtherRuns (run_then n kind (runs_from after))
-    go _ k (AQuote quote) i = i n
-    go _ k (ARun run) i = (k, i (n + run.run_length))
-    go _ k (AnAutolink uri) i = i n
-    go _ k (AText kind t) i = subst OtherRuns (sym (t.run n (runs_from after))) (i n)
+item_others : (kind : ItemKind) (n : ℕ) (after : ℕ → List Sibling) → IsOtherKind kind → ((m : ℕ) → OtherRuns (after m)) → OtherRuns (sibling_then n kind after)
+item_others (Delimiters run) n after h i = (h, i (n + run.run_length))
+item_others kind n after h i = i (suc n)
 
-quotes_other : (siblings : Inline) → HasOthers siblings → OtherRuns (runs_from (with_quotes siblings) 0)
-quotes_other siblings h = runs_other (with_quotes siblings) 0 (characters_other siblings (quote_characters [] (quotes_of siblings)) h)
+siblings_other : (siblings : Inline) (n : ℕ) → HasOthers siblings → OtherRuns (siblings_from siblings n)
+siblings_other Nil n h = tt
+siblings_other (Around tag start end inside after) n h = siblings_other after (suc n) h
+siblings_other (Single x after) n h = item_others x.kind n (siblings_from after) h.0 (λ m. siblings_other after m h.1)
+
+quotes_other : (siblings : Inline) → HasOthers siblings → OtherRuns (siblings_from (with_quotes siblings) 0)
+quotes_other siblings h = siblings_other (with_quotes siblings) 0 (characters_other siblings (quote_characters [] (quotes_of siblings)) h)
 
 -- ## The spans of a leaf
 module _ (options : Options) where
@@ -185,7 +183,7 @@ module _ (options : Options) where
   dressed_to siblings result o h = record {
     pairs = h.pairs;
     spans_are = h.spans_are;
-    emphasis = record { last = h.emphasis.last; are = pairs_to (runs_from (with_quotes siblings) 0) [] h.pairs h.emphasis.last (quotes_other siblings o) h.emphasis.are; become_so = h.emphasis.become };
+    emphasis = record { last = h.emphasis.last; are = pairs_to (siblings_from (with_quotes siblings) 0) [] h.pairs h.emphasis.last (quotes_other siblings o) h.emphasis.are; become_so = h.emphasis.become };
     result_is = h.result_is;
   }
 
@@ -193,7 +191,7 @@ module _ (options : Options) where
   dressed_from siblings result o h = record {
     pairs = h.pairs;
     spans_are = h.spans_are;
-    emphasis = record { last = h.emphasis.last; are = pairs_from (runs_from (with_quotes siblings) 0) [] h.pairs h.emphasis.last (quotes_other siblings o) h.emphasis.are; become = h.emphasis.become_so };
+    emphasis = record { last = h.emphasis.last; are = pairs_from (siblings_from (with_quotes siblings) 0) [] h.pairs h.emphasis.last (quotes_other siblings o) h.emphasis.are; become = h.emphasis.become_so };
     result_is = h.result_is;
   }
 
@@ -256,28 +254,28 @@ module _ (options : Options) where
       let j = siblings_to after h.0 o h.1 in
       ((h.0, j.0, h.2), subst HasOthers (sym h.2) (tt, j.1))
 
-  siblings_from : (parts : Parts) (siblings : Inline) → AllItems IsOtherKind parts → AreSiblingsWithout options parts siblings → AreSiblings options parts siblings × HasOthers siblings
-  siblings_from NoParts siblings o h = (h, subst HasOthers (sym h) tt)
-  siblings_from (SinglePart x after) siblings o h =
-      let i = siblings_from after h.0 o.1 h.1 in
+  siblings_back : (parts : Parts) (siblings : Inline) → AllItems IsOtherKind parts → AreSiblingsWithout options parts siblings → AreSiblings options parts siblings × HasOthers siblings
+  siblings_back NoParts siblings o h = (h, subst HasOthers (sym h) tt)
+  siblings_back (SinglePart x after) siblings o h =
+      let i = siblings_back after h.0 o.1 h.1 in
       ((h.0, i.0, h.2), subst HasOthers (sym h.2) (item_other x h.0 o.0 i.1))
-  siblings_from (Form opener inside closer (Linking target) after) siblings o h =
-      let i = siblings_from inside h.0 o.0 h.3 in let j = siblings_from after h.2 o.1 h.5 in
+  siblings_back (Form opener inside closer (Linking target) after) siblings o h =
+      let i = siblings_back inside h.0 o.0 h.3 in let j = siblings_back after h.2 o.1 h.5 in
       ((h.0, h.1, h.2, i.0, dressed_from options h.0 h.1 i.1 h.4, j.0, h.6), subst HasOthers (sym h.6) j.1)
-  siblings_from (Form opener inside closer (Footnote label end) after) siblings o h =
-      let j = siblings_from after h.0 o.1 h.1 in
+  siblings_back (Form opener inside closer (Footnote label end) after) siblings o h =
+      let j = siblings_back after h.0 o.1 h.1 in
       ((h.0, j.0, h.2), subst HasOthers (sym h.2) (footnote_other opener.is_image opener.start label end h.0 j.1))
-  siblings_from (Form opener inside closer (Wiki name None end) after) siblings o h =
-      let j = siblings_from after h.0 o.1 h.1 in
+  siblings_back (Form opener inside closer (Wiki name None end) after) siblings o h =
+      let j = siblings_back after h.0 o.1 h.1 in
       ((h.0, j.0, h.2), subst HasOthers (sym h.2) j.1)
-  siblings_from (Form opener inside closer (Wiki name (Some place) end) after) siblings o h =
-      let i = siblings_from inside h.0 o.0 h.3 in let j = siblings_from after h.2 o.1 h.5 in
+  siblings_back (Form opener inside closer (Wiki name (Some place) end) after) siblings o h =
+      let i = siblings_back inside h.0 o.0 h.3 in let j = siblings_back after h.2 o.1 h.5 in
       ((h.0, h.1, h.2, i.0, dressed_from options (display_from place closer.start h.0) h.1 (display_other place closer.start h.0 i.1) h.4, j.0, h.6), subst HasOthers (sym h.6) j.1)
-  siblings_from (Closing closer after) siblings o h =
-      let j = siblings_from after h.0 o h.1 in
+  siblings_back (Closing closer after) siblings o h =
+      let j = siblings_back after h.0 o h.1 in
       ((h.0, j.0, h.2), subst HasOthers (sym h.2) (tt, j.1))
-  siblings_from (Opening opener after) siblings o h =
-      let j = siblings_from after h.0 o h.1 in
+  siblings_back (Opening opener after) siblings o h =
+      let j = siblings_back after h.0 o h.1 in
       ((h.0, j.0, h.2), subst HasOthers (sym h.2) (tt, j.1))
 
   pub spans-to : (parts : Parts) (become : Inline) → AllItems IsOtherKind parts → AreSpans options parts become → AreSpansWithout options parts become
@@ -287,5 +285,5 @@ module _ (options : Options) where
 
   pub spans-from : (parts : Parts) (become : Inline) → AllItems IsOtherKind parts → AreSpansWithout options parts become → AreSpans options parts become
   spans-from parts become o h =
-      let i = siblings_from parts h.siblings o h.are in
+      let i = siblings_back parts h.siblings o h.are in
       record { siblings = h.siblings; are = i.0; dressed_so = dressed_from options h.siblings become i.1 h.dressed_so }

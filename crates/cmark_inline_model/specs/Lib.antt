@@ -28,6 +28,7 @@ pub mod ReadingRanges
 pub mod ReferenceExpansion
 pub mod RowParts
 pub mod RowPasses
+pub mod RunSpans
 pub mod SiblingsModel
 pub mod SlotRows
 pub mod SpanEntries

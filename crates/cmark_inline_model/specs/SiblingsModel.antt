@@ -3,7 +3,8 @@ use Rattle.std.specs.Prelude.{true, false, Some, None}
 use Rattle.cmark_inline_model.specs.EmphasisModel.{spans_of}
 use Rattle.cmark_grammar.specs.Options.{Options}
 use Rattle.cmark_grammar.specs.Parts.{Parts, Nil as NoParts, Single as SinglePart, Form, Closing, Opening, Linking, Footnote, Wiki}
-use Rattle.cmark_grammar.specs.Siblings.{Inline, Nil, Around, with_quotes, runs_from, dressed_all, item_then, text_then, tag_by, footnote_then, wiki_tag, name_text, display_from}
+use Rattle.cmark_grammar.specs.Siblings.{Inline, Nil, Around, with_quotes, item_then, text_then, tag_by, footnote_then, wiki_tag, name_text, display_from}
+use Rattle.cmark_inline_model.specs.RunSpans.{runs_from, dressed_all}
 
 module _ (options : Options) where
   abbrev pub dress : Inline → Inline

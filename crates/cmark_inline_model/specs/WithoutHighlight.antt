@@ -26,7 +26,7 @@ use Rattle.cmark_grammar.specs.Options.{Options}
 use Rattle.cmark_grammar.specs.Parts.{Parts, Nil as NoParts, Single as SinglePart, Form, Closing, Opening, Linking, Footnote, Wiki}
 use Rattle.cmark_grammar.specs.Questions.{Exchange, Saying, IsNext}
 use Rattle.cmark_grammar.specs.Readers.{Reader}
-use Rattle.cmark_grammar.specs.Siblings.{Inline, Nil, Around, with_quotes, runs_from, dressed_all, item_then, text_then, tag_by, footnote_then, wiki_tag, name_text, display_from}
+use Rattle.cmark_grammar.specs.Siblings.{Inline, Nil, Around, with_quotes, siblings_from, one_by_one, with_spans, item_then, text_then, tag_by, footnote_then, wiki_tag, name_text, display_from}
 use Rattle.cmark_grammar.specs.SpanDocuments.{Segment, Given, Content, Profile, segments, reader_of, at_start}
 use Rattle.cmark_grammar.specs.Spans.{SpanKind, Spans}
 use Rattle.cmark_grammar.specs.Spans as spans
@@ -158,8 +158,8 @@ module _ (options : Options) where
   pub record IsDressedWithout (siblings result : Inline) : Type 0 where
     pub pairs : List Pair
     pub spans_are : Spans
-    pub emphasis : IsEmphasisWithout (runs_from (with_quotes siblings) 0) pairs spans_are
-    pub result_is : result ≡ dressed_all options (with_quotes siblings) spans_are
+    pub emphasis : IsEmphasisWithout (siblings_from (with_quotes siblings) 0) pairs spans_are
+    pub result_is : result ≡ with_spans options (one_by_one (with_quotes siblings)) spans_are
 
   abbrev pub AreSiblingsWithout : Parts → Inline → Type 0
   AreSiblingsWithout NoParts siblings = siblings ≡ Nil

@@ -12,10 +12,20 @@ ghost use Rattle.cmark_grammar.specs.Options.{Options};
 ghost use Rattle.cmark_grammar.specs.Questions.{Exchange, IsNext};
 ghost use Rattle.cmark_grammar.specs.Quotes.{quote_characters};
 ghost use Rattle.cmark_grammar.specs.Readers.{Reader};
-ghost use Rattle.cmark_grammar.specs.Siblings.{Inline, IsDressed, Nil, dressed_all, gaps_of, quotes_of, runs_from, with_characters};
+ghost use Rattle.cmark_grammar.specs.Siblings.{Inline, IsDressed, Nil, quotes_of, with_characters};
+ghost use Rattle.cmark_inline_model.specs.RunSpans.{IsDressedByRuns, dressed_all, gaps_of, runs_from};
 ghost use Rattle.cmark_grammar.specs.Spans.{Spans};
 ghost use Rattle.cmark_inline_model.specs.LikeSlots.{AreLike};
 ghost use Rattle.cmark_inline_model.specs.SlotRows.{AreTight, LaysOut, Mark, Slot, StandAfter, byte_places, marked, marks_by, marks_of, quote_places, quoted, row_of, seen, slot_events, slots_of};
+
+/// The pairs of the delimiter runs alone give the spans of the siblings (`sound`). Whatever spans the siblings have, the runs alone give them
+/// too (`complete`).
+pub fn runs_alone_give_the_emphasis()
+    ensures sound { (options : Options) (siblings result : Inline)
+        → IsDressedByRuns options siblings result → IsDressed options siblings result }
+    ensures complete { (options : Options) (siblings result : Inline)
+        → IsDressed options siblings result → IsDressedByRuns options siblings result }
+{}
 
 /// Siblings can be laid out as slots, from any index of a row on.
 pub fn siblings_have_slots()
@@ -72,7 +82,7 @@ pub fn slots_give_the_events()
 /// are the events with quotes and emphasis as the grammar reads them.
 pub fn events_are_read_off_the_slots()
     ensures { (source : List ℕ) (options : Options) (siblings result : Inline)
-        (dressed : IsDressed options siblings result) → (slots : List Slot) (bytes quotes : List ℕ)
+        (dressed : IsDressedByRuns options siblings result) → (slots : List Slot) (bytes quotes : List ℕ)
         → LaysOut 0 siblings slots bytes quotes
         → slot_events source
         (marked options bytes (marks_by (length bytes) dressed.pairs)
@@ -85,10 +95,11 @@ pub fn events_of_a_leaf_are_read_off_its_slots()
     ensures { (reader : Reader) (exchanges : List Exchange) (leaf : Leaf) (before after : Between)
         (events : List Ranged)
         (reads : ReadsLeaf reader (IsNext exchanges) leaf before events after)
+        (dressed : IsDressedByRuns reader.options reads.are.siblings reads.spans)
         → (slots : List Slot) (bytes quotes : List ℕ)
         → LaysOut 0 reads.are.siblings slots bytes quotes
         → slot_events reader.source
-        (marked reader.options bytes (marks_by (length bytes) reads.are.dressed_so.pairs)
+        (marked reader.options bytes (marks_by (length bytes) dressed.pairs)
         (quoted quotes (quote_characters [] (quotes_of reads.are.siblings)) slots) []) [] ≡ events }
 {}
 
@@ -107,7 +118,7 @@ pub fn like_slots_stay_like()
 /// The events of a list of siblings can be read from any slots that are like its own.
 pub fn events_are_read_off_like_slots()
     ensures { (source : List ℕ) (options : Options) (siblings result : Inline)
-        (so : IsDressed options siblings result)
+        (so : IsDressedByRuns options siblings result)
         → (slots others : List Slot) (bytes quotes : List ℕ)
         → LaysOut 0 siblings others bytes quotes → AreLike source slots others
         → slot_events source
