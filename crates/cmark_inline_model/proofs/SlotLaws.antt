@@ -9,7 +9,6 @@ use Rattle.cmark_grammar.specs.Options.{Options}
 use Rattle.cmark_grammar.specs.Quotes.{quote_characters}
 use Rattle.cmark_grammar.specs.Siblings.{Inline, Nil, Single, Around, quotes_of, with_quotes}
 use Rattle.cmark_inline_model.specs.RunSpans.{runs_from, run_bytes, gaps_of, dressed, dressed_all, IsDressedByRuns}
-use Rattle.cmark_inline_model.specs.SpanEntries.{entries_of}
 use Rattle.cmark_grammar.specs.Spans as spans
 use Rattle.cmark_grammar.specs.Spans.{SpanKind, Emphasis, Strong, SingleTilde, DoubleTilde, Caret, DoubleEquals, Spans, TakePlaces, span_tag, span_width}
 use Rattle.cmark_grammar.specs.Tag.{Tag}
