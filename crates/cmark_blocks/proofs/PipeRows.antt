@@ -2,8 +2,9 @@
 use Rattle.std.proofs.Common.{◌≡◌, ℕ, suc, ◌≤◌, Bool, true, false, ◌==◌, ◌&&◌, ◌||◌, List, [], ◌∷◌, length, drop, take_while, cond, None, Option, Some, refl, sym, ap, ◌∙◌, arith, eqb-true, true≢false, ⊎_elim, ◌⊎◌, inl, inr}
 use Rattle.std.specs.Prelude.{if◌then◌else◌, nat_le, nat_lt}
 use Rattle.std.proofs.lemmas.List.Sums.{take_while-cons}
+use Rattle.cmark_grammar.specs.Characters.{space, tab}
 use Rattle.cmark_grammar.specs.Alignment.{Alignment}
-use Rattle.cmark_grammar.specs.Columns.{Column, bytes_of, is_blank, is_blank_byte, without_indent, space, tab}
+use Rattle.cmark_grammar.specs.Columns.{Column, bytes_of, is_blank, is_blank_byte, without_indent}
 use Rattle.cmark_grammar.specs.Answers.{Lookup}
 use Rattle.cmark_grammar.specs.Blocks.{place_in}
 use Rattle.cmark_grammar.specs.Containers.{begins_with, footnote_of, footnote_with, is_alert, enter}
