@@ -137,6 +137,7 @@ end_again : (e : TagEnd) (start end : ℕ) → IsProperEnd e → end_of (end_rec
 end_again (end.Heading level) start to proper = ap (λ o. o >>= λ l. Some (end.Heading l)) (level_again level proper)
 end_again (end.BlockQuote kind) start to proper = ap (λ o. o >>= λ k. Some (end.BlockQuote k)) (quote_again kind)
 end_again (end.MetadataBlock kind) start to proper = ap (λ o. o >>= λ k. Some (end.MetadataBlock k)) (metadata_again kind)
+end_again (end.Listing true) start to proper = refl
 end_again _ start to proper = refl
 
 -- ---- events
@@ -147,6 +148,7 @@ at event start end = record { event = event; start = start; end = end }
 event_again : (event : Event) (start end : ℕ) → IsProperEvent event → event_of (event_record (at event start end)) (event_parts event) ≡ Some event
 event_again (Start t) start to proper = ap (λ o. o >>= λ x. Some (Start x)) (tag_again t start to proper)
 event_again (End e) start to proper = ap (λ o. o >>= λ x. Some (End x)) (end_again e start to proper)
+event_again (TaskListMarker true) start to proper = refl
 event_again _ start to proper = refl
 
 pub ranged_again : (r : Ranged) → IsProper r → ranged_of (record { own = event_record r; parts = event_parts r.event }) ≡ Some r
