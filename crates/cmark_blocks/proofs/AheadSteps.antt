@@ -58,11 +58,11 @@ module _ (text : List ℕ) (options : Options) (lookup : Lookup) where
       }
 
   -- whether a line continues a paragraph as its text, before others
-  pub text-if : (r : Row) (ahead : List Row) → r.lazy ≡ false → (is table : Bool) → is ≡ (not (interrupts options true r ahead) && is_none (underlines r)) → table ≡ block_interrupts options true r ahead
+  pub text-if : (r : Row) (ahead : List Row) → r.lazy ≡ false → (is table : Bool) → is ≡ (not (interrupts options true r ahead) && is_none (underlines r)) → table ≡ block_interrupts options r ahead
       → text_lines options (r ∷ ahead) ≡ put_if (is && not table) r (text_lines options ahead)
   text-if r ahead whole is table e t =
       ap (λ z. put_if (z && is_none (underlines r)) r (text_lines options ahead)) (whole-texts options r ahead whole)
-      ∙ ap (λ b. put_if b r (text_lines options ahead)) (apart (interrupts options true r ahead) (block_interrupts options true r ahead) (is_none (underlines r)) ∙ ap (λ z. z && not (block_interrupts options true r ahead)) (sym e) ∙ ap (λ z. is && not z) (sym t))
+      ∙ ap (λ b. put_if b r (text_lines options ahead)) (apart (interrupts options true r ahead) (block_interrupts options r ahead) (is_none (underlines r)) ∙ ap (λ z. z && not (block_interrupts options r ahead)) (sym e) ∙ ap (λ z. is && not z) (sym t))
     where
       apart : (a b n : Bool) → (not (a || b) && n) ≡ ((not a && n) && not b)
       apart true b n = refl

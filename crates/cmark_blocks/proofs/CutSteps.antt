@@ -259,10 +259,10 @@ module _ (text : List ℕ) (options : Options) (lookup : Lookup) where
   not-not false = refl
 
   -- a line that lacks no prefix is no text of a paragraph
-  pub ends-text : (r : Row) (ahead : List Row) (i b : Bool) → r.lazy ≡ false → i ≡ interrupts options true r ahead → b ≡ block_interrupts options true r ahead → (i || b) ≡ not (texts options r ahead)
+  pub ends-text : (r : Row) (ahead : List Row) (i b : Bool) → r.lazy ≡ false → i ≡ interrupts options true r ahead → b ≡ block_interrupts options r ahead → (i || b) ≡ not (texts options r ahead)
   ends-text r ahead i b whole e f =
       ap (λ x. x || b) e ∙ ap (λ x. interrupts options true r ahead || x) f
-      ∙ sym (not-not (interrupts options true r ahead || block_interrupts options true r ahead))
+      ∙ sym (not-not (interrupts options true r ahead || block_interrupts options r ahead))
       ∙ ap not (sym (whole-texts options r ahead whole))
 
   -- the outermost container and the ones inside it

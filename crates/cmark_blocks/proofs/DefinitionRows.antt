@@ -22,9 +22,12 @@ none-marked a b r e = go (a && (not r.lazy && b)) ∙ refl
     go true = ap (λ c. if c then Some (width_with 1 r) else None) e
     go false = refl
 
--- a letter is no marker
+-- another byte is no marker, as a letter
+pub other-definition-not : (options : Options) (r : Row) → begins_with 58 (words_of r) ≡ false → begins_definition options r ≡ false
+other-definition-not options r other = ap is_marker (none-marked options.definition_list (nat_le (indent_of r) 3) r other)
+
 pub letter-definition-not : (options : Options) (r : Row) → first_is is_letter (words_of r) ≡ true → begins_definition options r ≡ false
-letter-definition-not options r e = ap is_marker (none-marked options.definition_list (nat_le (indent_of r) 3) r (go (words_of r) e))
+letter-definition-not options r e = other-definition-not options r (go (words_of r) e)
   where
     at : (b : ℕ) (z : Bool) → (b == 58) ≡ z → is_letter b ≡ true → z ≡ false
     at b true e l = absurd (let is : b ≡ 58 = eqb-true b 58 e in let q : false ≡ true = sym (ap is_letter is) ∙ l in cc)

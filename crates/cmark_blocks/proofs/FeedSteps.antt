@@ -3,12 +3,13 @@ use Rattle.std.proofs.Common.{◌≡◌, ◌≢◌, ℕ, suc, ◌≤◌, ◌==�
 use Rattle.std.proofs.lemmas.List.{drop_all}
 use Rattle.cmark_grammar.specs.Answers.{Lookup}
 use Rattle.cmark_grammar.specs.Containers.{Container}
-use Rattle.cmark_grammar.specs.DefinitionLists.{is_definition}
+use Rattle.cmark_grammar.specs.DefinitionLists.{begins_definition, is_definition}
 use Rattle.cmark_grammar.specs.Leaves.{underlines}
 use Rattle.cmark_grammar.specs.Openings.{interrupts, texts, lazily}
 use Rattle.cmark_grammar.specs.Options.{Options}
 use Rattle.cmark_grammar.specs.Lines.{lines}
 use Rattle.cmark_grammar.specs.Rows.{Row, begin_of, rows_from}
+use Rattle.cmark_grammar.specs.TableRows.{table_interrupts}
 use Rattle.cmark_blocks.specs.TablesAhead.{block_interrupts}
 use Rattle.cmark_grammar.specs.Tokens.{stretch_then}
 use Rattle.cmark_grammar.specs.BlockDocument.{Nil}
@@ -58,18 +59,18 @@ module _ (text : List ℕ) (options : Options) (lookup : Lookup) (r : Row) (next
       ap (λ l. leaf_fed text options lookup l r next m) is
       ∙ ap (λ u. underlined_or text options lookup u (λ level. heading_made text options lookup level before from last r m) (if texts options r (ahead_in text options lookup m.outer next) then paragraph_line text options lookup before from last r m else begin text options lookup r next (leaf_closed text options lookup m))) (sym under)
 
-  feeds-other : (before : List Row) (from : ℕ) (last : Row) (goes_on : Bool) → None ≡ underlines r → r.lazy ≡ false → not (interrupts options true r (ahead_in text options lookup m.outer next) || block_interrupts options true r (ahead_in text options lookup m.outer next)) ≡ goes_on → m.leaf ≡ model.InParagraph before from last →
+  feeds-other : (before : List Row) (from : ℕ) (last : Row) (goes_on : Bool) → None ≡ underlines r → r.lazy ≡ false → not (interrupts options true r (ahead_in text options lookup m.outer next) || block_interrupts options r (ahead_in text options lookup m.outer next)) ≡ goes_on → m.leaf ≡ model.InParagraph before from last →
       leaf_fed text options lookup m.leaf r next m ≡ (if goes_on then paragraph_line text options lookup before from last r m else begin text options lookup r next (leaf_closed text options lookup m))
   feeds-other before from last goes_on under whole on is =
       ap (λ l. leaf_fed text options lookup l r next m) is
       ∙ ap (λ u. underlined_or text options lookup u (λ level. heading_made text options lookup level before from last r m) (if texts options r (ahead_in text options lookup m.outer next) then paragraph_line text options lookup before from last r m else begin text options lookup r next (leaf_closed text options lookup m))) (sym under)
       ∙ ap (λ t. if t then paragraph_line text options lookup before from last r m else begin text options lookup r next (leaf_closed text options lookup m)) (whole-texts options r (ahead_in text options lookup m.outer next) whole ∙ on)
 
-  pub feeds-interrupted : (before : List Row) (from : ℕ) (last : Row) → None ≡ underlines r → r.lazy ≡ false → true ≡ (interrupts options true r (ahead_in text options lookup m.outer next) || block_interrupts options true r (ahead_in text options lookup m.outer next)) → m.leaf ≡ model.InParagraph before from last →
+  pub feeds-interrupted : (before : List Row) (from : ℕ) (last : Row) → None ≡ underlines r → r.lazy ≡ false → true ≡ (interrupts options true r (ahead_in text options lookup m.outer next) || block_interrupts options r (ahead_in text options lookup m.outer next)) → m.leaf ≡ model.InParagraph before from last →
       leaf_fed text options lookup m.leaf r next m ≡ begin text options lookup r next (leaf_closed text options lookup m)
   feeds-interrupted before from last under whole on is = feeds-other before from last false under whole (ap not (sym on)) is
 
-  pub feeds-text : (before : List Row) (from : ℕ) (last : Row) → None ≡ underlines r → r.lazy ≡ false → false ≡ (interrupts options true r (ahead_in text options lookup m.outer next) || block_interrupts options true r (ahead_in text options lookup m.outer next)) → m.leaf ≡ model.InParagraph before from last →
+  pub feeds-text : (before : List Row) (from : ℕ) (last : Row) → None ≡ underlines r → r.lazy ≡ false → false ≡ (interrupts options true r (ahead_in text options lookup m.outer next) || block_interrupts options r (ahead_in text options lookup m.outer next)) → m.leaf ≡ model.InParagraph before from last →
       leaf_fed text options lookup m.leaf r next m ≡ paragraph_line text options lookup before from last r m
   feeds-text before from last under whole on is = feeds-other before from last true under whole (ap not (sym on)) is
 
@@ -149,16 +150,6 @@ module _ (text : List ℕ) (options : Options) (lookup : Lookup) (m : model.Pass
   closed-outer (model.InHtml kind) = refl
   closed-outer (model.InMetadata kind waits) = refl
 
-pub and-true : (a t : Bool) → t ≡ true → a ≡ (a && t)
-and-true true true e = refl
-and-true false true e = refl
-and-true a false e = absurd (true≢false (sym e))
-
-pub and-false : (a t : Bool) → t ≡ false → t ≡ (a && t)
-and-false true false e = refl
-and-false false false e = refl
-and-false a true e = absurd (true≢false e)
-
 -- the lines of a text from a place on
 pub first-line : (T text : List ℕ) (start place : ℕ) (r : Row) → T ≡ text → start ≡ place → lines_at T start ≡ r ∷ lines_at T r.line_end → lines_at text place ≡ r ∷ lines_at text r.line_end
 first-line T text start place r is at first =
@@ -205,15 +196,27 @@ fed-outside text options lookup r next m cs none shows =
 
 -- a line that some containers do not keep continues a paragraph unless it, or a table that it begins, interrupts it
 module _ (options : Options) (k : Container) (r : Row) (ahead : List Row) (takes : Bool) where
-  by_tests : (interrupting table : Bool) → interrupts options false r ahead ≡ interrupting → block_interrupts options (is_definition k) r ahead ≡ table → (lazily options k r ahead && takes) ≡ (not (interrupting || table) && takes)
-  by_tests interrupting table e f =
-      ap (λ z. z && takes) (lazily-is options r ahead k) ∙ ap (λ z. not (z || block_interrupts options (is_definition k) r ahead) && takes) e ∙ ap (λ z. not (interrupting || z) && takes) f
+  regrouped : (i t d : Bool) → (not (i || (t || d)) && takes) ≡ ((takes && (not i && not d)) && not t)
+  regrouped i t d = go i t d takes
+    where
+      go : (i t d z : Bool) → (not (i || (t || d)) && z) ≡ ((z && (not i && not d)) && not t)
+      go true t d true = refl
+      go true t d false = refl
+      go false true true true = refl
+      go false true false true = refl
+      go false false true true = refl
+      go false false false true = refl
+      go false true d false = refl
+      go false false true false = refl
+      go false false false false = refl
 
-  pub lazily-unless : (table : Bool) → takes ≡ true → false ≡ interrupts options false r ahead → table ≡ block_interrupts options (is_definition k) r ahead → not table ≡ (lazily options k r ahead && takes)
-  lazily-unless table on none is = and-true (not table) takes on ∙ sym (by_tests false table (sym none) (sym is))
-
-  pub lazily-not : true ≡ interrupts options false r ahead → false ≡ (lazily options k r ahead && takes)
-  lazily-not ends = sym (by_tests true (block_interrupts options (is_definition k) r ahead) (sym ends) refl)
+  pub lazily-may : (interrupting another : Bool) → interrupting ≡ interrupts options false r ahead → another ≡ (is_definition k && begins_definition options r) →
+      (lazily options k r ahead && takes) ≡ ((takes && (not interrupting && not another)) && not (table_interrupts options r ahead))
+  lazily-may interrupting another e f =
+      ap (λ z. z && takes) (lazily-is options r ahead k)
+      ∙ ap (λ z. not (z || (table_interrupts options r ahead || (is_definition k && begins_definition options r))) && takes) (sym e)
+      ∙ ap (λ z. not (interrupting || (table_interrupts options r ahead || z)) && takes) (sym f)
+      ∙ regrouped interrupting (table_interrupts options r ahead) another
 
 pub is-not : (a b : Bool) → not a ≡ b → a ≡ not b
 is-not true true e = absurd (true≢false (sym e))
@@ -228,3 +231,7 @@ or-first false b e = absurd (true≢false (sym e))
 pub or-second : (a b z : Bool) → a ≡ false → z ≡ b → z ≡ (a || b)
 or-second true b z e f = absurd (true≢false e)
 or-second false b z e f = f
+
+pub or-last : (a b : Bool) → b ≡ true → true ≡ (a || b)
+or-last true b e = refl
+or-last false b e = sym e

@@ -23,7 +23,7 @@ use Rattle.cmark_line_rules.proofs.PlainRows.{letter-leaf}
 use Rattle.cmark_blocks.specs.Entered.{OpensAs}
 use Rattle.cmark_blocks.proofs.DefinitionRows.{other-defines-not}
 
-and-first : (x y : Bool) → (x && y) ≡ true → x ≡ true
+pub and-first : (x y : Bool) → (x && y) ≡ true → x ≡ true
 and-first true y e = refl
 and-first false y e = e
 
@@ -31,7 +31,7 @@ not-true : (x : Bool) → not x ≡ true → x ≡ false
 not-true true e = absurd (true≢false (sym e))
 not-true false e = refl
 
-and-second : (x y : Bool) → (x && y) ≡ true → y ≡ true
+pub and-second : (x y : Bool) → (x && y) ≡ true → y ≡ true
 and-second true y e = e
 and-second false y e = absurd (true≢false (sym e))
 

@@ -1,5 +1,5 @@
 -- So many of the open containers, the outermost ones, one by one.
-use Rattle.std.proofs.Common.{true, ◌≡◌, ℕ, zero, suc, ◌<◌, ◌≤◌, Bool, false, List, [], ◌∷◌, take, drop, length, slice_get, Some, None, refl, sym, ap, ◌∙◌, subst, arith}
+use Rattle.std.proofs.Common.{◌≡◌, ℕ, zero, suc, ◌<◌, ◌≤◌, Bool, false, List, [], ◌∷◌, take, drop, length, slice_get, Some, None, refl, sym, ap, ◌∙◌, subst, arith}
 use Rattle.cmark_grammar.specs.Answers.{Lookup}
 use Rattle.cmark_grammar.specs.Containers as grammar
 use Rattle.cmark_grammar.specs.Containers.{keeps}
@@ -56,5 +56,5 @@ first-all text options lookup ms count at r more rest le i = inside-all text opt
 
 -- inside of all of them
 pub in_text-inside : (text : List ℕ) (options : Options) (lookup : Lookup) (cs : List OpenContainer) (ms : List model.OpenContainer) (count : ℕ) (r : Row) (next : List Row) (in_text : Bool) → ShowsContainers cs ms → length cs ≤ count →
-    in_text ≡ block_interrupts options true r (ahead_in text options lookup (take count ms) next) → in_text ≡ block_interrupts options true r (ahead_in text options lookup ms next)
-in_text-inside text options lookup cs ms count r next in_text shows all is = is ∙ ap (λ l. block_interrupts options true r (ahead_in text options lookup l next)) (shows-all cs ms count shows all).0
+    in_text ≡ block_interrupts options r (ahead_in text options lookup (take count ms) next) → in_text ≡ block_interrupts options r (ahead_in text options lookup ms next)
+in_text-inside text options lookup cs ms count r next in_text shows all is = is ∙ ap (λ l. block_interrupts options r (ahead_in text options lookup l next)) (shows-all cs ms count shows all).0

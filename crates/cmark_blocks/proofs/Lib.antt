@@ -24,6 +24,7 @@ pub mod LineSteps
 pub mod MetadataSteps
 pub mod OpeningSteps
 pub mod PassSteps
+pub mod PipeRows
 pub mod PrefixSteps
 pub mod ReferenceSteps
 pub mod RunSteps

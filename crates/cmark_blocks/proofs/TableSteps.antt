@@ -16,6 +16,7 @@ use Rattle.cmark_line_rules.specs.declared.line_rest.LineRest.{LineRest}
 use Rattle.cmark_block_model.specs.BlockPass.{is_row, leaf_begun, begin_as, paragraph_begun}
 use Rattle.cmark_block_model.specs.OpenBlocks as model
 use Rattle.cmark_blocks.specs.TablesAhead.{IsHead}
+use Rattle.cmark_blocks.specs.declared.table.TableHead.{TableHead}
 
 -- how many cells a line has that may be a head, if it may be one
 pub cells-some : (z : Bool) (cells columns : ℕ) → Some columns ≡ (if z then Some cells else None) → (z ≡ true) × (cells ≡ columns)
@@ -115,8 +116,8 @@ module _ (options : Options) (r : Row) (ahead : List Row) where
       nothing false = refl
 
 -- a head was found, or the line is not a head
-pub head-in_text : (options : Options) (r : Row) (ahead : List Row) (following : LineRest → List Row) (in_text : Option (ℕ × LineRest)) →
-    MatchOption in_text (table_head options r ahead ≡ None) (λ head. IsHead options r ahead head.0 (row_of head.1) (following head.1)) → is_some in_text ≡ is_some_head (table_head options r ahead)
+pub head-in_text : (options : Options) (r : Row) (ahead : List Row) (following : LineRest → List Row) (in_text : Option TableHead) →
+    MatchOption in_text (table_head options r ahead ≡ None) (λ head. IsHead options r ahead head.columns (row_of head.delimiter) (following head.delimiter)) → is_some in_text ≡ is_some_head (table_head options r ahead)
 head-in_text options r ahead following None none = sym (ap is_some_head none)
 head-in_text options r ahead following (Some head) some = sym (ap is_some_head some.is)
 

@@ -14,6 +14,7 @@ pub mod Runs
 pub mod Setext
 pub mod Shown
 pub mod Steps
+pub mod TableHeads
 pub mod TablesAhead
 pub mod Tails
 pub mod Titles

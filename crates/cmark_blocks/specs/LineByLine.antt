@@ -1,8 +1,9 @@
 -- Lines that are fed to the block pass.
-use Rattle.std.specs.Prelude.{◌≡◌, ℕ, Bool, List, ◌∷◌, take, drop, ◌&&◌}
+use Rattle.std.specs.Prelude.{◌≡◌, ℕ, Bool, List, ◌∷◌, take, drop, ◌&&◌, not}
 use Rattle.cmark_grammar.specs.Answers.{Lookup}
 use Rattle.cmark_grammar.specs.Openings.{lazily}
 use Rattle.cmark_grammar.specs.Options.{Options}
+use Rattle.cmark_grammar.specs.TableRows.{table_interrupts}
 use Rattle.cmark_line_rules.specs.Rests.{row_of}
 use Rattle.cmark_line_rules.specs.declared.line_rest.LineRest.{LineRest}
 use Rattle.cmark_block_model.specs.BlockPass.{ahead_in, line_with, line_fed, lines_fed, all_closed}
@@ -23,6 +24,13 @@ module _ {E : Type 0} (replacement : E → Lookup) where
   IsLazy pass kept rest lazy =
       (text : List ℕ) (options : Options) (lookup : Lookup) (m : model.Pass) (c : model.OpenContainer) (others : List model.OpenContainer) → drop kept m.outer ≡ c ∷ others → Runs replacement text options lookup m pass →
       lazy ≡ (lazily options c.container (row_of rest) (ahead_in text options lookup (take kept m.outer) (lines_at text (row_of rest).line_end)) && takes_lazy m.leaf)
+
+  -- whether such a line continues the open leaf unless it is the head of a table that interrupts a paragraph
+  abbrev pub MayBeLazy : Pass E → (kept : ℕ) → LineRest → Bool → Type 0
+  MayBeLazy pass kept rest may =
+      (text : List ℕ) (options : Options) (lookup : Lookup) (m : model.Pass) (c : model.OpenContainer) (others : List model.OpenContainer) → drop kept m.outer ≡ c ∷ others → Runs replacement text options lookup m pass →
+      let ahead = ahead_in text options lookup (take kept m.outer) (lines_at text (row_of rest).line_end) in
+      (lazily options c.container (row_of rest) ahead && takes_lazy m.leaf) ≡ (may && not (table_interrupts options (row_of rest) ahead))
 
   -- the rest of a line inside the `kept` outermost containers was fed to the pass; the others do not keep the line
   abbrev pub FeedsRest : (kept : ℕ) → LineRest → Pass E → Pass E → Type 0

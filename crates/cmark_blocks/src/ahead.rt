@@ -100,7 +100,7 @@ impl<'a, E: EntityLookup> Pass<'a, E> {
             (λ rest. (row_of last.entry).line_end < (row_of rest).line_end) }
     {
         let rest = self.line_ahead(last)?;
-        if is_text(rest, self.options) && !self.block_interrupts(self.outer.len(), rest, true) {
+        if is_text(rest, self.options) && !self.block_interrupts(self.outer.len(), rest) {
             Some(rest)
         } else {
             None

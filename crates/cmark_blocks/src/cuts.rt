@@ -212,7 +212,7 @@ impl<'a, E: EntityLookup> Pass<'a, E> {
         ensures { Tells E.replacement self.now line.entry result
             (λ text options lookup m r ahead. not (texts options r ahead)) }
     {
-        interrupts(line, true, self.options) || self.block_interrupts(0, line, true)
+        interrupts(line, true, self.options) || self.block_interrupts(0, line)
     }
 
     /// Whether the line, which lacks no prefix, ends an open paragraph.

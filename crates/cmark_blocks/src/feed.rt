@@ -1,15 +1,18 @@
 //! Feeding a line to the block pass.
 
-ghost use Rattle.std.specs.Prelude.{◌≡◌, ◌≤◌, ◌<◌, OnOk, false, length};
+ghost use Rattle.std.specs.Prelude.{true, ◌≡◌, ◌≤◌, ◌<◌, ◌&&◌, OnOk, false, length};
 ghost use Rattle.cmark_line_rules.specs.Rests.{row_of};
 ghost use Rattle.cmark_grammar.specs.Containers as grammar;
-ghost use Rattle.cmark_grammar.specs.DefinitionLists.{is_definition};
+ghost use Rattle.cmark_grammar.specs.DefinitionLists.{begins_definition, is_definition};
 ghost use Rattle.cmark_line_rules.specs.Starts.{Shows};
+ghost use Rattle.cmark_values.specs.Shown.{shown_options};
 ghost use Rattle.cmark_blocks.specs.LineByLine.{TakesLazy};
+ghost use Rattle.cmark_blocks.specs.TableHeads.{may_head};
 
 use crate::state::{OpenLeaf, Pass};
-use cmark_line_rules::{Container, LineRest, interrupts};
-use cmark_values::EntityLookup;
+use crate::table::may_head_table;
+use cmark_line_rules::{Container, LineRest, begins_definition, interrupts};
+use cmark_values::{EntityLookup, Options};
 use std::alloc::AllocError;
 
 /// Whether a lazy line may follow the leaf: a paragraph, a link reference definition, after which a paragraph may begin (CommonMark 4.7 and
@@ -35,12 +38,22 @@ fn is_definition(container: Container) -> bool
     matches!(container, Container::Definition { .. })
 }
 
+/// Whether the line begins another definition after this one, which is a container that does not keep the line.
+fn begins_another(container: Container, rest: LineRest<'_>, options: Options) -> bool
+    ensures { (k : grammar.Container) → Shows container k
+        → result
+        ≡
+        (is_definition k && begins_definition (shown_options options) (row_of rest.entry)) }
+{
+    is_definition(container) && begins_definition(rest, options)
+}
+
 impl<'a, E: EntityLookup> Pass<'a, E> {
     ghost use Rattle.cmark_blocks.specs.declared.state.OpenLeaf.TheVariants as leaf;
     ghost use Rattle.cmark_blocks.specs.Runs.{IsGood};
     ghost use Rattle.cmark_leaf_nodes.specs.TextColumns.{IsRead};
     ghost use Rattle.cmark_blocks.specs.Steps.{FeedsLeaf, FeedsLazily};
-    ghost use Rattle.cmark_blocks.specs.LineByLine.{IsLazy, FeedsRest, Feeds};
+    ghost use Rattle.cmark_blocks.specs.LineByLine.{IsLazy, MayBeLazy, FeedsRest, Feeds};
 
     /// Feeds a line that lacks no prefix, after the open leaf.
     #[inline(always)]
@@ -126,15 +139,24 @@ impl<'a, E: EntityLookup> Pass<'a, E> {
         }
     }
 
+    /// Whether this line, which only the `kept` outermost containers keep, continues the open leaf as a lazy line (CommonMark 5.1), unless it
+    /// is the head of a table that interrupts a paragraph.
+    fn may_be_lazy(&self, kept: usize, rest: LineRest<'a>) -> bool
+        requires { kept < length self.now.outer.items }
+        ensures { MayBeLazy E.replacement self.now kept rest.entry result }
+    {
+        takes_lazy(self.leaf)
+            && !interrupts(rest, false, self.options)
+            && !begins_another(self.outer[kept].container, rest, self.options)
+    }
+
     /// Whether this line, which only the `kept` outermost containers keep, continues the open leaf as a lazy line (CommonMark 5.1).
     pub(crate) fn is_lazy(&self, kept: usize, rest: LineRest<'a>) -> bool
         requires line { IsRead self.now.text.now rest }
         requires few { kept < length self.now.outer.items }
         ensures { IsLazy E.replacement self.now kept rest.entry result }
     {
-        takes_lazy(self.leaf)
-            && !interrupts(rest, false, self.options)
-            && !self.block_interrupts(kept, rest, is_definition(self.outer[kept].container))
+        self.may_be_lazy(kept, rest) && !self.table_interrupts(kept, rest)
     }
 
     /// Feeds the rest of a line that only the `kept` outermost containers keep.
@@ -150,12 +172,37 @@ impl<'a, E: EntityLookup> Pass<'a, E> {
         if kept == self.outer.len() {
             return self.feed_leaf(rest);
         }
-        if self.is_lazy(kept, rest) {
+        if self.may_be_lazy(kept, rest) {
+            if may_head_table(rest, self.options) {
+                return self.feed_piped_lazily(kept, rest);
+            }
             return self.feed_lazily(rest);
         }
         self.close_leaf()?;
         self.close_containers(kept);
         self.begin(rest)
+    }
+
+    /// Feeds a line that begins with a pipe, which only the `kept` outermost containers keep: the head of a table, which begins at once after
+    /// the other containers, or a lazy line. It is a separate function so that the room of its locals is cleared for such lines only.
+    #[inline(never)]
+    fn feed_piped_lazily(&mut self, kept: usize, rest: LineRest<'a>) -> Result<(), AllocError>
+        requires good { IsGood self.old }
+        requires line { IsRead self.old.text.now rest }
+        requires bare { self.old.bare ≡ false }
+        requires few { kept < length self.old.outer.items }
+        requires piped { may_head (shown_options self.old.options) (row_of rest) ≡ true }
+        requires lazy { MayBeLazy E.replacement self.old kept rest true }
+        ensures good { IsGood self.new }
+        ensures runs { OnOk result (FeedsRest E.replacement kept rest.entry self.old self.new) }
+        ensures text { self.new.text ≡ self.old.text }
+    {
+        let Some(head) = self.table_head(kept, rest) else {
+            return self.feed_lazily(rest);
+        };
+        self.close_leaf()?;
+        self.close_containers(kept);
+        self.begin_table(head, rest)
     }
 
     /// Feeds a whole line of the text.

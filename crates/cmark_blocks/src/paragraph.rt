@@ -1,16 +1,19 @@
 //! Paragraphs: their beginnings, their lines, and their ends (CommonMark 4.8).
 
-ghost use Rattle.std.specs.Prelude.{◌≡◌, List, ℕ, map, OnOk};
+ghost use Rattle.std.specs.Prelude.{true, ◌≡◌, List, ℕ, map, OnOk};
 ghost use Rattle.cmark_block_model.specs.BlockPass.{kept_lines};
 ghost use Rattle.cmark_leaf_nodes.specs.Contents.{AreRead};
 ghost use Rattle.cmark_leaf_nodes.specs.TextColumns.{IsRead};
 ghost use Rattle.cmark_line_rules.specs.Rests.{row_of};
+ghost use Rattle.cmark_values.specs.Shown.{shown_options};
+ghost use Rattle.cmark_blocks.specs.TableHeads.{may_head};
 
 use crate::heading::reads_attributes;
 use crate::state::{OpenLeaf, Pass};
+use crate::table::may_head_table;
 use cmark_items::ItemBody;
 use cmark_leaf_nodes::{close_lines, draw_lines};
-use cmark_line_rules::{LineRest, interrupts, underlines};
+use cmark_line_rules::{LineRest, begins_definition, interrupts, underlines};
 use cmark_values::EntityLookup;
 use std::alloc::AllocError;
 
@@ -128,13 +131,36 @@ impl<'a, E: EntityLookup> Pass<'a, E> {
         if let Some(level) = underlines(rest) {
             return self.underline(from, last, level, rest);
         }
-        if interrupts(rest, true, self.options)
-            || self.block_interrupts(self.outer.len(), rest, true)
-        {
-            self.begin_anew(rest)
-        } else {
-            self.add_to_paragraph(from, last, rest)
+        if interrupts(rest, true, self.options) || begins_definition(rest, self.options) {
+            return self.begin_anew(rest);
         }
+        if may_head_table(rest, self.options) {
+            return self.feed_piped(from, last, rest);
+        }
+        self.add_to_paragraph(from, last, rest)
+    }
+
+    /// Feeds a line that begins with a pipe after a paragraph: the head of a table, which begins at once, or text of the paragraph. It is a
+    /// separate function so that the room of its locals is cleared for such lines only.
+    #[inline(never)]
+    fn feed_piped(
+        &mut self,
+        from: usize,
+        last: LineRest<'a>,
+        rest: LineRest<'a>,
+    ) -> Result<(), AllocError>
+        requires good { IsGood self.old }
+        requires following { IsAfterParagraph self.old from last rest }
+        requires piped { may_head (shown_options self.old.options) (row_of rest) ≡ true }
+        ensures good { IsGood self.new }
+        ensures runs { OnOk result (FeedsLeaf E.replacement rest.entry self.old self.new) }
+        ensures text { self.new.text ≡ self.old.text }
+    {
+        let Some(head) = self.table_head(self.outer.len(), rest) else {
+            return self.add_to_paragraph(from, last, rest);
+        };
+        self.close_paragraph(from, last)?;
+        self.begin_table(head, rest)
     }
 
     /// Closes a paragraph with this last line; the lines that touch it begin at this byte offset.

@@ -11,6 +11,7 @@ ghost use Rattle.cmark_items.specs.ItemNodes.{columns_of, kind_of, shape};
 ghost use Rattle.cmark_items.specs.Tables.{defined};
 ghost use Rattle.cmark_line_rules.specs.Rests.{row_of};
 ghost use Rattle.cmark_values.specs.Shown.{shown_options};
+ghost use Rattle.cmark_blocks.specs.TableHeads.{may_head};
 
 use crate::gathered::words_in;
 use crate::state::{OpenLeaf, Pass};
@@ -34,6 +35,14 @@ fn reads_tables(options: Options) -> bool
     ensures { result ≡ (shown_options options).tables }
 {
     options.contains(Options::ENABLE_TABLES)
+}
+
+/// Whether the line may interrupt a paragraph as the head of a table, which the next line tells: tables are read, and it begins with a pipe.
+#[inline]
+pub(crate) fn may_head_table(rest: LineRest<'_>, options: Options) -> bool
+    ensures { result ≡ may_head (shown_options options) (row_of rest.entry) }
+{
+    reads_tables(options) && begins_with_pipe(rest)
 }
 
 /// Whether the line, as a row of a table with `columns` columns, needs more than the `left` cells that may still be filled in. A row needs
@@ -67,6 +76,15 @@ fn table_body<'a>(builder: &mut Builder<'a>, row: &'a str) -> Result<ItemBody, A
     Ok(ItemBody::Table(index))
 }
 
+/// The head of a table: what its line and the next one tell.
+#[derive(Clone, Copy)]
+pub(crate) struct TableHead<'a> {
+    /// The number of columns.
+    pub(crate) columns: usize,
+    /// The delimiter row.
+    pub(crate) delimiter: LineRest<'a>,
+}
+
 impl<'a, E: EntityLookup> Pass<'a, E> {
     ghost use Rattle.cmark_blocks.specs.declared.state.OpenLeaf.TheVariants as leaf;
     ghost use Rattle.cmark_blocks.specs.Runs.{IsGood};
@@ -74,14 +92,14 @@ impl<'a, E: EntityLookup> Pass<'a, E> {
     ghost use Rattle.cmark_blocks.specs.Steps.{BeginsText, FeedsLeaf};
     ghost use Rattle.cmark_blocks.specs.TablesAhead.{TellsHead, TellsInterrupts, TellsBlock, BeginsTable};
 
-    /// The number of columns of the table whose head this line is, and its delimiter row; `None` if it is not a head. The line and those
-    /// ahead are seen from inside the `count` outermost containers.
+    /// The table whose head this line is; `None` if it is not a head. The line and those ahead are seen from inside the `count` outermost
+    /// containers.
     #[inline]
-    fn table_head(&self, count: usize, rest: LineRest<'a>) -> Option<(usize, LineRest<'a>)>
+    pub(crate) fn table_head(&self, count: usize, rest: LineRest<'a>) -> Option<TableHead<'a>>
         requires line { IsRead self.now.text.now rest }
         requires few { count ≤ length self.now.outer.items }
         ensures tells { TellsHead E.replacement self.now count rest.entry result }
-        ensures line { IfSome result (λ head. IsRead self.now.text.now head.1) }
+        ensures line { IfSome result (λ head. IsRead self.now.text.now head.delimiter) }
     {
         if !reads_tables(self.options) {
             return None;
@@ -89,7 +107,10 @@ impl<'a, E: EntityLookup> Pass<'a, E> {
         let columns = head_cells(rest)?;
         let next = self.line_after(count, rest)?;
         if is_delimiter_row(next, columns) {
-            Some((columns, next))
+            Some(TableHead {
+                columns,
+                delimiter: next,
+            })
         } else {
             None
         }
@@ -103,44 +124,36 @@ impl<'a, E: EntityLookup> Pass<'a, E> {
         requires few { count ≤ length self.now.outer.items }
         ensures { TellsInterrupts E.replacement self.now count rest.entry result }
     {
-        if !reads_tables(self.options) || !begins_with_pipe(rest) {
-            return false;
-        }
-        self.table_head(count, rest).is_some()
+        may_head_table(rest, self.options) && self.table_head(count, rest).is_some()
     }
 
-    /// Whether the line interrupts a paragraph as the head of a table, or, if definitions may begin, by a definition's marker. The line and
-    /// those ahead are seen from inside the `count` outermost containers.
+    /// Whether the line interrupts a paragraph as the head of a table, or by a definition's marker. The line and those ahead are seen from
+    /// inside the `count` outermost containers.
     #[inline]
-    pub(crate) fn block_interrupts(
-        &self,
-        count: usize,
-        rest: LineRest<'a>,
-        may_define: bool,
-    ) -> bool
+    pub(crate) fn block_interrupts(&self, count: usize, rest: LineRest<'a>) -> bool
         requires line { IsRead self.now.text.now rest }
         requires few { count ≤ length self.now.outer.items }
-        ensures { TellsBlock E.replacement self.now count may_define rest.entry result }
+        ensures { TellsBlock E.replacement self.now count rest.entry result }
     {
-        self.table_interrupts(count, rest) || (may_define && begins_definition(rest, self.options))
+        self.table_interrupts(count, rest) || begins_definition(rest, self.options)
     }
 
-    /// Begins a table with `columns` columns and this delimiter row on a line, with no leaf open.
-    fn begin_table(
+    /// Begins a table on the line that is its head, with no leaf open.
+    pub(crate) fn begin_table(
         &mut self,
-        columns: usize,
-        delimiter: LineRest<'a>,
+        head: TableHead<'a>,
         rest: LineRest<'a>,
     ) -> Result<(), AllocError>
         requires good { IsGood self.old }
-        requires delimiter { IsRead self.old.text.now delimiter }
+        requires delimiter { IsRead self.old.text.now head.delimiter }
         requires closed { self.old.leaf ≡ leaf.Closed }
         requires bare { self.old.bare ≡ false }
         ensures good { IsGood self.new }
         ensures runs { OnOk result
-            (BeginsTable E.replacement columns delimiter.entry rest.entry self.old self.new) }
+            (BeginsTable E.replacement head.entry rest.entry self.old self.new) }
         ensures text { self.new.text ≡ self.old.text }
     {
+        let TableHead { columns, delimiter } = head;
         let row = words_in(self.text, delimiter);
         self.begin_block();
         let body = table_body(&mut self.builder, row)?;
@@ -183,7 +196,7 @@ impl<'a, E: EntityLookup> Pass<'a, E> {
         ensures text { self.new.text ≡ self.old.text }
     {
         match self.table_head(self.outer.len(), rest) {
-            Some((columns, delimiter)) => self.begin_table(columns, delimiter, rest),
+            Some(head) => self.begin_table(head, rest),
             None => self.begin_paragraph(rest),
         }
     }

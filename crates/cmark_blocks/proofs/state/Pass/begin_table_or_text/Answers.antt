@@ -15,17 +15,17 @@ use Rattle.cmark_blocks.proofs.state.Pass.begin_table_or_text.Goals as goal
 pub returns-in-Some-clause-runs : goal.returns-in-Some-clause-runs
 returns-in-Some-clause-runs g c =
     let row = row_of c.args.rest in
-    let next = row_of c.in-Some.delimiter in
+    let next = row_of c.in-Some.head.delimiter in
     let cs = c.args.self.now.outer.items in
     let all : length cs ≤ c.len.result = omega (arith, c.len.ensures, c.args.self.now.outer.ok.0) in
     on_ok_weaker c.begin_table.result
     (λ begins. λ text options lookup m inside bare runs.
     let ahead = ahead_in text options lookup m.outer (lines_at text row.line_end) in
     let following = ahead_in text options lookup m.outer (lines_at text next.line_end) in
-    let head = subst (λ (ms : List model.OpenContainer). IsHead options row (ahead_in text options lookup ms (lines_at text row.line_end)) c.in-Some.columns next (ahead_in text options lookup ms (lines_at text next.line_end)))
+    let head = subst (λ (ms : List model.OpenContainer). IsHead options row (ahead_in text options lookup ms (lines_at text row.line_end)) c.in-Some.head.columns next (ahead_in text options lookup ms (lines_at text next.line_end)))
     (shows-all cs m.outer c.len.result runs.outer all).0 (c.in-Some.ensures.tells text options lookup m runs) in
     subst (λ p. Runs g.E.EntityLookup.replacement text options lookup p c.begin_table.new.self)
-    (begins-table text options lookup m inside row ahead bare c.in-Some.columns next following head) (begins text options lookup m (suc (count_rows options c.in-Some.columns most_filled following)) (next ∷ following) runs head.many))
+    (begins-table text options lookup m inside row ahead bare c.in-Some.head.columns next following head) (begins text options lookup m (suc (count_rows options c.in-Some.head.columns most_filled following)) (next ∷ following) runs head.many))
     c.begin_table.ensures.runs
 
 pub returns-in-None-clause-runs : goal.returns-in-None-clause-runs

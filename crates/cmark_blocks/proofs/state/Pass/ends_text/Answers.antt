@@ -12,8 +12,8 @@ returns-then-interrupts g c text options lookup m runs =
     let r = row_of c.args.line in
     let next = lines_at text r.line_end in
     c.if-interrupts.true
-    ∙ ap (λ z. z || block_interrupts options true r next) (sym c.if-interrupts.true)
-    ∙ ends-text text options lookup r next c.interrupts.result (block_interrupts options true r next) (whole c.args.line) (c.interrupts.ensures next ∙ ap (λ o. interrupts o true r next) runs.options_is) refl
+    ∙ ap (λ z. z || block_interrupts options r next) (sym c.if-interrupts.true)
+    ∙ ends-text text options lookup r next c.interrupts.result (block_interrupts options r next) (whole c.args.line) (c.interrupts.ensures next ∙ ap (λ o. interrupts o true r next) runs.options_is) refl
 
 pub returns-else-interrupts : goal.returns-else-interrupts
 returns-else-interrupts g c text options lookup m runs =

@@ -1,6 +1,9 @@
 use Rattle.std.proofs.lemmas.Result.{on_ok_weaker}
-use Rattle.std.proofs.Common.{◌≡◌, ◌≤◌, true, false, ◌||◌, length, map, option_map, sym, ap, subst, ◌∙◌, arith, true≢false}
+use Rattle.std.proofs.Common.{◌≡◌, true, false, ◌||◌, map, option_map, sym, ap, subst, ◌∙◌, true≢false}
+use Rattle.cmark_grammar.specs.DefinitionLists.{begins_definition}
 use Rattle.cmark_grammar.specs.Openings.{interrupts}
+use Rattle.cmark_grammar.specs.TableRows.{table_interrupts}
+use Rattle.cmark_blocks.specs.TableHeads.{may_head}
 use Rattle.cmark_blocks.specs.TablesAhead.{block_interrupts}
 use Rattle.cmark_values.specs.Shown.{level_number}
 use Rattle.cmark_line_rules.specs.Rests.{row_of}
@@ -8,8 +11,8 @@ use Rattle.cmark_line_rules.proofs.RestSteps.{whole}
 use Rattle.cmark_block_model.specs.BlockPass.{ahead_in}
 use Rattle.cmark_blocks.specs.Ahead.{lines_at}
 use Rattle.cmark_blocks.specs.Runs.{Runs}
-use Rattle.cmark_blocks.proofs.FeedSteps.{in_paragraph, feeds-underline, feeds-interrupted, feeds-text, or-first, or-second}
-use Rattle.cmark_blocks.proofs.InsideSteps.{in_text-inside}
+use Rattle.cmark_blocks.proofs.FeedSteps.{in_paragraph, feeds-underline, feeds-interrupted, feeds-text, or-first, or-second, or-last}
+use Rattle.cmark_blocks.proofs.PipeRows.{heads-not}
 use Rattle.cmark_blocks.proofs.state.Pass.feed_marked.Goals as goal
 use Rattle.cmark_blocks.proofs.state.Pass.feed_marked.Goals.{then-interrupts, else-interrupts}
 
@@ -24,21 +27,18 @@ returns-in-Some-clause-runs g c =
     (ran text options lookup m runs))
     c.underline.ensures.runs
 
-pub returns-then-block_interrupts-clause-runs : goal.returns-then-block_interrupts-clause-runs
-returns-then-block_interrupts-clause-runs g c =
+pub returns-then-begins_definition-clause-runs : goal.returns-then-begins_definition-clause-runs
+returns-then-begins_definition-clause-runs g c =
     on_ok_weaker c.begin_anew.result
     (λ ran. λ text options lookup m runs.
     let replacement = g.E.EntityLookup.replacement in
     let row = row_of c.args.rest in
     let next = lines_at text row.line_end in
     let ahead = ahead_in text options lookup m.outer next in
-    let cs = c.args.self.now.outer.items in
-    let ends : true ≡ (interrupts options true row ahead || block_interrupts options true row ahead) = elim c.if-interrupts.branch [
-      | then-interrupts w ↦ or-first (interrupts options true row ahead) (block_interrupts options true row ahead) (sym (c.interrupts.ensures ahead ∙ ap (λ o. interrupts o true row ahead) runs.options_is) ∙ w.if-interrupts.true)
-      | else-interrupts w ↦
-          (let all : length cs ≤ w.len.result = omega (arith, w.len.ensures, c.args.self.now.outer.ok.0) in
-          or-second (interrupts options true row ahead) (block_interrupts options true row ahead) true (sym (c.interrupts.ensures ahead ∙ ap (λ o. interrupts o true row ahead) runs.options_is) ∙ w.if-interrupts.false)
-          (sym c.if-block_interrupts.true ∙ w.value-is ∙ in_text-inside text options lookup cs m.outer w.len.result row next w.block_interrupts.result runs.outer all (w.block_interrupts.ensures text options lookup m runs)))
+    let ends : true ≡ (interrupts options true row ahead || block_interrupts options row ahead) = elim c.if-interrupts.branch [
+      | then-interrupts w ↦ or-first (interrupts options true row ahead) (block_interrupts options row ahead) (sym (c.interrupts.ensures ahead ∙ ap (λ o. interrupts o true row ahead) runs.options_is) ∙ w.if-interrupts.true)
+      | else-interrupts w ↦ or-second (interrupts options true row ahead) (block_interrupts options row ahead) true (sym (c.interrupts.ensures ahead ∙ ap (λ o. interrupts o true row ahead) runs.options_is) ∙ w.if-interrupts.false)
+          (or-last (table_interrupts options row ahead) (begins_definition options row) (sym (w.value-is ∙ w.begins_definition.ensures ∙ ap (λ o. begins_definition o row) runs.options_is) ∙ c.if-begins_definition.true))
     ] in
     subst (λ p. Runs replacement text options lookup p c.begin_anew.new.self)
     (sym (feeds-interrupted text options lookup row next m (map row_of c.args.self.now.blank_lines.items) c.args.from (row_of c.args.last) (ap (option_map level_number) (sym c.in_default.is) ∙ c.underlines.ensures) (whole c.args.rest)
@@ -46,21 +46,19 @@ returns-then-block_interrupts-clause-runs g c =
     (ran text options lookup m runs))
     c.begin_anew.ensures.runs
 
-pub returns-else-block_interrupts-clause-runs : goal.returns-else-block_interrupts-clause-runs
-returns-else-block_interrupts-clause-runs g c =
+pub returns-else-may_head_table-clause-runs : goal.returns-else-may_head_table-clause-runs
+returns-else-may_head_table-clause-runs g c =
     on_ok_weaker c.add_to_paragraph.result
     (λ ran. λ text options lookup m runs.
     let replacement = g.E.EntityLookup.replacement in
     let row = row_of c.args.rest in
     let next = lines_at text row.line_end in
     let ahead = ahead_in text options lookup m.outer next in
-    let cs = c.args.self.now.outer.items in
-    let goes_on : false ≡ (interrupts options true row ahead || block_interrupts options true row ahead) = elim c.if-interrupts.branch [
-      | then-interrupts w ↦ absurd (true≢false (sym w.if-interrupts.true ∙ sym w.value-is ∙ c.if-block_interrupts.false))
-      | else-interrupts w ↦
-          (let all : length cs ≤ w.len.result = omega (arith, w.len.ensures, c.args.self.now.outer.ok.0) in
-          or-second (interrupts options true row ahead) (block_interrupts options true row ahead) false (sym (c.interrupts.ensures ahead ∙ ap (λ o. interrupts o true row ahead) runs.options_is) ∙ w.if-interrupts.false)
-          (sym c.if-block_interrupts.false ∙ w.value-is ∙ in_text-inside text options lookup cs m.outer w.len.result row next w.block_interrupts.result runs.outer all (w.block_interrupts.ensures text options lookup m runs)))
+    let no_table : table_interrupts options row ahead ≡ false = heads-not options row ahead (sym (c.may_head_table.ensures ∙ ap (λ o. may_head o row) runs.options_is) ∙ c.if-may_head_table.false) in
+    let goes_on : false ≡ (interrupts options true row ahead || block_interrupts options row ahead) = elim c.if-interrupts.branch [
+      | then-interrupts w ↦ absurd (true≢false (sym w.if-interrupts.true ∙ sym w.value-is ∙ c.if-begins_definition.false))
+      | else-interrupts w ↦ or-second (interrupts options true row ahead) (block_interrupts options row ahead) false (sym (c.interrupts.ensures ahead ∙ ap (λ o. interrupts o true row ahead) runs.options_is) ∙ w.if-interrupts.false)
+          (sym (ap (λ z. z || begins_definition options row) no_table ∙ sym (w.value-is ∙ w.begins_definition.ensures ∙ ap (λ o. begins_definition o row) runs.options_is) ∙ c.if-begins_definition.false))
     ] in
     subst (λ p. Runs replacement text options lookup p c.add_to_paragraph.new.self)
     (sym (feeds-text text options lookup row next m (map row_of c.args.self.now.blank_lines.items) c.args.from (row_of c.args.last) (ap (option_map level_number) (sym c.in_default.is) ∙ c.underlines.ensures) (whole c.args.rest)

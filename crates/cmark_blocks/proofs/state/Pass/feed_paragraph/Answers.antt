@@ -22,7 +22,7 @@ returns-then-begins_with_letter-clause-runs g c =
     let letter = sym c.begins_with_letter.ensures ∙ c.if-begins_with_letter.true in
     subst (λ p. Runs replacement text options lookup p c.add_to_paragraph.new.self)
     (sym (feeds-text text options lookup row (lines_at text row.line_end) m (map row_of c.args.self.now.blank_lines.items) c.args.from (row_of c.args.last) (sym (letter-underlines-not row letter)) (whole c.args.rest)
-    (sym (ap (λ z. z || block_interrupts options true row (ahead_in text options lookup m.outer (lines_at text row.line_end))) (letter-interrupts-not options true row (ahead_in text options lookup m.outer (lines_at text row.line_end)) letter)
+    (sym (ap (λ z. z || block_interrupts options row (ahead_in text options lookup m.outer (lines_at text row.line_end))) (letter-interrupts-not options true row (ahead_in text options lookup m.outer (lines_at text row.line_end)) letter)
     ∙ ap (λ z. z || begins_definition options row) (letter-table-not options row (ahead_in text options lookup m.outer (lines_at text row.line_end)) letter) ∙ letter-definition-not options row letter)) (in_paragraph replacement text options lookup m c.args.self.now runs c.args.from c.args.last c.requires.following.is)))
     (ran text options lookup m runs))
     c.add_to_paragraph.ensures.runs
@@ -36,7 +36,7 @@ returns-then-is_blank-clause-runs g c text options lookup m runs =
     let closed = c.in_ok-close_paragraph.ensures.runs text options lookup m runs in
     subst (λ p. Runs replacement text options lookup p c.pass_blank_line.new.self)
     (sym (feeds-interrupted text options lookup row next m (map row_of c.args.self.now.blank_lines.items) c.args.from (row_of c.args.last) (sym (blank-underlines-not row blank)) (whole c.args.rest)
-    (sym (ap (λ z. z || block_interrupts options true row (ahead_in text options lookup m.outer next)) (blank-interrupts options row (ahead_in text options lookup m.outer next) blank)))
+    (sym (ap (λ z. z || block_interrupts options row (ahead_in text options lookup m.outer next)) (blank-interrupts options row (ahead_in text options lookup m.outer next) blank)))
     (in_paragraph replacement text options lookup m c.args.self.now runs c.args.from c.args.last c.requires.following.is)
     ∙ begins-blank text options lookup row next (leaf_closed text options lookup m) (whole c.args.rest) blank))
     (c.pass_blank_line.ensures.runs text options lookup (leaf_closed text options lookup m) closed)

@@ -34,5 +34,5 @@ returns-else-is_text-clause-next g c text options lookup m runs =
           (let all : length cs ≤ w.len.result = omega (arith, w.len.ensures, c.args.self.now.outer.ok.0) in
           text-if text options lookup (row_of rest) ahead (whole rest) true true (sym w.if-is_text.true ∙ c.is_text.ensures ahead ∙ ap (λ o. not (interrupts o true (row_of rest) ahead) && is_none (underlines (row_of rest))) runs.options_is)
           (in_text-inside text options lookup cs m.outer w.len.result (row_of rest) next true runs.outer all (sym w.if-not-block_interrupts.false ∙ w.block_interrupts.ensures text options lookup m runs)))
-      | else-is_text-via-else-is_text w ↦ text-if text options lookup (row_of rest) ahead (whole rest) false (block_interrupts options true (row_of rest) ahead) (sym w.if-is_text.false ∙ c.is_text.ensures ahead ∙ ap (λ o. not (interrupts o true (row_of rest) ahead) && is_none (underlines (row_of rest))) runs.options_is) refl
+      | else-is_text-via-else-is_text w ↦ text-if text options lookup (row_of rest) ahead (whole rest) false (block_interrupts options (row_of rest) ahead) (sym w.if-is_text.false ∙ c.is_text.ensures ahead ∙ ap (λ o. not (interrupts o true (row_of rest) ahead) && is_none (underlines (row_of rest))) runs.options_is) refl
     ]
