@@ -131,16 +131,6 @@ module _ (text : List ℕ) (options : Options) (lookup : Lookup) (m : model.Pass
   closed-outer (model.InHtml kind) = refl
   closed-outer (model.InMetadata kind waits) = refl
 
-pub and-true : (a t : Bool) → t ≡ true → a ≡ (a && t)
-and-true true true e = refl
-and-true false true e = refl
-and-true a false e = absurd (true≢false (sym e))
-
-pub and-false : (a t : Bool) → t ≡ false → t ≡ (a && t)
-and-false true false e = refl
-and-false false false e = refl
-and-false a true e = absurd (true≢false e)
-
 -- the lines of a text from a place on
 pub first-line : (T text : List ℕ) (start place : ℕ) (r : Row) → T ≡ text → start ≡ place → lines_at T start ≡ r ∷ lines_at T r.line_end → lines_at text place ≡ r ∷ lines_at text r.line_end
 first-line T text start place r is at first =

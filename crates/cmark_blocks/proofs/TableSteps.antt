@@ -94,6 +94,15 @@ module _ (options : Options) (r : Row) (ahead : List Row) where
       grouped true b c = refl
       grouped false b c = refl
 
+  pub interrupts-never : options.tables ≡ false → table_interrupts options r ahead ≡ false
+  interrupts-never off =
+      interrupts-by (nat_le (indent_of r) 3 && begins_with_pipe (words_of r)) None refl (unread-head options r ahead off)
+      ∙ nothing (nat_le (indent_of r) 3 && begins_with_pipe (words_of r))
+    where
+      nothing : (z : Bool) → (z && false) ≡ false
+      nothing true = refl
+      nothing false = refl
+
 -- a head was found, or the line is not a head
 pub head-in_text : (options : Options) (r : Row) (ahead : List Row) (following : LineRest → List Row) (in_text : Option TableHead) →
     MatchOption in_text (table_head options r ahead ≡ None) (λ head. IsHead options r ahead head.columns (row_of head.delimiter) (following head.delimiter)) → is_some in_text ≡ is_some_head (table_head options r ahead)
