@@ -25,8 +25,8 @@ returns-then-kept-len-clause-runs g c =
     (ran text options lookup m runs))
     c.feed_leaf.ensures.runs
 
-pub returns-else-may_head_table-clause-runs : goal.returns-else-may_head_table-clause-runs
-returns-else-may_head_table-clause-runs g c =
+pub returns-then-may_be_lazy-clause-runs : goal.returns-then-may_be_lazy-clause-runs
+returns-then-may_be_lazy-clause-runs g c =
     on_ok_weaker c.feed_lazily.result
     (λ ran. λ text options lookup m runs.
     let row = row_of c.args.rest in
