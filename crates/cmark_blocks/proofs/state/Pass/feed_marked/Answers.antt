@@ -56,8 +56,8 @@ returns-clause-runs g c =
     let ahead = ahead_in text options lookup m.outer next in
     let no_table : table_interrupts options row ahead ≡ false = heads-not options row ahead (sym (c.may_head_table.ensures ∙ ap (λ o. may_head o row) runs.options_is) ∙ c.if-may_head_table.false) in
     let goes_on : false ≡ (interrupts options true row ahead || block_interrupts options row ahead) =
-      or-second (interrupts options true row ahead) (block_interrupts options row ahead) false (sym (c.interrupts.ensures ahead ∙ ap (λ o. interrupts o true row ahead) runs.options_is) ∙ c.if-interrupts.false)
-          (sym (ap (λ z. z || begins_definition options row) no_table ∙ sym (c.begins_definition.ensures ∙ ap (λ o. begins_definition o row) runs.options_is) ∙ c.if-begins_definition.false)) in
+    or-second (interrupts options true row ahead) (block_interrupts options row ahead) false (sym (c.interrupts.ensures ahead ∙ ap (λ o. interrupts o true row ahead) runs.options_is) ∙ c.if-interrupts.false)
+    (sym (ap (λ z. z || begins_definition options row) no_table ∙ sym (c.begins_definition.ensures ∙ ap (λ o. begins_definition o row) runs.options_is) ∙ c.if-begins_definition.false)) in
     subst (λ p. Runs replacement text options lookup p c.add_to_paragraph.new.self)
     (sym (feeds-text text options lookup row next m (map row_of c.args.self.now.blank_lines.items) c.args.from (row_of c.args.last) (ap (option_map level_number) (sym c.in_default.is) ∙ c.underlines.ensures) (whole c.args.rest)
     goes_on (in_paragraph replacement text options lookup m c.args.self.now runs c.args.from c.args.last c.requires.following.is)))
