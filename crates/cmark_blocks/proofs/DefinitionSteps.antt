@@ -1,5 +1,5 @@
 -- Link reference definitions that begin.
-use Rattle.std.proofs.Common.{◌≡◌, ℕ, zero, suc, ◌+◌, ◌-◌, ◌<◌, ◌≤◌, Bool, true, false, ◌&&◌, List, [], ◌∷◌, ◌++◌, Option, Some, None, option_map, length, take, refl, sym, ap, ◌∙◌, subst, arith, append-nil, length-append, true≢false}
+use Rattle.std.proofs.Common.{◌≡◌, ℕ, zero, suc, ◌+◌, ◌-◌, ◌<◌, ◌≤◌, Bool, true, false, ◌&&◌, List, [], ◌∷◌, ◌++◌, Option, Some, None, option_map, length, map, take, refl, sym, ap, ◌∙◌, subst, arith, append-nil, length-append, true≢false}
 use Rattle.std.specs.Prelude.{string_bytes}
 use Rattle.cmark_grammar.specs.Answers.{Lookup}
 use Rattle.cmark_grammar.specs.BlockDocument.{Reference}
@@ -13,8 +13,12 @@ use Rattle.cmark_grammar.specs.TableRows.{table_head}
 use Rattle.cmark_grammar.specs.Options.{Options}
 use Rattle.cmark_grammar.specs.References.{first_with}
 use Rattle.cmark_grammar.specs.Rows.{Row, start_of}
+use Rattle.cmark_tree.specs.Building.{IsPlaced}
+use Rattle.cmark_items.specs.ItemNodes.{shown_forest}
+use Rattle.cmark_items.specs.Tables.{Tables}
+use Rattle.cmark_builder.specs.Drawn.{shown_open}
+use Rattle.cmark_blocks.specs.Footnotes.{HasLabels}
 use Rattle.cmark_references.specs.Definitions.{reference_at}
-use Rattle.cmark_references.specs.declared.definitions.RefDefs.{RefDefs}
 use Rattle.cmark_link_definitions.specs.Settled.{defined_before}
 use Rattle.cmark_line_rules.specs.Opened.{bracket_of}
 use Rattle.cmark_line_rules.specs.Rests.{row_of}
@@ -27,7 +31,7 @@ use Rattle.cmark_blocks.specs.LinkDefinitions.{definition_begun}
 use Rattle.cmark_blocks.specs.Gathered.{texts_at, Holds, Gathers, GathersMore, IsWhole}
 use Rattle.cmark_blocks.proofs.GatherSteps.{bytes-split}
 use Rattle.cmark_blocks.proofs.LineFeeds.{texts-end, ends-following}
-use Rattle.cmark_blocks.specs.Runs.{Runs}
+use Rattle.cmark_blocks.specs.Runs.{State, RunsIn}
 
 -- the lines that continue a paragraph are the first of those ahead
 take-texts : (options : Options) (ahead : List Row) (n : ℕ) → n ≤ length (text_lines options ahead) → take n (text_lines options ahead) ≡ take n ahead
@@ -56,23 +60,29 @@ module _ (text : List ℕ) (options : Options) (lookup : Lookup) (m : model.Pass
       begin_as text options lookup (table_if options (table_head options r ahead) ahead) inside r ahead bare m ≡ begin_as text options lookup (bracket_of options r ahead) inside r ahead bare m
   begins-none is = ap (λ o. begin_as text options lookup (or_else (defined_if (length (text_lines options ahead)) o) (table_if options (table_head options r ahead) ahead)) inside r ahead bare m) is
 
-module _ {E : Type 0} (replacement : E → Lookup) (text : List ℕ) (options : Options) (lookup : Lookup) (m : model.Pass) (pass : Pass E) where
+module _ {E : Type 0} (replacement : E → Lookup) (text : List ℕ) (options : Options) (lookup : Lookup) (m : model.Pass) (pass : State E) where
   -- another table of definitions
-  pub runs-references : (table : RefDefs) (refs : List Reference) → Runs replacement text options lookup m pass →
-      ((folded : List ℕ) → reference_at table folded ≡ first_with fold folded refs) →
-      Runs replacement text options lookup (record m { references = refs }) (record pass { builder = record pass.builder { allocations = record pass.builder.allocations { references = table } } })
-  runs-references table refs runs same = record {
+  pub runs-references : (tables : Tables) (refs : List Reference) {placed : IsPlaced pass.builder.tree} → RunsIn replacement text options lookup m pass →
+      tables ≡ record pass.builder.allocations { references = tables.references } → ((folded : List ℕ) → reference_at tables.references folded ≡ first_with fold folded refs) →
+      RunsIn replacement text options lookup (record m { references = refs }) (record pass { builder = record pass.builder { allocations = tables; placed = placed } })
+  runs-references tables refs {placed} runs others same = record {
     text_is = runs.text_is;
     options_is = runs.options_is;
     lookup_is = runs.lookup_is;
-    drawing = record { here = runs.drawing.here; up = runs.drawing.up; is = runs.drawing.is; here_is = runs.drawing.here_is; up_is = runs.drawing.up_is };
+    drawing = record {
+      here = runs.drawing.here;
+      up = runs.drawing.up;
+      is = runs.drawing.is;
+      here_is = ap (λ t. shown_forest text t.texts runs.drawing.here) others ∙ runs.drawing.here_is;
+      up_is = ap (λ t. map (shown_open text t.texts) runs.drawing.up) others ∙ runs.drawing.up_is;
+    };
     inner = runs.inner;
     outer = runs.outer;
     bare = runs.bare;
     leaf = runs.leaf;
     line_end = runs.line_end;
     references = same;
-    footnotes = runs.footnotes;
+    footnotes = subst (HasLabels m.footnotes) (sym (ap (λ t. t.footnotes) others)) runs.footnotes;
   }
 
 -- if no line is left, the whole text was gathered

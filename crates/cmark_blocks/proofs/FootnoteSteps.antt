@@ -28,7 +28,8 @@ use Rattle.cmark_leaf_nodes.proofs.WordSteps.{last-text}
 use Rattle.cmark_blocks.specs.Footnotes.{KeepsText, Notes, HasLabels, unused_if}
 use Rattle.cmark_blocks.specs.Runs.{Runs}
 use Rattle.cmark_blocks.specs.declared.state.Pass.{Pass}
-use Rattle.cmark_blocks.proofs.ReferenceSteps.{fold-again, eq-sym}
+use Rattle.cmark_stream_model.proofs.FoldedLabels.{fold-again}
+use Rattle.cmark_blocks.proofs.ReferenceSteps.{eq-sym}
 
 -- a label was kept, and a node of the footnote's definition was opened with it
 pub draws-footnote : (text : List ℕ) (old new : Builder) (kept : Allocations) (index : CowIndex) (start : ℕ) (bytes : List ℕ) (d : Drawing) →
@@ -37,7 +38,7 @@ pub draws-footnote : (text : List ℕ) (old new : Builder) (kept : Allocations) 
     new.allocations ≡ kept → Draws text old d → Draws text new (opened start (FootnoteDefinition bytes) d)
 draws-footnote text old new kept index start bytes d at keeps step same draws =
     let name = keeps.0 in
-    let mid : Builder = record { tree = old.tree; allocations = kept } in
+    let mid : Builder = record old { allocations = kept } in
     let texts : kept.texts ≡ old.allocations.texts ++ name ∷ [] = keeps.2 in
     draws-open text mid new start (body.FootnoteDefinition index) (FootnoteDefinition bytes) d step same
     (ap (λ o. option_map (ranged start start) (option_map FootnoteDefinition o)) (

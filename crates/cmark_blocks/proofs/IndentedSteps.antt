@@ -1,5 +1,5 @@
 -- Lines of indented code, one after the other.
-use Rattle.std.proofs.Common.{◌≡◌, ℕ, ◌<◌, ◌+◌, List, [], ◌∷◌, ◌++◌, length, map, take, get_or, Option, Vec, Global, ◌⊎◌, ⊎_elim, refl, sym, ap, ◌∙◌, subst}
+use Rattle.std.proofs.Common.{◌≡◌, ℕ, ◌<◌, ◌+◌, List, [], ◌∷◌, ◌++◌, length, map, take, get_or, Option, ◌⊎◌, ⊎_elim, refl, sym, ap, ◌∙◌, subst}
 use Rattle.std.proofs.lemmas.List.{map-append}
 use Rattle.std.proofs.lemmas.Grind.{take_at_read}
 use Rattle.cmark_grammar.specs.Answers.{Lookup}
@@ -21,9 +21,7 @@ use Rattle.cmark_block_model.specs.Drawing.{Drawing, drawn}
 use Rattle.cmark_block_model.specs.OpenBlocks as model
 use Rattle.cmark_builder.specs.declared.builder.Builder.{Builder}
 use Rattle.cmark_builder.specs.Drawn.{Draws}
-use Rattle.cmark_blocks.specs.declared.state.OpenLeaf.{OpenLeaf}
 use Rattle.cmark_blocks.specs.declared.state.Pass.{Pass}
-use Rattle.cmark_blocks.specs.Runs.{Runs, ShowsLeaf}
 use Rattle.cmark_blocks.specs.IndentedLines.{lines_drawn, waits_after, DrawsLines}
 
 module _ (text : List ℕ) (r : Row) where
@@ -75,20 +73,3 @@ module _ (text : List ℕ) (options : Options) (lookup : Lookup) where
 
     pub indented-stops : (x : Continuation) → shown_continuation x ≡ code_continuation r → (x ≡ Closes) ⊎ (x ≡ Stops) → leaf_fed text options lookup m.leaf r next m ≡ begin text options lookup r next (leaf_closed text options lookup m)
     indented-stops x continuation = ⊎_elim (λ e. continuation-fed grammar.Closes (sym continuation ∙ ap shown_continuation e)) (λ e. continuation-fed grammar.Stops (sym continuation ∙ ap shown_continuation e))
-
--- the open leaf, and the blank lines that wait after it
-pub runs-waiting : {E : Type 0} (replacement : E → Lookup) (text : List ℕ) (options : Options) (lookup : Lookup) (m : model.Pass) (pass : Pass E) (open_leaf : OpenLeaf) (blanks : Vec LineRest Global) (l : model.OpenLeaf) →
-    Runs replacement text options lookup m pass → ShowsLeaf text open_leaf blanks.items l → Runs replacement text options lookup (record m { leaf = l }) (record pass { leaf = open_leaf; blank_lines = blanks })
-runs-waiting replacement text options lookup m pass open_leaf blanks l runs shows = record {
-  text_is = runs.text_is;
-  options_is = runs.options_is;
-  lookup_is = runs.lookup_is;
-  drawing = runs.drawing;
-  inner = runs.inner;
-  outer = runs.outer;
-  bare = runs.bare;
-  leaf = shows;
-  line_end = runs.line_end;
-  references = runs.references;
-  footnotes = runs.footnotes;
-}

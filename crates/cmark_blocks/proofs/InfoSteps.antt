@@ -59,7 +59,7 @@ pub draws-fenced : (text : List ℕ) (old new : Builder) (kept : Allocations) (i
     ((here : Forest Item) (up : List (Opened Item)) → Is old.tree here up → Is new.tree forest.Nil (record { left = here; item = item_at start start (body.FencedCodeBlock index) } ∷ up)) →
     new.allocations ≡ kept → Draws text old d → Draws text new (opened start (FencedCode bytes) d)
 draws-fenced text old new kept info index start bytes d at is read step same draws =
-    let mid : Builder = record { tree = old.tree; allocations = kept } in
+    let mid : Builder = record old { allocations = kept } in
     let texts : kept.texts ≡ old.allocations.texts ++ info ∷ [] = ap (λ t. t.texts) is in
     draws-open text mid new start (body.FencedCodeBlock index) (FencedCode bytes) d step same
     (ap (λ o. option_map (ranged start start) (option_map FencedCode o)) (

@@ -1,14 +1,10 @@
 -- The table of link reference definitions, with another definition.
-use Rattle.std.proofs.Common.{◌≡◌, ℕ, Bool, true, false, List, [], ◌∷◌, ◌++◌, Option, Some, None, option_map, All, cond, filter, refl, sym, ap, subst, ◌∙◌, true≢false, arith}
+use Rattle.std.proofs.Common.{◌≡◌, ℕ, Bool, true, false, List, [], ◌∷◌, ◌++◌, Option, Some, None, option_map, refl, sym, ap, subst, ◌∙◌, true≢false}
 use Rattle.std.specs.Borrow.{Bor}
 use Rattle.std.specs.Prelude.{bytes_eq, if◌then◌else◌, is_some, option_copied}
-use Rattle.std.specs.Char.{is_ascii_whitespace}
-use Rattle.std.specs.List.{slice_split, join_with_byte, onto_first}
-use Rattle.std.proofs.lemmas.List.Elements.{All-cons}
-use Rattle.std.proofs.lemmas.List.Splits.{slice_split_none, slice_split_at}
 use Rattle.std.proofs.lemmas.Slice.Eq.{bytes_eq-Decides}
 use Rattle.cmark_grammar.specs.BlockDocument.{Reference}
-use Rattle.cmark_grammar.specs.Labels.{is_nonempty, words, normal_form, case_folded, fold}
+use Rattle.cmark_grammar.specs.Labels.{fold}
 use Rattle.cmark_grammar.specs.References.{found_or, first_with}
 use Rattle.cmark_values.specs.declared.label.LinkLabel.{LinkLabel}
 use Rattle.cmark_values.specs.Labelled.{link_key}
@@ -16,57 +12,6 @@ use Rattle.cmark_references.specs.Definitions.{definition, reference_at, shown_e
 use Rattle.cmark_references.specs.declared.definitions.RefDefs.{RefDefs}
 use Rattle.cmark_references.proofs.SpellingSteps.{at, no_entry}
 use Rattle.cmark_references.specs.declared.definitions.LinkDef.{LinkDef}
-
--- words of a label
-abbrev pub IsWord : List ℕ → Type 0
-IsWord bs = All (λ b. is_ascii_whitespace b ≡ false) bs
-
-abbrev pub AreParts : List (List ℕ) → Type 0
-AreParts [] = Unit {0}
-AreParts (p ∷ ps) = IsWord p × AreParts ps
-
-abbrev pub AreWords : List (List ℕ) → Type 0
-AreWords [] = Unit {0}
-AreWords (p ∷ ps) = IsWord p × (is_nonempty p ≡ true) × AreWords ps
-
-no-word : IsWord []
-no-word = λ k d lt. absurd (omega (arith, lt))
-
-parts-onto : (b : ℕ) (ps : List (List ℕ)) → is_ascii_whitespace b ≡ false → AreParts ps → AreParts (onto_first b ps)
-parts-onto b [] e h = (All-cons (λ c. is_ascii_whitespace c ≡ false) b [] e no-word, tt)
-parts-onto b (p ∷ ps) e h = (All-cons (λ c. is_ascii_whitespace c ≡ false) b p e h.0, h.1)
-
-split-parts : (bs : List ℕ) → AreParts (slice_split is_ascii_whitespace bs)
-split-parts [] = (no-word, tt)
-split-parts (b ∷ bs) = go (is_ascii_whitespace b) refl (split-parts bs)
-  where
-    go : (z : Bool) → is_ascii_whitespace b ≡ z → AreParts (slice_split is_ascii_whitespace bs) → AreParts (cond z ([] ∷ slice_split is_ascii_whitespace bs) (onto_first b (slice_split is_ascii_whitespace bs)))
-    go true e h = (no-word, h)
-    go false e h = parts-onto b (slice_split is_ascii_whitespace bs) e h
-
-filter-words : (ps : List (List ℕ)) → AreParts ps → AreWords (filter is_nonempty ps)
-filter-words [] h = tt
-filter-words (p ∷ ps) h = go (is_nonempty p) refl (filter-words ps h.1)
-  where
-    go : (z : Bool) → is_nonempty p ≡ z → AreWords (filter is_nonempty ps) → AreWords (cond z (p ∷ filter is_nonempty ps) (filter is_nonempty ps))
-    go true e ih = (h.0, e, ih)
-    go false e ih = ih
-
-kept : (p : List ℕ) (ps : List (List ℕ)) → is_nonempty p ≡ true → filter is_nonempty (p ∷ ps) ≡ p ∷ filter is_nonempty ps
-kept p ps e = ap (λ z. cond z (p ∷ filter is_nonempty ps) (filter is_nonempty ps)) e
-
-words-again : (ps : List (List ℕ)) → AreWords ps → words (join_with_byte 32 ps) ≡ ps
-words-again [] h = refl
-words-again (p ∷ []) h = ap (filter is_nonempty) (slice_split_none is_ascii_whitespace p h.0) ∙ kept p [] h.1
-words-again (p ∷ q ∷ ps) h =
-    ap (filter is_nonempty) (slice_split_at is_ascii_whitespace p 32 (join_with_byte 32 (q ∷ ps)) h.0 refl)
-    ∙ kept p (slice_split is_ascii_whitespace (join_with_byte 32 (q ∷ ps))) h.1
-    ∙ ap (λ ws. p ∷ ws) (words-again (q ∷ ps) h.2)
-
--- a normal form is its own normal form
-pub fold-again : (label : List ℕ) → fold (normal_form label) ≡ fold label
-fold-again label =
-    ap (λ ws. case_folded (join_with_byte 32 ws)) (words-again (words label) (filter-words (slice_split is_ascii_whitespace label) (split-parts label)))
 
 pub eq-sym : (a b : List ℕ) → bytes_eq a b ≡ bytes_eq b a
 eq-sym a b =

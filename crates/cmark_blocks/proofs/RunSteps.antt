@@ -1,5 +1,5 @@
 -- The pass in another state, after one part of it has changed.
-use Rattle.std.proofs.Common.{◌≡◌, ℕ, Bool, true, false, List, [], ◌∷◌, ◌++◌, Option, Some, None, refl, ap, subst, ◌∙◌, Vec, String, Global, ◌==◌}
+use Rattle.std.proofs.Common.{◌≡◌, ℕ, Bool, true, false, List, [], ◌∷◌, ◌++◌, Option, Some, None, refl, ap, subst, ◌∙◌, Vec, Global, ◌==◌}
 use Rattle.cmark_grammar.specs.Options.{Options}
 use Rattle.cmark_grammar.specs.Answers.{Lookup}
 use Rattle.cmark_references.specs.Definitions.{reference_at}
@@ -19,7 +19,7 @@ use Rattle.std.proofs.lemmas.Option.{same_Some}
 use Rattle.cmark_blocks.specs.declared.state.OpenLeaf.{OpenLeaf}
 use Rattle.cmark_blocks.specs.declared.state.OpenLeaf.TheVariants as leaf
 use Rattle.cmark_line_rules.specs.declared.line_rest.LineRest.{LineRest}
-use Rattle.cmark_blocks.specs.Runs.{Runs, ShowsLeaf}
+use Rattle.cmark_blocks.specs.Runs.{State, RunsIn, ShowsLeaf}
 
 pub shows-snoc : (cs : List OpenContainer) (ms : List model.OpenContainer) (c : OpenContainer) (m : model.OpenContainer) → ShowsContainers cs ms → ShowsContainer c m → ShowsContainers (cs ++ c ∷ []) (ms ++ m ∷ [])
 shows-snoc [] [] c m s t = (t, tt)
@@ -57,9 +57,9 @@ module _ (delimiter : ℕ) (number : Option ℕ) (start : ℕ) (p : model.Pass) 
       go true e = absurd (let q : Some k ≡ None = e in cc)
       go false e = refl
 
-module _ {E : Type 0} (replacement : E → Lookup) (text : List ℕ) (options : Options) (lookup : Lookup) (m : model.Pass) (pass : Pass E) where
+module _ {E : Type 0} (replacement : E → Lookup) (text : List ℕ) (options : Options) (lookup : Lookup) (m : model.Pass) (pass : State E) where
   -- something was drawn
-  pub runs-builder : (b : Builder) (d : Drawing) → Runs replacement text options lookup m pass → Draws text b d → defined b.allocations ≡ defined pass.builder.allocations → Runs replacement text options lookup (record m { drawing = d }) (record pass { builder = b })
+  pub runs-builder : (b : Builder) (d : Drawing) → RunsIn replacement text options lookup m pass → Draws text b d → defined b.allocations ≡ defined pass.builder.allocations → RunsIn replacement text options lookup (record m { drawing = d }) (record pass { builder = b })
   runs-builder b d runs draws same = record {
     text_is = runs.text_is;
     options_is = runs.options_is;
@@ -75,7 +75,7 @@ module _ {E : Type 0} (replacement : E → Lookup) (text : List ℕ) (options : 
   }
 
   -- the innermost siblings
-  pub runs-inner : (s : Siblings) (t : model.Siblings) → Runs replacement text options lookup m pass → shown_siblings s ≡ t → Runs replacement text options lookup (record m { inner = t }) (record pass { inner = s })
+  pub runs-inner : (s : Siblings) (t : model.Siblings) → RunsIn replacement text options lookup m pass → shown_siblings s ≡ t → RunsIn replacement text options lookup (record m { inner = t }) (record pass { inner = s })
   runs-inner s t runs e = record {
     text_is = runs.text_is;
     options_is = runs.options_is;
@@ -90,11 +90,11 @@ module _ {E : Type 0} (replacement : E → Lookup) (text : List ℕ) (options : 
     footnotes = runs.footnotes;
   }
 
-  pub list_is : Runs replacement text options lookup m pass → (shown_siblings pass.inner).list ≡ m.inner.list
+  pub list_is : RunsIn replacement text options lookup m pass → (shown_siblings pass.inner).list ≡ m.inner.list
   list_is runs = ap (λ s. s.list) runs.inner
 
   -- the open containers
-  pub runs-outer : (outer : Vec OpenContainer Global) (ms : List model.OpenContainer) → Runs replacement text options lookup m pass → ShowsContainers outer.items ms → Runs replacement text options lookup (record m { outer = ms }) (record pass { outer = outer })
+  pub runs-outer : (outer : Vec OpenContainer Global) (ms : List model.OpenContainer) → RunsIn replacement text options lookup m pass → ShowsContainers outer.items ms → RunsIn replacement text options lookup (record m { outer = ms }) (record pass { outer = outer.items })
   runs-outer outer ms runs shows = record {
     text_is = runs.text_is;
     options_is = runs.options_is;
@@ -109,8 +109,25 @@ module _ {E : Type 0} (replacement : E → Lookup) (text : List ℕ) (options : 
     footnotes = runs.footnotes;
   }
 
+  -- the open leaf, and the lines that wait
+  pub runs-waiting : (open_leaf : OpenLeaf) (blanks : Vec LineRest Global) (l : model.OpenLeaf) → RunsIn replacement text options lookup m pass
+      → ShowsLeaf text open_leaf blanks.items l → RunsIn replacement text options lookup (record m { leaf = l }) (record pass { leaf = open_leaf; lines = blanks.items })
+  runs-waiting open_leaf blanks l runs shows = record {
+    text_is = runs.text_is;
+    options_is = runs.options_is;
+    lookup_is = runs.lookup_is;
+    drawing = runs.drawing;
+    inner = runs.inner;
+    outer = runs.outer;
+    bare = runs.bare;
+    leaf = shows;
+    line_end = runs.line_end;
+    references = runs.references;
+    footnotes = runs.footnotes;
+  }
+
   -- the open leaf
-  pub runs-leaf : (open_leaf : OpenLeaf) (l : model.OpenLeaf) → Runs replacement text options lookup m pass → ShowsLeaf text open_leaf pass.blank_lines.items l → Runs replacement text options lookup (record m { leaf = l }) (record pass { leaf = open_leaf })
+  pub runs-leaf : (open_leaf : OpenLeaf) (l : model.OpenLeaf) → RunsIn replacement text options lookup m pass → ShowsLeaf text open_leaf pass.lines l → RunsIn replacement text options lookup (record m { leaf = l }) (record pass { leaf = open_leaf })
   runs-leaf open_leaf l runs shows = record {
     text_is = runs.text_is;
     options_is = runs.options_is;
@@ -126,27 +143,16 @@ module _ {E : Type 0} (replacement : E → Lookup) (text : List ℕ) (options : 
   }
 
   -- no lines are kept if no leaf is open
-  pub none_after_closed : pass.leaf ≡ leaf.Closed → Runs replacement text options lookup m pass → pass.blank_lines.items ≡ []
-  none_after_closed is runs = (subst (λ l. ShowsLeaf text l pass.blank_lines.items m.leaf) is runs.leaf).1
+  pub none_after_closed : pass.leaf ≡ leaf.Closed → RunsIn replacement text options lookup m pass → pass.lines ≡ []
+  none_after_closed is runs = (subst (λ l. ShowsLeaf text l pass.lines m.leaf) is runs.leaf).1
 
-  -- no leaf is open, and no blank lines wait
-  pub runs-closed : (blanks : Vec LineRest Global) → Runs replacement text options lookup m pass → blanks.items ≡ [] → Runs replacement text options lookup (record m { leaf = model.Closed }) (record pass { leaf = leaf.Closed; blank_lines = blanks })
-  runs-closed blanks runs none = record {
-    text_is = runs.text_is;
-    options_is = runs.options_is;
-    lookup_is = runs.lookup_is;
-    drawing = runs.drawing;
-    inner = runs.inner;
-    outer = runs.outer;
-    bare = runs.bare;
-    leaf = (refl, none);
-    line_end = runs.line_end;
-    references = runs.references;
-    footnotes = runs.footnotes;
-  }
+  -- no leaf is open, and no lines wait
+  pub runs-closed : (blanks : Vec LineRest Global) → RunsIn replacement text options lookup m pass → blanks.items ≡ []
+      → RunsIn replacement text options lookup (record m { leaf = model.Closed }) (record pass { leaf = leaf.Closed; lines = blanks.items })
+  runs-closed blanks runs none = runs-waiting leaf.Closed blanks model.Closed runs (refl, none)
 
   -- whether the innermost container is a bare item
-  pub runs-bare : (bare : Bool) → Runs replacement text options lookup m pass → Runs replacement text options lookup (record m { bare = bare }) (record pass { bare = bare })
+  pub runs-bare : (bare : Bool) → RunsIn replacement text options lookup m pass → RunsIn replacement text options lookup (record m { bare = bare }) (record pass { bare = bare })
   runs-bare bare runs = record {
     text_is = runs.text_is;
     options_is = runs.options_is;
@@ -162,7 +168,7 @@ module _ {E : Type 0} (replacement : E → Lookup) (text : List ℕ) (options : 
   }
 
   -- the place at which the next line begins
-  pub runs-line_end : (line_end there : ℕ) → Runs replacement text options lookup m pass → line_end ≡ there → Runs replacement text options lookup (record m { line_end = there }) (record pass { line_end = line_end })
+  pub runs-line_end : (line_end there : ℕ) → RunsIn replacement text options lookup m pass → line_end ≡ there → RunsIn replacement text options lookup (record m { line_end = there }) (record pass { line_end = line_end })
   runs-line_end line_end there runs same = record {
     text_is = runs.text_is;
     options_is = runs.options_is;
@@ -173,22 +179,6 @@ module _ {E : Type 0} (replacement : E → Lookup) (text : List ℕ) (options : 
     bare = runs.bare;
     leaf = runs.leaf;
     line_end = same;
-    references = runs.references;
-    footnotes = runs.footnotes;
-  }
-
-  -- the content of the string for a paragraph's text does not matter
-  pub runs-room : (room : String Global) → Runs replacement text options lookup m pass → Runs replacement text options lookup m (record pass { room = room })
-  runs-room room runs = record {
-    text_is = runs.text_is;
-    options_is = runs.options_is;
-    lookup_is = runs.lookup_is;
-    drawing = runs.drawing;
-    inner = runs.inner;
-    outer = runs.outer;
-    bare = runs.bare;
-    leaf = runs.leaf;
-    line_end = runs.line_end;
     references = runs.references;
     footnotes = runs.footnotes;
   }

@@ -43,7 +43,7 @@ use Rattle.cmark_line_rules.specs.declared.line_rest.LineRest.{LineRest}
 use Rattle.cmark_values.specs.Shown.{shown_options}
 use Rattle.cmark_blocks.specs.LineByLine.{Feeds}
 use Rattle.cmark_blocks.specs.Cuts.{ends_all, Tells, StartsAt}
-use Rattle.cmark_blocks.specs.Runs.{Runs, IsGood}
+use Rattle.cmark_blocks.specs.Runs.{Runs}
 use Rattle.cmark_blocks.specs.declared.state.Pass.{Pass}
 use Rattle.cmark_blocks.proofs.CutSteps.{both-true, not-true, ends-parts, parts-ends, stays-list}
 
@@ -387,20 +387,18 @@ module _ {E : Type 0} (replacement : E → Lookup) where
   -- what is known in the search for the last cut after `from`, with this state of the pass
   pub record Searches (text : List ℕ) (options : Options) (lookup : Lookup) (from : ℕ) (pass : Pass E) (cut : ℕ) (is_resolved after_item : Bool) (left : Undecided) : Type 0 where
     pub begun : IsSettledAt options text from
-    pub good : IsGood pass
     pub m : model.Pass
     pub runs : Runs replacement text options lookup m pass
     pub searched : Searched text options lookup from begun pass.line_end m cut is_resolved after_item left
 
-  pub searches-start : (pass : Pass E) (from : ℕ) → IsGood pass → StartsAt replacement from pass → IsSettledAt (shown_options pass.options) pass.text.now from → (after_item : Bool) → (after_item ≡ false → from ≡ 0)
+  pub searches-start : (pass : Pass E) (from : ℕ) → StartsAt replacement from pass → IsSettledAt (shown_options pass.options) pass.text.now from → (after_item : Bool) → (after_item ≡ false → from ≡ 0)
       → Searches pass.text.now (shown_options pass.options) (replacement pass.entities.now) from pass from true after_item Nothing
-  searches-start pass from good starts begun after_item first = record {
+  searches-start pass from starts begun after_item first = record {
     begun = begun;
-    good = good;
     m = starting_at from [] [];
     runs = starts;
     searched = subst (λ n. Searched pass.text.now (shown_options pass.options) (replacement pass.entities.now) from begun n (starting_at from [] []) from true after_item Nothing) (sym starts.line_end)
-        (search-start pass.text.now (shown_options pass.options) (replacement pass.entities.now) from begun (subst (IsCharBoundary pass.text.now) starts.line_end good.begins) after_item first);
+        (search-start pass.text.now (shown_options pass.options) (replacement pass.entities.now) from begun (subst (IsCharBoundary pass.text.now) starts.line_end pass.begins) after_item first);
   }
 
   module _ (text : List ℕ) (options : Options) (lookup : Lookup) (from : ℕ) (old now : Pass E) (line : LineRest) (cut : ℕ) (is_resolved after_item : Bool) (left : Undecided) (s : Searches text options lookup from old cut is_resolved after_item left)
@@ -421,14 +419,13 @@ module _ {E : Type 0} (replacement : E → Lookup) where
     abbrev Next : ℕ → ℕ → Bool → Bool → Undecided → Type 0
     Next n k z w u = Searched text options lookup from s.begun n (line_fed text options lookup (row_of line) (lines_at text (row_of line).line_end) s.m) k z w u
 
-    pub searches-step : Feeds replacement line old now → IsGood now → now.line_end ≡ (row_of line).line_end
+    pub searches-step : Feeds replacement line old now → now.line_end ≡ (row_of line).line_end
         → (cut' : ℕ) (is_resolved' after_item' : Bool) (left' : Undecided) → cut' ≡ (if begins && ((is_resolved && is_nothing left) && (decided && (not marked && (apart || not after_item)))) then old.line_end else cut)
         → is_resolved' ≡ (blind && (blank || is_resolved)) → after_item' ≡ (if begins then not outside else after_item)
         → left' ≡ undecided_after (shown_options old.options) begins (row_of line) left
         → Searches text options lookup from now cut' is_resolved' after_item' left'
-    searches-step feeds good ends cut' is_resolved' after_item' left' cut_is resolved_is after_is left_is = record {
+    searches-step feeds ends cut' is_resolved' after_item' left' cut_is resolved_is after_is left_is = record {
       begun = s.begun;
-      good = good;
       m = line_fed text options lookup (row_of line) (lines_at text (row_of line).line_end) s.m;
       runs = feeds text options lookup s.m s.runs;
       searched =
@@ -450,7 +447,7 @@ module _ {E : Type 0} (replacement : E → Lookup) where
             → Next (row_of line).line_end (if begins && ((is_resolved && is_nothing left) && (decided && (not marked && (apart || not after_item)))) then old.line_end else cut) (blind && (blank || is_resolved)) (if begins then not outside else after_item) (undecided_after options begins (row_of line) left)
         go [] e = absurd (let q : [] ≡ row_of line ∷ lines_at text (row_of line).line_end = ap (rows_from old.line_end) (sym e) ∙ there in cc)
         go (l ∷ ls) e =
-            search-step text options lookup from s.begun old.line_end s.m cut is_resolved after_item left s.searched less (subst (λ t. IsCharBoundary t old.line_end) s.runs.text_is s.good.begins)
+            search-step text options lookup from s.begun old.line_end s.m cut is_resolved after_item left s.searched less (subst (λ t. IsCharBoundary t old.line_end) s.runs.text_is old.begins)
             (row_of line) l ls e (is_line l ls (ap (λ t. lines (drop old.line_end t)) text-is ∙ e)) there
             begins outside apart marked decided blank blind (begins_is text options lookup s.m s.runs)
             (λ e ahead. ap (λ o. is_outside_of_lists (opens_at o Apart (row_of line) ahead)) (sym s.runs.options_is) ∙ outside_is e ahead)

@@ -10,11 +10,15 @@ use Rattle.cmark_leaf_nodes.specs.TextColumns.{IsRead}
 use Rattle.cmark_leaf_nodes.specs.declared.setext.SetextAttributes.{SetextAttributes}
 use Rattle.cmark_leaf_nodes.proofs.SetextContent.{no-setext}
 use Rattle.cmark_blocks.specs.Setext.{FindsIf}
-use Rattle.cmark_blocks.specs.Runs.{IsLastRead}
+use Rattle.cmark_blocks.specs.LastLines.{IsLastRead}
 use Rattle.cmark_blocks.specs.declared.state.OpenLeaf.{OpenLeaf}
 use Rattle.cmark_blocks.specs.declared.state.OpenLeaf.TheVariants as leaf
 
 -- another line that is read
+-- no lines
+pub read-none : (text : List ℕ) (lines : List LineRest) → lines ≡ [] → AreRead text lines
+read-none text lines none = subst (AreRead text) (sym none) tt
+
 pub read-more : (text : List ℕ) (lines : List LineRest) (last : LineRest) → AreRead text lines → IsRead text last → AreRead text (lines ++ last ∷ [])
 read-more text [] last h l = (l, tt)
 read-more text (r ∷ lines) last h l = (h.0, read-more text lines last h.1 l)

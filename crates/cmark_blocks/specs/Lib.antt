@@ -7,6 +7,7 @@ pub mod Footnotes
 pub mod Gathered
 pub mod IndentedLines
 pub mod KeepingContainers
+pub mod LastLines
 pub mod LineByLine
 pub mod LinkDefinitions
 pub mod Prefixes

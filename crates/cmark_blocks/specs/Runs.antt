@@ -1,13 +1,12 @@
 -- The model's state of the block pass.
-use Rattle.std.specs.Prelude.{◌≡◌, ℕ, false, List, [], map, Option, None}
-use Rattle.std.specs.Str.{IsCharBoundary}
-use Rattle.cmark_tree.specs.Building.{IsPlaced}
+use Rattle.std.specs.Prelude.{◌≡◌, ℕ, Bool, false, List, [], map, Option, None}
 use Rattle.cmark_grammar.specs.Options.{Options}
 use Rattle.cmark_grammar.specs.Answers.{Lookup}
 use Rattle.cmark_grammar.specs.Labels.{fold}
 use Rattle.cmark_grammar.specs.References.{first_with}
 use Rattle.cmark_references.specs.Definitions.{reference_at}
 use Rattle.cmark_builder.specs.Drawn.{Draws}
+use Rattle.cmark_builder.specs.declared.builder.Builder.{Builder}
 use Rattle.cmark_line_rules.specs.Rests.{row_of}
 use Rattle.cmark_line_rules.specs.declared.line_rest.LineRest.{LineRest}
 use Rattle.cmark_values.specs.Shown.{shown_metadata_block_kind, shown_options}
@@ -15,11 +14,11 @@ use Rattle.cmark_scan_lines.specs.HtmlLines.{kind_number}
 use Rattle.cmark_grammar.specs.Leaves.{Fence}
 use Rattle.cmark_leaf_nodes.specs.Stretches.{shown_waits}
 use Rattle.cmark_leaf_nodes.specs.declared.stretch.Stretch.{Stretch}
-use Rattle.cmark_leaf_nodes.specs.Contents.{AreRead}
-use Rattle.cmark_leaf_nodes.specs.TextColumns.{IsRead}
 use Rattle.cmark_block_model.specs.OpenBlocks as model
 use Rattle.cmark_blocks.specs.declared.state.OpenLeaf.{OpenLeaf}
 use Rattle.cmark_blocks.specs.declared.state.OpenLeaf.TheVariants as leaf
+use Rattle.cmark_blocks.specs.declared.siblings.Siblings.{Siblings}
+use Rattle.cmark_blocks.specs.declared.state.OpenContainer.{OpenContainer}
 use Rattle.cmark_blocks.specs.declared.state.Pass.{Pass}
 use Rattle.cmark_blocks.specs.Footnotes.{HasLabels}
 use Rattle.cmark_blocks.specs.Shown.{shown_siblings, ShowsContainers}
@@ -52,43 +51,53 @@ IsVerbatim (leaf.Fenced delimiter run_length indent others) waits = waits ≡ ot
 IsVerbatim (leaf.Html kind) waits = waits ≡ None
 IsVerbatim (leaf.Metadata kind others) waits = waits ≡ others
 
--- the last line of an open paragraph is read in the text
-abbrev pub IsLastRead : List ℕ → OpenLeaf → Type 0
-IsLastRead text leaf.Closed = Unit {0}
-IsLastRead text leaf.AfterTag = Unit {0}
-IsLastRead text (leaf.Paragraph from last) = IsRead text last
-IsLastRead text (leaf.Definition left) = Unit {0}
-IsLastRead text (leaf.Table columns left has_delimiter) = Unit {0}
-IsLastRead text (leaf.Indented waits end) = Unit {0}
-IsLastRead text (leaf.Fenced delimiter run_length indent waits) = Unit {0}
-IsLastRead text (leaf.Html kind) = Unit {0}
-IsLastRead text (leaf.Metadata kind waits) = Unit {0}
-
 module _ {E : Type 0} where
-  -- the facts that hold of the pass in every case, also after memory was refused. Nodes can be added, the next line begins at a character
-  -- boundary, and the kept lines are read from the text
-  pub record IsGood (pass : Pass E) : Type 0 where
-    pub placed : IsPlaced pass.builder.tree
-    pub begins : IsCharBoundary pass.text.now pass.line_end
-    pub lines : AreRead pass.text.now pass.blank_lines.items
-    pub last : IsLastRead pass.text.now pass.leaf
-
   -- a block can begin: no leaf is open, and the line is not the rest of one after an item's marker
   pub record CanBegin (pass : Pass E) : Type 0 where
     pub closed : pass.leaf ≡ leaf.Closed
     pub bare : pass.bare ≡ false
 
+-- what a pass has, without the facts that hold of every pass
+pub record State (E : Type 0) : Type 0 where
+  pub text : List ℕ
+  pub options : Options
+  pub entities : E
+  pub builder : Builder
+  pub inner : Siblings
+  pub outer : List OpenContainer
+  pub bare : Bool
+  pub leaf : OpenLeaf
+  pub lines : List LineRest
+  pub line_end : ℕ
+
+abbrev pub state_of : {E : Type 0} → Pass E → State E
+state_of pass = record {
+  text = pass.text.now;
+  options = shown_options pass.options;
+  entities = pass.entities.now;
+  builder = pass.builder;
+  inner = pass.inner;
+  outer = pass.outer.items;
+  bare = pass.bare;
+  leaf = pass.leaf;
+  lines = pass.blank_lines.items;
+  line_end = pass.line_end;
+}
+
 module _ {E : Type 0} (replacement : E → Lookup) where
   -- the pass over this text, with these options and this meaning of entity names, is in this state
-  pub record Runs (text : List ℕ) (options : Options) (lookup : Lookup) (m : model.Pass) (pass : Pass E) : Type 0 where
-    pub text_is : pass.text.now ≡ text
-    pub options_is : shown_options pass.options ≡ options
-    pub lookup_is : replacement pass.entities.now ≡ lookup
+  pub record RunsIn (text : List ℕ) (options : Options) (lookup : Lookup) (m : model.Pass) (pass : State E) : Type 0 where
+    pub text_is : pass.text ≡ text
+    pub options_is : pass.options ≡ options
+    pub lookup_is : replacement pass.entities ≡ lookup
     pub drawing : Draws text pass.builder m.drawing
     pub inner : shown_siblings pass.inner ≡ m.inner
-    pub outer : ShowsContainers pass.outer.items m.outer
+    pub outer : ShowsContainers pass.outer m.outer
     pub bare : pass.bare ≡ m.bare
-    pub leaf : ShowsLeaf text pass.leaf pass.blank_lines.items m.leaf
+    pub leaf : ShowsLeaf text pass.leaf pass.lines m.leaf
     pub line_end : pass.line_end ≡ m.line_end
     pub references : (folded : List ℕ) → reference_at pass.builder.allocations.references folded ≡ first_with fold folded m.references
     pub footnotes : HasLabels m.footnotes pass.builder.allocations.footnotes
+
+  abbrev pub Runs : (text : List ℕ) (options : Options) (lookup : Lookup) (m : model.Pass) (pass : Pass E) → Type 0
+  Runs text options lookup m pass = RunsIn text options lookup m (state_of pass)

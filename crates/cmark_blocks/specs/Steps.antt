@@ -20,6 +20,12 @@ use Rattle.cmark_blocks.specs.Ahead.{lines_at}
 use Rattle.cmark_blocks.specs.Runs.{Runs}
 
 module _ {E : Type 0} where
+  -- a step among the containers leaves the text, the open leaf and whether the last item is bare unchanged
+  pub record Keeps (old new : Pass E) : Type 0 where
+    pub text : new.text ≡ old.text
+    pub leaf : new.leaf ≡ old.leaf
+    pub bare : new.bare ≡ old.bare
+
   -- a step among the blocks of the innermost container leaves the tables, the lines that wait and the open leaf unchanged
   pub record LeavesTheRest (old new : Pass E) : Type 0 where
     pub tables : new.builder.allocations ≡ old.builder.allocations

@@ -1,7 +1,6 @@
 //! Code blocks: their beginnings, their lines, and their ends (CommonMark 4.4 and 4.5).
 
 ghost use Rattle.std.specs.Prelude.{◌≡◌, List, ℕ, Option, OnOk, IfOk, false, map, slice_range};
-ghost use Rattle.cmark_tree.specs.Building.{IsPlaced};
 ghost use Rattle.cmark_items.specs.Tables.{defined};
 ghost use Rattle.cmark_grammar.specs.Leaves as grammar;
 ghost use Rattle.cmark_grammar.specs.Leaves.{code_continuation};
@@ -41,8 +40,6 @@ fn draw_blank_lines(
     lines: &[LineRest<'_>],
     waits: Option<Stretch>,
 ) -> Result<Option<Stretch>, AllocError>
-    requires { IsPlaced builder.old.tree }
-    ensures placed { IsPlaced builder.new.tree }
     ensures lines { IfOk result
         (λ left. (text : List ℕ)
         → DrawsLines text builder.old builder.new (map row_of lines.now) waits left) }
@@ -57,15 +54,12 @@ fn draw_blank_lines(
 
 impl<'a, E: EntityLookup> Pass<'a, E> {
     ghost use Rattle.cmark_blocks.specs.declared.state.OpenLeaf.TheVariants as leaf;
-    ghost use Rattle.cmark_blocks.specs.Runs.{IsGood};
     ghost use Rattle.cmark_leaf_nodes.specs.TextColumns.{IsRead};
     ghost use Rattle.cmark_blocks.specs.Steps.{FeedsLeaf, BeginsLeaf, ClosesLeaf};
 
     /// Begins indented code on a line, after four columns of indent (CommonMark 4.4).
     pub(crate) fn begin_indented(&mut self, rest: LineRest<'a>) -> Result<(), AllocError>
-        requires good { IsGood self.old }
         requires closed { self.old.leaf ≡ leaf.Closed }
-        ensures good { IsGood self.new }
         ensures runs { OnOk result
             ((more : ℕ) → BeginsLeaf E.replacement IndentedCode more rest.entry self.old self.new) }
         ensures text { self.new.text ≡ self.old.text }
@@ -99,11 +93,9 @@ impl<'a, E: EntityLookup> Pass<'a, E> {
         fence: CodeFence,
         rest: LineRest<'a>,
     ) -> Result<(), AllocError>
-        requires good { IsGood self.old }
         requires closed { self.old.leaf ≡ leaf.Closed }
         requires line { IsRead self.old.text.now rest }
         requires stands { InfoStands self.old.text.now (row_of rest) fence }
-        ensures good { IsGood self.new }
         ensures runs { OnOk result
             ((more : ℕ)
             → BeginsLeaf E.replacement
@@ -113,9 +105,10 @@ impl<'a, E: EntityLookup> Pass<'a, E> {
     {
         let info = self.info_string(fence, rest)?;
         self.begin_block();
-        let index = self.builder.allocations.allocate_cow(info)?;
+        let builder = &mut self.builder;
+        let index = builder.allocations.allocate_cow(info)?;
         let body = ItemBody::FencedCodeBlock(index);
-        self.builder.open(rest.words_begin(), body)?;
+        builder.open(rest.words_begin(), body)?;
         self.leaf = OpenLeaf::Fenced(fence.delimiter, fence.run_length, indent, None);
         Ok(())
     }
@@ -129,9 +122,7 @@ impl<'a, E: EntityLookup> Pass<'a, E> {
         waits: Option<Stretch>,
         rest: LineRest<'a>,
     ) -> Result<(), AllocError>
-        requires good { IsGood self.old }
         requires is { self.old.leaf ≡ leaf.Fenced delimiter run_length indent waits }
-        ensures good { IsGood self.new }
         ensures runs { OnOk result (FeedsLeaf E.replacement rest.entry self.old self.new) }
         ensures text { self.new.text ≡ self.old.text }
     {
@@ -158,10 +149,8 @@ impl<'a, E: EntityLookup> Pass<'a, E> {
         end: usize,
         rest: LineRest<'a>,
     ) -> Result<(), AllocError>
-        requires good { IsGood self.old }
         requires is { self.old.leaf ≡ leaf.Indented waits end }
         requires goes_on { code_continuation (row_of rest) ≡ grammar.GoesOn }
-        ensures good { IsGood self.new }
         ensures runs { OnOk result (FeedsLeaf E.replacement rest.entry self.old self.new) }
         ensures text { self.new.text ≡ self.old.text }
     {
@@ -174,12 +163,10 @@ impl<'a, E: EntityLookup> Pass<'a, E> {
 
     /// Feeds a blank line after indented code: it belongs to the code only if a later line does.
     fn keep_blank_line(&mut self, rest: LineRest<'a>) -> Result<(), AllocError>
-        requires good { IsGood self.old }
         requires line { IsRead self.old.text.now rest }
         requires is { (waits : Option Stretch) × (end : ℕ)
             × (self.old.leaf ≡ leaf.Indented waits end) }
         requires waits { code_continuation (row_of rest) ≡ grammar.Waits }
-        ensures good { IsGood self.new }
         ensures runs { OnOk result (FeedsLeaf E.replacement rest.entry self.old self.new) }
         ensures text { self.new.text ≡ self.old.text }
     {
@@ -194,11 +181,9 @@ impl<'a, E: EntityLookup> Pass<'a, E> {
         end: usize,
         rest: LineRest<'a>,
     ) -> Result<(), AllocError>
-        requires good { IsGood self.old }
         requires is { self.old.leaf ≡ leaf.Indented waits end }
         requires line { IsRead self.old.text.now rest }
         requires bare { self.old.bare ≡ false }
-        ensures good { IsGood self.new }
         ensures runs { OnOk result (FeedsLeaf E.replacement rest.entry self.old self.new) }
         ensures text { self.new.text ≡ self.old.text }
     {
@@ -215,9 +200,7 @@ impl<'a, E: EntityLookup> Pass<'a, E> {
         waits: Option<Stretch>,
         end: usize,
     ) -> Result<(), AllocError>
-        requires good { IsGood self.old }
         requires is { self.old.leaf ≡ leaf.Indented waits end }
-        ensures good { IsGood self.new }
         ensures runs { OnOk result (ClosesLeaf E.replacement self.old self.new) }
         ensures closed { OnOk result (self.new.leaf ≡ leaf.Closed) }
         ensures text { self.new.text ≡ self.old.text }

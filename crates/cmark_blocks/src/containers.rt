@@ -37,8 +37,7 @@ fn reads_tasklists(options: Options) -> bool
 }
 
 impl<'a, E: EntityLookup> Pass<'a, E> {
-    ghost use Rattle.cmark_blocks.specs.Runs.{IsGood};
-    ghost use Rattle.cmark_blocks.specs.Steps.{Steps, ClosesLast, ClosesAll, BeginsTask};
+    ghost use Rattle.cmark_blocks.specs.Steps.{Keeps, Steps, ClosesLast, ClosesAll, BeginsTask};
     ghost use Rattle.cmark_blocks.specs.KeepingContainers.{IsAfter, KeepsOf};
     ghost use Rattle.cmark_blocks.specs.declared.state.OpenLeaf.TheVariants as leaf;
     ghost use Rattle.cmark_leaf_nodes.specs.TextColumns.{IsRead};
@@ -50,11 +49,9 @@ impl<'a, E: EntityLookup> Pass<'a, E> {
         start: ContainerStart<'a>,
         rest: LineRest<'a>,
     ) -> Result<Option<(LineRest<'a>, bool)>, AllocError>
-        requires good { IsGood self.old }
         requires line { IsRead self.old.text.now rest }
         requires closed { self.old.leaf ≡ leaf.Closed }
         requires start { IsStartOf self.old.text.now (row_of rest) start }
-        ensures good { IsGood self.new }
         ensures runs { IfOk result
             (λ entered. BeginsContainer E.replacement start.entry rest.entry entered self.old
             self.new) }
@@ -98,10 +95,8 @@ impl<'a, E: EntityLookup> Pass<'a, E> {
         start: usize,
         following: LineRest<'a>,
     ) -> Result<(), AllocError>
-        requires good { IsGood self.old }
         requires line { IsRead self.old.text.now following }
         requires closed { self.old.leaf ≡ leaf.Closed }
-        ensures good { IsGood self.new }
         ensures runs { OnOk result
             (BeginsTask E.replacement is_checked start following.entry self.old self.new) }
         ensures text { self.new.text ≡ self.old.text }
@@ -131,15 +126,11 @@ impl<'a, E: EntityLookup> Pass<'a, E> {
 
     /// Enters a container that begins.
     pub(crate) fn enter(&mut self, container: Container) -> Result<(), AllocError>
-        requires { IsGood self.old }
-        ensures good { IsGood self.new }
         ensures runs { OnOk result
             ((k : grammar.Container) → Shows container k
             → Steps E.replacement self.old self.new (stepped_inside k)) }
         ensures tables { self.new.builder.allocations ≡ self.old.builder.allocations }
-        ensures text { self.new.text ≡ self.old.text }
-        ensures leaf { self.new.leaf ≡ self.old.leaf }
-        ensures bare { self.new.bare ≡ self.old.bare }
+        ensures keeps { Keeps self.old self.new }
     {
         self.outer.push(OpenContainer {
             container,
@@ -155,14 +146,10 @@ impl<'a, E: EntityLookup> Pass<'a, E> {
         alert: Option<BlockQuoteKind>,
         start: usize,
     ) -> Result<(), AllocError>
-        requires { IsGood self.old }
-        ensures good { IsGood self.new }
         ensures runs { OnOk result
             (Steps E.replacement self.old self.new
             (block_quote_begun (option_map shown_block_quote_kind alert) start)) }
-        ensures text { self.new.text ≡ self.old.text }
-        ensures leaf { self.new.leaf ≡ self.old.leaf }
-        ensures bare { self.new.bare ≡ self.old.bare }
+        ensures keeps { Keeps self.old self.new }
     {
         self.begin_block();
         self.builder.open(start, ItemBody::BlockQuote(alert))?;
@@ -171,16 +158,12 @@ impl<'a, E: EntityLookup> Pass<'a, E> {
 
     /// Begins an item at this byte offset. A task marker after the item's marker is not handled here.
     pub(crate) fn begin_item(&mut self, item: ItemStart, start: usize) -> Result<(), AllocError>
-        requires good { IsGood self.old }
         requires number { list_number item.delimiter (unwrap_or item.number 0) ≡ item.number }
-        ensures good { IsGood self.new }
         ensures runs { OnOk result
             ((task : Option Bool)
             → Steps E.replacement self.old self.new
             (item_begun_in item.delimiter item.number item.width task start)) }
-        ensures text { self.new.text ≡ self.old.text }
-        ensures leaf { self.new.leaf ≡ self.old.leaf }
-        ensures bare { self.new.bare ≡ self.old.bare }
+        ensures keeps { Keeps self.old self.new }
     {
         self.join_list(item, start)?;
         self.builder.open(start, ItemBody::ListItem(item.width))?;
@@ -193,13 +176,9 @@ impl<'a, E: EntityLookup> Pass<'a, E> {
         width: usize,
         start: usize,
     ) -> Result<(), AllocError>
-        requires { IsGood self.old }
-        ensures good { IsGood self.new }
         ensures runs { OnOk result
             (Steps E.replacement self.old self.new (definition_begun_in width start)) }
-        ensures text { self.new.text ≡ self.old.text }
-        ensures leaf { self.new.leaf ≡ self.old.leaf }
-        ensures bare { self.new.bare ≡ self.old.bare }
+        ensures keeps { Keeps self.old self.new }
     {
         self.join_definitions(width, start)?;
         let body = ItemBody::DefinitionListDefinition(width);
@@ -238,12 +217,8 @@ impl<'a, E: EntityLookup> Pass<'a, E> {
 
     /// Closes the innermost container at the end of the last line.
     fn close_container(&mut self)
-        requires { IsGood self.old }
-        ensures good { IsGood self.new }
         ensures runs { ClosesLast E.replacement self.old self.new }
-        ensures text { self.new.text ≡ self.old.text }
-        ensures leaf { self.new.leaf ≡ self.old.leaf }
-        ensures bare { self.new.bare ≡ self.old.bare }
+        ensures keeps { Keeps self.old self.new }
         ensures fewer { length self.new.outer.items ≡ length self.old.outer.items - 1 }
     {
         self.close_list();
@@ -255,12 +230,8 @@ impl<'a, E: EntityLookup> Pass<'a, E> {
 
     /// Closes the innermost containers until `kept` are left.
     pub(crate) fn close_containers(&mut self, kept: usize)
-        requires { IsGood self.old }
-        ensures good { IsGood self.new }
         ensures runs { ClosesAll E.replacement kept self.old self.new }
-        ensures text { self.new.text ≡ self.old.text }
-        ensures leaf { self.new.leaf ≡ self.old.leaf }
-        ensures bare { self.new.bare ≡ self.old.bare }
+        ensures keeps { Keeps self.old self.new }
     {
         while self.outer.len() > kept {
             self.close_container();

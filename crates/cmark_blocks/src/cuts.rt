@@ -204,7 +204,6 @@ impl<'a, E: EntityLookup> Pass<'a, E> {
     ghost use Rattle.cmark_stream_model.specs.Growth.{is_outside_of_lists, looks_ahead, may_continue};
     ghost use Rattle.cmark_stream_model.specs.Settled.{IsSettledAt};
     ghost use Rattle.cmark_values.specs.Shown.{shown_options};
-    ghost use Rattle.cmark_blocks.specs.Runs.{IsGood};
 
     /// Whether the line, which lacks no prefix, is no text of an open paragraph.
     fn ends_text(&self, line: LineRest<'a>) -> bool
@@ -322,7 +321,6 @@ impl<'a, E: EntityLookup> Pass<'a, E> {
     /// The last settled cut of the text, or `from`. The pass is before the line at the byte offset `from`, and has read none of the lines
     /// before it.
     fn find_cut(&mut self, from: usize) -> Result<usize, AllocError>
-        requires good { IsGood self.old }
         requires starts { StartsAt E.replacement from self.old }
         ensures settled { IsSettledAt (shown_options self.old.options) self.old.text.now from
             → IfOk result (IsSettledAt (shown_options self.old.options) self.old.text.now) }

@@ -1,16 +1,20 @@
 //! Link reference definitions (CommonMark 4.7).
 
-ghost use Rattle.std.specs.Prelude.{◌≡◌, ◌≤◌, false, drop, length, OnOk};
+ghost use Rattle.std.specs.Prelude.{◌≡◌, ◌≤◌, ℕ, List, false, drop, length, OnOk};
 ghost use Rattle.cmark_grammar.specs.LinkDefinitions.{line_ends};
 ghost use Rattle.cmark_blocks.specs.Brackets.{lacks_colon, begins_none};
 ghost use Rattle.cmark_link_definitions.specs.Shown.{written};
 ghost use Rattle.cmark_line_rules.specs.Rests.{IsIn};
+ghost use Rattle.cmark_references.specs.Definitions.{at_label, entry_of, first_of};
+ghost use Rattle.cmark_values.specs.Labelled.{link_key};
 
 use crate::gathered::Gathered;
 use crate::state::{OpenLeaf, Pass};
+use cmark_items::Allocations;
 use cmark_line_rules::LineRest;
 use cmark_link_definitions::{Definition, link_definition, scan_definition};
-use cmark_values::EntityLookup;
+use cmark_references::LinkDef;
+use cmark_values::{EntityLookup, LinkLabel};
 use std::alloc::AllocError;
 use std::mem;
 use std::ops::Range;
@@ -56,10 +60,25 @@ fn line_ends_after(text: &str, place: usize) -> usize
         .count()
 }
 
+/// Records a definition in the tables of a document: the first definition of a label stays.
+fn keep_first<'a>(
+    tables: &mut Allocations<'a>,
+    label: LinkLabel,
+    definition: LinkDef<'a>,
+) -> Result<(), AllocError>
+    ensures spelled { OnOk result
+        ((folded : List ℕ)
+        → entry_of tables.new.references folded
+        ≡ first_of (entry_of tables.old.references folded)
+        (at_label (link_key label) (label, definition.entry) folded)) }
+    ensures others { tables.new ≡ record tables.old { references = tables.new.references } }
+{
+    tables.refdefs.insert(label, definition)
+}
+
 impl<'a, E: EntityLookup> Pass<'a, E> {
     ghost use Rattle.std.specs.Prelude.{false};
     ghost use Rattle.cmark_blocks.specs.declared.state.OpenLeaf.TheVariants as leaf;
-    ghost use Rattle.cmark_blocks.specs.Runs.{IsGood};
     ghost use Rattle.cmark_leaf_nodes.specs.TextColumns.{IsRead};
     ghost use Rattle.cmark_blocks.specs.Steps.{StepsOver, BeginsBracket, FeedsLeaf};
     ghost use Rattle.cmark_blocks.specs.Gathered.{IsGathered, Gathers, Decides};
@@ -89,8 +108,6 @@ impl<'a, E: EntityLookup> Pass<'a, E> {
         definition: &Definition<'_>,
         span: Range<usize>,
     ) -> Result<(), AllocError>
-        requires { IsGood self.old }
-        ensures good { IsGood self.new }
         ensures runs { OnOk result
             (StepsOver E.replacement self.old self.new
             (λ text options lookup. definition_kept lookup (written definition.now) span.start
@@ -103,7 +120,8 @@ impl<'a, E: EntityLookup> Pass<'a, E> {
             return Ok(());
         }
         let (label, kept) = link_definition(self.alloc, definition, span, self.entities)?;
-        self.builder.allocations.refdefs.insert(label, kept)
+        let builder = &mut self.builder;
+        keep_first(&mut builder.allocations, label, kept)
     }
 
     /// Begins a definition with these bytes of the text and `more` lines to come.
@@ -113,9 +131,7 @@ impl<'a, E: EntityLookup> Pass<'a, E> {
         span: Range<usize>,
         more: usize,
     ) -> Result<(), AllocError>
-        requires good { IsGood self.old }
         requires closed { self.old.leaf ≡ leaf.Closed }
-        ensures good { IsGood self.new }
         ensures runs { OnOk result
             (StepsOver E.replacement self.old self.new
             (λ text options lookup. definition_begun lookup (written definition.now) span.start
@@ -134,14 +150,12 @@ impl<'a, E: EntityLookup> Pass<'a, E> {
         rest: LineRest<'a>,
         gathered: &Gathered<'a>,
     ) -> Result<(), AllocError>
-        requires good { IsGood self.old }
         requires line { IsRead self.old.text.now rest }
         requires closed { self.old.leaf ≡ leaf.Closed }
         requires bare { self.old.bare ≡ false }
         requires gathered { IsGathered self.old.text.now gathered.now }
         requires holds { Gathers E.replacement self.old rest gathered.now }
         requires decides { Decides E.replacement self.old gathered.now }
-        ensures good { IsGood self.new }
         ensures runs { OnOk result (BeginsBracket E.replacement rest.entry self.old self.new) }
         ensures text { self.new.text ≡ self.old.text }
     {
@@ -157,11 +171,9 @@ impl<'a, E: EntityLookup> Pass<'a, E> {
 
     /// Begins, on a line whose words begin with a bracket, a link reference definition, or else a table or a paragraph.
     pub(crate) fn begin_bracket(&mut self, rest: LineRest<'a>) -> Result<(), AllocError>
-        requires good { IsGood self.old }
         requires line { IsRead self.old.text.now rest }
         requires closed { self.old.leaf ≡ leaf.Closed }
         requires bare { self.old.bare ≡ false }
-        ensures good { IsGood self.new }
         ensures runs { OnOk result (BeginsBracket E.replacement rest.entry self.old self.new) }
         ensures text { self.new.text ≡ self.old.text }
     {
@@ -181,11 +193,9 @@ impl<'a, E: EntityLookup> Pass<'a, E> {
         left: usize,
         rest: LineRest<'a>,
     ) -> Result<(), AllocError>
-        requires good { IsGood self.old }
         requires line { IsRead self.old.text.now rest }
         requires is { self.old.leaf ≡ leaf.Definition left }
         requires bare { self.old.bare ≡ false }
-        ensures good { IsGood self.new }
         ensures runs { OnOk result (FeedsLeaf E.replacement rest.entry self.old self.new) }
         ensures text { self.new.text ≡ self.old.text }
     {

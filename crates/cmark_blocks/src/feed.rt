@@ -50,7 +50,6 @@ fn begins_another(container: Container, rest: LineRest<'_>, options: Options) ->
 
 impl<'a, E: EntityLookup> Pass<'a, E> {
     ghost use Rattle.cmark_blocks.specs.declared.state.OpenLeaf.TheVariants as leaf;
-    ghost use Rattle.cmark_blocks.specs.Runs.{IsGood};
     ghost use Rattle.cmark_leaf_nodes.specs.TextColumns.{IsRead};
     ghost use Rattle.cmark_blocks.specs.Steps.{FeedsLeaf, FeedsLazily};
     ghost use Rattle.cmark_blocks.specs.LineByLine.{IsLazy, MayBeLazy, FeedsRest, Feeds};
@@ -58,10 +57,8 @@ impl<'a, E: EntityLookup> Pass<'a, E> {
     /// Feeds a line that lacks no prefix, after the open leaf.
     #[inline(always)]
     fn feed_leaf(&mut self, rest: LineRest<'a>) -> Result<(), AllocError>
-        requires good { IsGood self.old }
         requires line { IsRead self.old.text.now rest }
         requires bare { self.old.bare ≡ false }
-        ensures good { IsGood self.new }
         ensures runs { OnOk result (FeedsLeaf E.replacement rest.entry self.old self.new) }
         ensures text { self.new.text ≡ self.old.text }
     {
@@ -76,10 +73,8 @@ impl<'a, E: EntityLookup> Pass<'a, E> {
     /// clears the locals of a function on entry, so that their room is cleared only for such leaves.
     #[inline(always)]
     fn feed_other_leaf(&mut self, rest: LineRest<'a>) -> Result<(), AllocError>
-        requires good { IsGood self.old }
         requires line { IsRead self.old.text.now rest }
         requires bare { self.old.bare ≡ false }
-        ensures good { IsGood self.new }
         ensures runs { OnOk result (FeedsLeaf E.replacement rest.entry self.old self.new) }
         ensures text { self.new.text ≡ self.old.text }
     {
@@ -89,10 +84,8 @@ impl<'a, E: EntityLookup> Pass<'a, E> {
     /// Feeds a line that lacks no prefix, by the kind of the open leaf.
     #[inline(never)]
     fn feed_any_leaf(&mut self, rest: LineRest<'a>) -> Result<(), AllocError>
-        requires good { IsGood self.old }
         requires line { IsRead self.old.text.now rest }
         requires bare { self.old.bare ≡ false }
-        ensures good { IsGood self.new }
         ensures runs { OnOk result (FeedsLeaf E.replacement rest.entry self.old self.new) }
         ensures text { self.new.text ≡ self.old.text }
     {
@@ -118,9 +111,7 @@ impl<'a, E: EntityLookup> Pass<'a, E> {
     /// Feeds a lazy line: it continues a paragraph, or begins one after a link reference definition (CommonMark 4.7 and 4.8) or an alert's
     /// tag (this profile's own).
     fn feed_lazily(&mut self, rest: LineRest<'a>) -> Result<(), AllocError>
-        requires good { IsGood self.old }
         requires line { IsRead self.old.text.now rest }
-        ensures good { IsGood self.new }
         ensures runs { OnOk result (FeedsLazily E.replacement rest.entry self.old self.new) }
         ensures text { self.new.text ≡ self.old.text }
     {
@@ -161,11 +152,9 @@ impl<'a, E: EntityLookup> Pass<'a, E> {
 
     /// Feeds the rest of a line that only the `kept` outermost containers keep.
     fn feed_rest(&mut self, kept: usize, rest: LineRest<'a>) -> Result<(), AllocError>
-        requires good { IsGood self.old }
         requires line { IsRead self.old.text.now rest }
         requires bare { self.old.bare ≡ false }
         requires few { kept ≤ length self.old.outer.items }
-        ensures good { IsGood self.new }
         ensures runs { OnOk result (FeedsRest E.replacement kept rest.entry self.old self.new) }
         ensures text { self.new.text ≡ self.old.text }
     {
@@ -187,13 +176,11 @@ impl<'a, E: EntityLookup> Pass<'a, E> {
     /// the other containers, or a lazy line. It is a separate function so that the room of its locals is cleared for such lines only.
     #[inline(never)]
     fn feed_piped_lazily(&mut self, kept: usize, rest: LineRest<'a>) -> Result<(), AllocError>
-        requires good { IsGood self.old }
         requires line { IsRead self.old.text.now rest }
         requires bare { self.old.bare ≡ false }
         requires few { kept < length self.old.outer.items }
         requires piped { may_head (shown_options self.old.options) (row_of rest) ≡ true }
         requires lazy { MayBeLazy E.replacement self.old kept rest true }
-        ensures good { IsGood self.new }
         ensures runs { OnOk result (FeedsRest E.replacement kept rest.entry self.old self.new) }
         ensures text { self.new.text ≡ self.old.text }
     {
@@ -207,9 +194,7 @@ impl<'a, E: EntityLookup> Pass<'a, E> {
 
     /// Feeds a whole line of the text.
     pub(crate) fn feed(&mut self, line: LineRest<'a>) -> Result<(), AllocError>
-        requires good { IsGood self.old }
         requires line { IsRead self.old.text.now line }
-        ensures good { IsGood self.new }
         ensures runs { OnOk result (Feeds E.replacement line.entry self.old self.new) }
         ensures text { self.new.text ≡ self.old.text }
         ensures line_end { OnOk result (self.new.line_end ≡ (row_of line.entry).line_end) }
@@ -227,9 +212,7 @@ impl<'a, E: EntityLookup> Pass<'a, E> {
     /// only there.
     #[inline(always)]
     fn feed_around(&mut self, line: LineRest<'a>) -> Result<(), AllocError>
-        requires good { IsGood self.old }
         requires line { IsRead self.old.text.now line }
-        ensures good { IsGood self.new }
         ensures runs { OnOk result (Feeds E.replacement line.entry self.old self.new) }
         ensures text { self.new.text ≡ self.old.text }
         ensures line_end { OnOk result (self.new.line_end ≡ (row_of line.entry).line_end) }
@@ -240,9 +223,7 @@ impl<'a, E: EntityLookup> Pass<'a, E> {
     /// Feeds a line inside of containers: determines which of them keep it, and feeds the rest.
     #[inline(never)]
     fn feed_inside(&mut self, line: LineRest<'a>) -> Result<(), AllocError>
-        requires good { IsGood self.old }
         requires line { IsRead self.old.text.now line }
-        ensures good { IsGood self.new }
         ensures runs { OnOk result (Feeds E.replacement line.entry self.old self.new) }
         ensures text { self.new.text ≡ self.old.text }
         ensures line_end { OnOk result (self.new.line_end ≡ (row_of line.entry).line_end) }

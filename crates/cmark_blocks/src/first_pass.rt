@@ -21,13 +21,10 @@ pub struct FirstPass<'a> {
 }
 
 impl<'a, E: EntityLookup> Pass<'a, E> {
-    ghost use Rattle.cmark_blocks.specs.Runs.{IsGood};
     ghost use Rattle.cmark_blocks.specs.LineByLine.{FeedsAll, ClosesEverything};
 
     /// Feeds all lines of the text from the next one on.
     pub(crate) fn feed_all(&mut self) -> Result<(), AllocError>
-        requires { IsGood self.old }
-        ensures good { IsGood self.new }
         ensures runs { OnOk result (FeedsAll E.replacement self.old self.new) }
         ensures text { self.new.text ≡ self.old.text }
     {
@@ -40,8 +37,6 @@ impl<'a, E: EntityLookup> Pass<'a, E> {
 
     /// Closes everything at the end of the text.
     pub(crate) fn close_everything(&mut self) -> Result<(), AllocError>
-        requires { IsGood self.old }
-        ensures good { IsGood self.new }
         ensures runs { OnOk result (ClosesEverything E.replacement self.old self.new) }
     {
         self.close_leaf()?;

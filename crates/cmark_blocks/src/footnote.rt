@@ -50,8 +50,7 @@ fn keep_label(
 }
 
 impl<'a, E: EntityLookup> Pass<'a, E> {
-    ghost use Rattle.cmark_blocks.specs.Runs.{IsGood};
-    ghost use Rattle.cmark_blocks.specs.Steps.{Steps};
+    ghost use Rattle.cmark_blocks.specs.Steps.{Keeps, Steps};
 
     /// Begins a footnote definition on a line.
     pub(crate) fn begin_footnote(
@@ -59,10 +58,8 @@ impl<'a, E: EntityLookup> Pass<'a, E> {
         footnote: FootnoteStart,
         rest: LineRest<'a>,
     ) -> Result<(), AllocError>
-        requires good { IsGood self.old }
         requires line { IsRead self.old.text.now rest }
         requires closed { IsClosed (words_of (row_of rest)) footnote.label_size }
-        ensures good { IsGood self.new }
         ensures runs { OnOk result
             (Steps E.replacement self.old self.new
             (container_begun (shown_footnote (row_of rest.entry) footnote.label_size footnote.old)
@@ -70,15 +67,14 @@ impl<'a, E: EntityLookup> Pass<'a, E> {
         ensures noted { OnOk result
             (Notes (marked (words_of (row_of rest.entry)) footnote.label_size).bytes
             self.old.builder.allocations.footnotes self.new.builder.allocations.footnotes) }
-        ensures text { self.new.text ≡ self.old.text }
-        ensures leaf { self.new.leaf ≡ self.old.leaf }
-        ensures bare { self.new.bare ≡ self.old.bare }
+        ensures keeps { Keeps self.old self.new }
     {
         let label = label_in(self.text, rest, footnote.label_size);
         self.begin_block();
-        let index = keep_label(self.alloc, &mut self.builder.allocations, label)?;
+        let builder = &mut self.builder;
+        let index = keep_label(self.alloc, &mut builder.allocations, label)?;
         let body = ItemBody::FootnoteDefinition(index);
-        self.builder.open(rest.words_begin(), body)?;
+        builder.open(rest.words_begin(), body)?;
         self.enter(Container::Footnote { old: footnote.old })
     }
 }

@@ -12,7 +12,6 @@ ghost use Rattle.cmark_items.specs.Tables.{defined};
 ghost use Rattle.cmark_leaf_nodes.specs.Contents.{AreRead, content_columns as setext_columns};
 ghost use Rattle.cmark_leaf_nodes.specs.TextColumns.{IsRead};
 ghost use Rattle.cmark_blocks.specs.Setext.{FindsIf};
-ghost use Rattle.cmark_tree.specs.Building.{IsPlaced};
 ghost use Rattle.cmark_grammar.specs.SetextAttributes.{setext_attributes};
 ghost use Rattle.cmark_line_rules.specs.declared.line_rest.LineRest.{LineRest};
 ghost use Rattle.cmark_grammar.specs.Columns.{bytes_of};
@@ -87,8 +86,6 @@ fn setext_body(
     level: HeadingLevel,
     found: Option<SetextAttributes>,
 ) -> Result<ItemBody, AllocError>
-    requires { IsPlaced builder.old.tree }
-    ensures placed { IsPlaced builder.new.tree }
     ensures kind { IfOk result
         (λ body. (attributes : Bool) (before : List LineRest) (last : LineRest)
         → FindsIf attributes before last found
@@ -112,7 +109,6 @@ fn setext_body(
 }
 
 impl<'a, E: EntityLookup> Pass<'a, E> {
-    ghost use Rattle.cmark_blocks.specs.Runs.{IsGood};
     ghost use Rattle.cmark_blocks.specs.Steps.{BeginsLeaf, MakesHeading};
     ghost use Rattle.cmark_blocks.specs.declared.state.OpenLeaf.TheVariants as leaf;
 
@@ -139,10 +135,8 @@ impl<'a, E: EntityLookup> Pass<'a, E> {
         level: HeadingLevel,
         rest: LineRest<'a>,
     ) -> Result<(), AllocError>
-        requires good { IsGood self.old }
         requires line { IsRead self.old.text.now rest }
         requires level { level_number level ≡ run number_sign (words_of (row_of rest)) }
-        ensures good { IsGood self.new }
         ensures runs { OnOk result
             (BeginsLeaf E.replacement (AtxHeading (level_number level)) 0 rest.entry self.old
             self.new) }
@@ -166,9 +160,7 @@ impl<'a, E: EntityLookup> Pass<'a, E> {
         level: HeadingLevel,
         rest: LineRest<'a>,
     ) -> Result<(), AllocError>
-        requires good { IsGood self.old }
         requires is { self.old.leaf ≡ leaf.Paragraph from last }
-        ensures good { IsGood self.new }
         ensures runs { OnOk result
             (MakesHeading E.replacement (level_number level) from last.entry rest.entry self.old
             self.new) }

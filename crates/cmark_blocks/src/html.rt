@@ -13,7 +13,6 @@ use std::alloc::AllocError;
 
 impl<'a, E: EntityLookup> Pass<'a, E> {
     ghost use Rattle.cmark_blocks.specs.declared.state.OpenLeaf.TheVariants as leaf;
-    ghost use Rattle.cmark_blocks.specs.Runs.{IsGood};
     ghost use Rattle.cmark_leaf_nodes.specs.TextColumns.{IsRead};
     ghost use Rattle.cmark_blocks.specs.Steps.{FeedsLeaf, BeginsLeaf};
 
@@ -23,9 +22,7 @@ impl<'a, E: EntityLookup> Pass<'a, E> {
         kind: HtmlKind,
         rest: LineRest<'a>,
     ) -> Result<(), AllocError>
-        requires good { IsGood self.old }
         requires closed { self.old.leaf ≡ leaf.Closed }
-        ensures good { IsGood self.new }
         ensures runs { OnOk result
             ((more : ℕ)
             → BeginsLeaf E.replacement (HtmlBlock (kind_number kind)) more rest.entry self.old
@@ -46,11 +43,9 @@ impl<'a, E: EntityLookup> Pass<'a, E> {
 
     /// Feeds a line after an open HTML block: the block continues or ends with it, or has ended before it.
     pub(crate) fn feed_html(&mut self, kind: HtmlKind, rest: LineRest<'a>) -> Result<(), AllocError>
-        requires good { IsGood self.old }
         requires is { self.old.leaf ≡ leaf.Html kind }
         requires line { IsRead self.old.text.now rest }
         requires bare { self.old.bare ≡ false }
-        ensures good { IsGood self.new }
         ensures runs { OnOk result (FeedsLeaf E.replacement rest.entry self.old self.new) }
         ensures text { self.new.text ≡ self.old.text }
     {

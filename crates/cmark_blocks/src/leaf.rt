@@ -9,14 +9,12 @@ use std::alloc::AllocError;
 
 impl<'a, E: EntityLookup> Pass<'a, E> {
     ghost use Rattle.cmark_blocks.specs.declared.state.OpenLeaf.TheVariants as leaf;
-    ghost use Rattle.cmark_blocks.specs.Runs.{IsGood, IsVerbatim};
+    ghost use Rattle.cmark_blocks.specs.Runs.{IsVerbatim};
     ghost use Rattle.cmark_blocks.specs.Steps.{ClosesLeaf};
 
     /// Closes fenced code, HTML, metadata or a table at the end of the last line.
     fn close_verbatim(&mut self, waits: Option<Stretch>) -> Result<(), AllocError>
-        requires good { IsGood self.old }
         requires is { IsVerbatim self.old.leaf waits }
-        ensures good { IsGood self.new }
         ensures runs { OnOk result (ClosesLeaf E.replacement self.old self.new) }
         ensures closed { OnOk result (self.new.leaf ≡ leaf.Closed) }
         ensures text { self.new.text ≡ self.old.text }
@@ -31,8 +29,6 @@ impl<'a, E: EntityLookup> Pass<'a, E> {
     /// Closes the open leaf, if any.
     #[inline(always)]
     pub(crate) fn close_leaf(&mut self) -> Result<(), AllocError>
-        requires { IsGood self.old }
-        ensures good { IsGood self.new }
         ensures runs { OnOk result (ClosesLeaf E.replacement self.old self.new) }
         ensures closed { OnOk result (self.new.leaf ≡ leaf.Closed) }
         ensures text { self.new.text ≡ self.old.text }

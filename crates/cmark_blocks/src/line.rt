@@ -13,15 +13,13 @@ use std::alloc::AllocError;
 
 impl<'a, E: EntityLookup> Pass<'a, E> {
     ghost use Rattle.cmark_blocks.specs.declared.state.OpenLeaf.TheVariants as leaf;
-    ghost use Rattle.cmark_blocks.specs.Runs.{CanBegin, IsGood};
+    ghost use Rattle.cmark_blocks.specs.Runs.{CanBegin};
     ghost use Rattle.cmark_leaf_nodes.specs.TextColumns.{IsRead};
     ghost use Rattle.cmark_blocks.specs.Steps.{Steps, Begins, BeginsAnew};
     ghost use Rattle.cmark_blocks.specs.Entered.{BeginsAs, BeginsFirst};
 
     /// Feeds a blank line, which begins nothing. `bare`: it is the rest of the line after an item's marker.
     pub(crate) fn pass_blank_line(&mut self, bare: bool)
-        requires { IsGood self.old }
-        ensures good { IsGood self.new }
         ensures runs { Steps E.replacement self.old self.new
             (λ p. record p
             { inner = record p.inner { has_line = true; blank = p.inner.has_line }; bare = bare }) }
@@ -39,14 +37,12 @@ impl<'a, E: EntityLookup> Pass<'a, E> {
         rest: LineRest<'a>,
         bare: bool,
     ) -> Result<(), AllocError>
-        requires good { IsGood self.old }
         requires line { IsRead self.old.text.now rest }
         requires closed { self.old.leaf ≡ leaf.Closed }
         requires bare { self.old.bare ≡ false }
         requires opens { OpensAs (shown_options self.old.options) opening (row_of rest) }
         requires leaf { IsNoContainer opening }
         requires info_placed { InfoIsIn self.old.text.now opening (row_of rest) }
-        ensures good { IsGood self.new }
         ensures runs { OnOk result
             (BeginsAs E.replacement opening.entry bare rest.entry self.old self.new) }
         ensures text { self.new.text ≡ self.old.text }
@@ -75,11 +71,9 @@ impl<'a, E: EntityLookup> Pass<'a, E> {
         rest: LineRest<'a>,
         bare: bool,
     ) -> Result<Option<(LineRest<'a>, bool)>, AllocError>
-        requires good { IsGood self.old }
         requires line { IsRead self.old.text.now rest }
         requires closed { self.old.leaf ≡ leaf.Closed }
         requires bare { self.old.bare ≡ false }
-        ensures good { IsGood self.new }
         ensures runs { IfOk result
             (λ entered. BeginsFirst E.replacement bare rest.entry entered self.old self.new) }
         ensures line { IfOk result
@@ -110,11 +104,9 @@ impl<'a, E: EntityLookup> Pass<'a, E> {
     /// Begins all blocks of a line, with no leaf open.
     #[inline(always)]
     pub(crate) fn begin(&mut self, line: LineRest<'a>) -> Result<(), AllocError>
-        requires good { IsGood self.old }
         requires line { IsRead self.old.text.now line }
         requires closed { self.old.leaf ≡ leaf.Closed }
         requires bare { self.old.bare ≡ false }
-        ensures good { IsGood self.new }
         ensures runs { OnOk result (Begins E.replacement line.entry self.old self.new) }
         ensures text { self.new.text ≡ self.old.text }
     {
@@ -134,11 +126,9 @@ impl<'a, E: EntityLookup> Pass<'a, E> {
     /// Begins all blocks of a line, with no leaf open: each container, and the block after the last one's marker.
     #[inline(never)]
     fn begin_blocks(&mut self, line: LineRest<'a>) -> Result<(), AllocError>
-        requires good { IsGood self.old }
         requires line { IsRead self.old.text.now line }
         requires closed { self.old.leaf ≡ leaf.Closed }
         requires bare { self.old.bare ≡ false }
-        ensures good { IsGood self.new }
         ensures runs { OnOk result (Begins E.replacement line.entry self.old self.new) }
         ensures text { self.new.text ≡ self.old.text }
     {
@@ -153,10 +143,8 @@ impl<'a, E: EntityLookup> Pass<'a, E> {
 
     /// Closes the open leaf, and begins all blocks of the line after it.
     pub(crate) fn begin_anew(&mut self, rest: LineRest<'a>) -> Result<(), AllocError>
-        requires good { IsGood self.old }
         requires line { IsRead self.old.text.now rest }
         requires bare { self.old.bare ≡ false }
-        ensures good { IsGood self.new }
         ensures runs { OnOk result (BeginsAnew E.replacement rest.entry self.old self.new) }
         ensures text { self.new.text ≡ self.old.text }
     {

@@ -43,13 +43,10 @@ impl OpenList {
 }
 
 impl<'a, E: EntityLookup> Pass<'a, E> {
-    ghost use Rattle.cmark_blocks.specs.Runs.{IsGood};
-    ghost use Rattle.cmark_blocks.specs.Steps.{LeavesTheRest, Steps};
+    ghost use Rattle.cmark_blocks.specs.Steps.{Keeps, LeavesTheRest, Steps};
 
     /// Moves a paragraph that was drawn in a definition list, and is not a title, after that list, which is closed.
     pub(crate) fn release_title(&mut self)
-        requires { IsGood self.old }
-        ensures good { IsGood self.new }
         ensures runs { Steps E.replacement self.old self.new
             (λ p. record p { drawing = title_released p.inner.title p.drawing }) }
         ensures inner { self.new.inner ≡ self.old.inner }
@@ -63,8 +60,6 @@ impl<'a, E: EntityLookup> Pass<'a, E> {
 
     /// Closes the open list, if any. A paragraph after the last definition of a definition list is not a title.
     pub(crate) fn close_list(&mut self)
-        requires { IsGood self.old }
-        ensures good { IsGood self.new }
         ensures runs { Steps E.replacement self.old self.new
             (λ p. record p { drawing = ended p.inner p.drawing }) }
         ensures outer { self.new.outer ≡ self.old.outer }
@@ -79,8 +74,6 @@ impl<'a, E: EntityLookup> Pass<'a, E> {
     /// Begins a block that is not an item.
     #[inline(always)]
     pub(crate) fn begin_block(&mut self)
-        requires { IsGood self.old }
-        ensures good { IsGood self.new }
         ensures runs { Steps E.replacement self.old self.new block_begun }
         ensures others { LeavesTheRest self.old self.new }
     {
@@ -94,8 +87,6 @@ impl<'a, E: EntityLookup> Pass<'a, E> {
     /// Closes the open list, if any, and begins a block that is not an item.
     #[inline(never)]
     fn begin_block_after_list(&mut self)
-        requires { IsGood self.old }
-        ensures good { IsGood self.new }
         ensures runs { Steps E.replacement self.old self.new block_begun }
         ensures others { LeavesTheRest self.old self.new }
     {
@@ -106,8 +97,6 @@ impl<'a, E: EntityLookup> Pass<'a, E> {
     /// Begins a paragraph, which may be a title of the open definition list.
     #[inline(always)]
     pub(crate) fn begin_text_block(&mut self)
-        requires { IsGood self.old }
-        ensures good { IsGood self.new }
         ensures runs { Steps E.replacement self.old self.new text_block_begun }
         ensures others { LeavesTheRest self.old self.new }
     {
@@ -121,8 +110,6 @@ impl<'a, E: EntityLookup> Pass<'a, E> {
     /// Begins a paragraph, which may be a title: an open definition list stays open, and any other list is closed.
     #[inline(never)]
     fn begin_text_after_list(&mut self)
-        requires { IsGood self.old }
-        ensures good { IsGood self.new }
         ensures runs { Steps E.replacement self.old self.new text_block_begun }
         ensures others { LeavesTheRest self.old self.new }
     {
@@ -136,14 +123,10 @@ impl<'a, E: EntityLookup> Pass<'a, E> {
 
     /// Begins a list at this byte offset with this item.
     fn begin_list(&mut self, item: ItemStart, start: usize) -> Result<(), AllocError>
-        requires good { IsGood self.old }
         requires number { list_number item.delimiter (unwrap_or item.number 0) ≡ item.number }
-        ensures good { IsGood self.new }
         ensures runs { OnOk result
             (Steps E.replacement self.old self.new (list_begun item.delimiter item.number start)) }
-        ensures text { self.new.text ≡ self.old.text }
-        ensures leaf { self.new.leaf ≡ self.old.leaf }
-        ensures bare { self.new.bare ≡ self.old.bare }
+        ensures keeps { Keeps self.old self.new }
     {
         self.begin_block();
         let number = item.number.unwrap_or(0);
@@ -167,15 +150,11 @@ impl<'a, E: EntityLookup> Pass<'a, E> {
 
     /// Continues the open list with this item, if it is of the list's kind; else begins a list at this byte offset.
     pub(crate) fn join_list(&mut self, item: ItemStart, start: usize) -> Result<(), AllocError>
-        requires good { IsGood self.old }
         requires number { list_number item.delimiter (unwrap_or item.number 0) ≡ item.number }
-        ensures good { IsGood self.new }
         ensures runs { OnOk result
             (Steps E.replacement self.old self.new
             (λ p. item_begun item.delimiter item.number start p p.inner.list)) }
-        ensures text { self.new.text ≡ self.old.text }
-        ensures leaf { self.new.leaf ≡ self.old.leaf }
-        ensures bare { self.new.bare ≡ self.old.bare }
+        ensures keeps { Keeps self.old self.new }
     {
         match self.inner.list_of(item.delimiter) {
             Some(list) => {
@@ -189,14 +168,10 @@ impl<'a, E: EntityLookup> Pass<'a, E> {
     /// Makes the paragraph before a definition, which begins at this byte offset, its title, in the definition list that was open before
     /// it, or in a new one around it.
     fn make_title(&mut self, title: Title, start: usize) -> Result<(), AllocError>
-        requires { IsGood self.old }
-        ensures good { IsGood self.new }
         ensures runs { OnOk result
             (Steps E.replacement self.old self.new
             (title_made (option_map shown_list title.list) title.parted start)) }
-        ensures text { self.new.text ≡ self.old.text }
-        ensures leaf { self.new.leaf ≡ self.old.leaf }
-        ensures bare { self.new.bare ≡ self.old.bare }
+        ensures keeps { Keeps self.old self.new }
     {
         if title.list.is_some() {
             self.builder.title_last();
@@ -211,13 +186,9 @@ impl<'a, E: EntityLookup> Pass<'a, E> {
 
     /// Begins a definition at this byte offset, after its title or another definition.
     pub(crate) fn join_definitions(&mut self, width: usize, start: usize) -> Result<(), AllocError>
-        requires { IsGood self.old }
-        ensures good { IsGood self.new }
         ensures runs { OnOk result
             (Steps E.replacement self.old self.new (λ p. definition_after p.inner.title start p)) }
-        ensures text { self.new.text ≡ self.old.text }
-        ensures leaf { self.new.leaf ≡ self.old.leaf }
-        ensures bare { self.new.bare ≡ self.old.bare }
+        ensures keeps { Keeps self.old self.new }
     {
         match self.inner.title() {
             Some(title) => { self.make_title(title, start) }

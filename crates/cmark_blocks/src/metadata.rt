@@ -15,7 +15,6 @@ use std::alloc::AllocError;
 impl<'a, E: EntityLookup> Pass<'a, E> {
     ghost use Rattle.cmark_blocks.specs.declared.state.OpenLeaf.TheVariants as leaf;
     ghost use Rattle.cmark_blocks.specs.Entered.{HoldsMetadata, TellsMetadata};
-    ghost use Rattle.cmark_blocks.specs.Runs.{IsGood};
     ghost use Rattle.cmark_blocks.specs.Steps.{BeginsLeaf, FeedsLeaf};
 
     /// Whether the lines after this line form a metadata block of this kind: a later line ends it, and the first one is not blank and does
@@ -64,9 +63,7 @@ impl<'a, E: EntityLookup> Pass<'a, E> {
         kind: MetadataBlockKind,
         rest: LineRest<'a>,
     ) -> Result<(), AllocError>
-        requires good { IsGood self.old }
         requires closed { self.old.leaf ≡ leaf.Closed }
-        ensures good { IsGood self.new }
         ensures runs { OnOk result
             ((more : ℕ)
             → BeginsLeaf E.replacement (MetadataBlock (shown_metadata_block_kind kind)) more
@@ -87,9 +84,7 @@ impl<'a, E: EntityLookup> Pass<'a, E> {
         waits: Option<Stretch>,
         rest: LineRest<'a>,
     ) -> Result<(), AllocError>
-        requires good { IsGood self.old }
         requires is { self.old.leaf ≡ leaf.Metadata kind waits }
-        ensures good { IsGood self.new }
         ensures runs { OnOk result (FeedsLeaf E.replacement rest.entry self.old self.new) }
         ensures text { self.new.text ≡ self.old.text }
     {

@@ -38,16 +38,13 @@ fn keep_line<'a>(
 
 impl<'a, E: EntityLookup> Pass<'a, E> {
     ghost use Rattle.cmark_blocks.specs.declared.state.OpenLeaf.TheVariants as leaf;
-    ghost use Rattle.cmark_blocks.specs.Runs.{IsGood};
     ghost use Rattle.cmark_blocks.specs.Steps.{IsAfterParagraph, AddsLine, BeginsParagraph, FeedsLeaf, ClosesLeaf};
 
     /// Begins a paragraph on a line, with no leaf open.
     #[inline(always)]
     pub(crate) fn begin_paragraph(&mut self, rest: LineRest<'a>) -> Result<(), AllocError>
-        requires good { IsGood self.old }
         requires line { IsRead self.old.text.now rest }
         requires closed { self.old.leaf ≡ leaf.Closed }
-        ensures good { IsGood self.new }
         ensures runs { OnOk result (BeginsParagraph E.replacement rest.entry self.old self.new) }
         ensures text { self.new.text ≡ self.old.text }
         ensures bare { self.new.bare ≡ self.old.bare }
@@ -67,10 +64,8 @@ impl<'a, E: EntityLookup> Pass<'a, E> {
         last: LineRest<'a>,
         rest: LineRest<'a>,
     ) -> Result<(), AllocError>
-        requires good { IsGood self.old }
         requires line { IsRead self.old.text.now rest }
         requires is { self.old.leaf ≡ leaf.Paragraph from last }
-        ensures good { IsGood self.new }
         ensures runs { OnOk result
             (AddsLine E.replacement from last.entry rest.entry self.old self.new) }
         ensures text { self.new.text ≡ self.old.text }
@@ -96,9 +91,7 @@ impl<'a, E: EntityLookup> Pass<'a, E> {
         last: LineRest<'a>,
         rest: LineRest<'a>,
     ) -> Result<(), AllocError>
-        requires good { IsGood self.old }
         requires following { IsAfterParagraph self.old from last rest }
-        ensures good { IsGood self.new }
         ensures runs { OnOk result (FeedsLeaf E.replacement rest.entry self.old self.new) }
         ensures text { self.new.text ≡ self.old.text }
     {
@@ -122,9 +115,7 @@ impl<'a, E: EntityLookup> Pass<'a, E> {
         last: LineRest<'a>,
         rest: LineRest<'a>,
     ) -> Result<(), AllocError>
-        requires good { IsGood self.old }
         requires following { IsAfterParagraph self.old from last rest }
-        ensures good { IsGood self.new }
         ensures runs { OnOk result (FeedsLeaf E.replacement rest.entry self.old self.new) }
         ensures text { self.new.text ≡ self.old.text }
     {
@@ -149,10 +140,8 @@ impl<'a, E: EntityLookup> Pass<'a, E> {
         last: LineRest<'a>,
         rest: LineRest<'a>,
     ) -> Result<(), AllocError>
-        requires good { IsGood self.old }
         requires following { IsAfterParagraph self.old from last rest }
         requires piped { may_head (shown_options self.old.options) (row_of rest) ≡ true }
-        ensures good { IsGood self.new }
         ensures runs { OnOk result (FeedsLeaf E.replacement rest.entry self.old self.new) }
         ensures text { self.new.text ≡ self.old.text }
     {
@@ -170,9 +159,7 @@ impl<'a, E: EntityLookup> Pass<'a, E> {
         from: usize,
         last: LineRest<'a>,
     ) -> Result<(), AllocError>
-        requires good { IsGood self.old }
         requires is { self.old.leaf ≡ leaf.Paragraph from last }
-        ensures good { IsGood self.new }
         ensures runs { OnOk result (ClosesLeaf E.replacement self.old self.new) }
         ensures closed { OnOk result (self.new.leaf ≡ leaf.Closed) }
         ensures text { self.new.text ≡ self.old.text }

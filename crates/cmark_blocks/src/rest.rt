@@ -16,7 +16,7 @@ use std::alloc::{AllocError, Global};
 
 impl<'a, E: EntityLookup> Pass<'a, E> {
     ghost use Rattle.cmark_block_model.specs.Tails.{starting_at};
-    ghost use Rattle.cmark_blocks.specs.Runs.{Runs, IsGood};
+    ghost use Rattle.cmark_blocks.specs.Runs.{Runs};
 
     /// The state before the line that begins at the byte offset `from`, after the definitions and footnotes of earlier lines.
     pub(crate) fn starting_at(
@@ -29,7 +29,6 @@ impl<'a, E: EntityLookup> Pass<'a, E> {
         entities: &'a E,
     ) -> Result<Pass<'a, E>, AllocError>
         requires begins { IsCharBoundary text.now from }
-        ensures good { IfOk result IsGood }
         ensures runs { IfOk result
             (λ pass. (earlier : List Reference) (labels : List (List ℕ))
             → HasDefinitions earlier definitions.entry → HasLabels labels footnotes

@@ -1,7 +1,11 @@
 //! The state of the block pass.
 
 ghost use Rattle.std.specs.Prelude.{IfOk};
+ghost use Rattle.std.specs.Str.{IsCharBoundary};
+ghost use Rattle.cmark_leaf_nodes.specs.Contents.{AreRead};
+ghost use Rattle.cmark_leaf_nodes.specs.ReadFacts.{AreRead-prop};
 ghost use Rattle.cmark_values.specs.Shown.{shown_options};
+ghost use Rattle.cmark_blocks.specs.LastLines.{IsLastRead, IsLastRead-prop};
 
 use crate::siblings::Siblings;
 use cmark_builder::Builder;
@@ -70,11 +74,14 @@ pub(crate) struct Pass<'a, E> {
     pub line_end: usize,
     /// A string that is reused for the text of a paragraph; its content is irrelevant.
     pub room: String,
+    ghost begins: { IsCharBoundary text.now line_end },
+    ghost lines: { AreRead text.now blank_lines.items } by { AreRead-prop text.now blank_lines.items },
+    ghost last: { IsLastRead text.now leaf } by { IsLastRead-prop text.now leaf },
 }
 
 impl<'a, E: EntityLookup> Pass<'a, E> {
     ghost use Rattle.cmark_block_model.specs.OpenBlocks.{at_start};
-    ghost use Rattle.cmark_blocks.specs.Runs.{Runs, IsGood};
+    ghost use Rattle.cmark_blocks.specs.Runs.{Runs};
     ghost use Rattle.cmark_values.specs.Shown.{shown_options};
 
     /// The state before the first line of this text, with these options.
@@ -85,7 +92,6 @@ impl<'a, E: EntityLookup> Pass<'a, E> {
         options: Options,
         entities: &'a E,
     ) -> Result<Pass<'a, E>, AllocError>
-        ensures good { IfOk result IsGood }
         ensures runs { IfOk result
             (Runs E.replacement text.entry.now (shown_options options)
             (E.replacement entities.entry.now) at_start) }

@@ -87,7 +87,6 @@ pub(crate) struct TableHead<'a> {
 
 impl<'a, E: EntityLookup> Pass<'a, E> {
     ghost use Rattle.cmark_blocks.specs.declared.state.OpenLeaf.TheVariants as leaf;
-    ghost use Rattle.cmark_blocks.specs.Runs.{IsGood};
     ghost use Rattle.cmark_leaf_nodes.specs.TextColumns.{IsRead};
     ghost use Rattle.cmark_blocks.specs.Steps.{BeginsText, FeedsLeaf};
     ghost use Rattle.cmark_blocks.specs.TablesAhead.{TellsHead, TellsInterrupts, TellsBlock, BeginsTable};
@@ -144,11 +143,9 @@ impl<'a, E: EntityLookup> Pass<'a, E> {
         head: TableHead<'a>,
         rest: LineRest<'a>,
     ) -> Result<(), AllocError>
-        requires good { IsGood self.old }
         requires delimiter { IsRead self.old.text.now head.delimiter }
         requires closed { self.old.leaf ≡ leaf.Closed }
         requires bare { self.old.bare ≡ false }
-        ensures good { IsGood self.new }
         ensures runs { OnOk result
             (BeginsTable E.replacement head.entry rest.entry self.old self.new) }
         ensures text { self.new.text ≡ self.old.text }
@@ -170,11 +167,9 @@ impl<'a, E: EntityLookup> Pass<'a, E> {
     /// Begins a table on a line, or else a paragraph, with no leaf open.
     #[inline(always)]
     pub(crate) fn begin_text(&mut self, rest: LineRest<'a>) -> Result<(), AllocError>
-        requires good { IsGood self.old }
         requires line { IsRead self.old.text.now rest }
         requires closed { self.old.leaf ≡ leaf.Closed }
         requires bare { self.old.bare ≡ false }
-        ensures good { IsGood self.new }
         ensures runs { OnOk result (BeginsText E.replacement rest.entry self.old self.new) }
         ensures text { self.new.text ≡ self.old.text }
     {
@@ -187,11 +182,9 @@ impl<'a, E: EntityLookup> Pass<'a, E> {
     /// Begins a table on a line, or else a paragraph; tables may be read or not.
     #[inline(never)]
     fn begin_table_or_text(&mut self, rest: LineRest<'a>) -> Result<(), AllocError>
-        requires good { IsGood self.old }
         requires line { IsRead self.old.text.now rest }
         requires closed { self.old.leaf ≡ leaf.Closed }
         requires bare { self.old.bare ≡ false }
-        ensures good { IsGood self.new }
         ensures runs { OnOk result (BeginsText E.replacement rest.entry self.old self.new) }
         ensures text { self.new.text ≡ self.old.text }
     {
@@ -209,11 +202,9 @@ impl<'a, E: EntityLookup> Pass<'a, E> {
         has_delimiter: bool,
         rest: LineRest<'a>,
     ) -> Result<(), AllocError>
-        requires good { IsGood self.old }
         requires line { IsRead self.old.text.now rest }
         requires is { self.old.leaf ≡ leaf.Table columns left has_delimiter }
         requires bare { self.old.bare ≡ false }
-        ensures good { IsGood self.new }
         ensures runs { OnOk result (FeedsLeaf E.replacement rest.entry self.old self.new) }
         ensures text { self.new.text ≡ self.old.text }
     {

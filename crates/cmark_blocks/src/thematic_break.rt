@@ -10,13 +10,10 @@ use cmark_values::EntityLookup;
 use std::alloc::AllocError;
 
 impl<'a, E: EntityLookup> Pass<'a, E> {
-    ghost use Rattle.cmark_blocks.specs.Runs.{IsGood};
     ghost use Rattle.cmark_blocks.specs.Steps.{BeginsLeaf};
 
     /// Adds a thematic break, which is a line of its own (CommonMark 4.1).
     pub(crate) fn begin_thematic_break(&mut self, rest: LineRest<'a>) -> Result<(), AllocError>
-        requires { IsGood self.old }
-        ensures good { IsGood self.new }
         ensures runs { OnOk result
             (BeginsLeaf E.replacement ThematicBreak 0 rest.entry self.old self.new) }
         ensures text { self.new.text ≡ self.old.text }

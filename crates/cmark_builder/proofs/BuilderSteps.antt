@@ -1,41 +1,52 @@
 -- A tree whose end grows, after its calls.
 use Rattle.std.proofs.Common.{◌≡◌, ◌⊎◌, inl, inr, List, [], ◌∷◌, Option, Some, None, Result, Ok, Err, OnErr, refl, sym, ap, ◌∙◌, subst, arith}
+use Rattle.std.proofs.Math.Logic.{∥∥₁_prop, ∥∥₁_elim, ∥∥₁_map}
 use Rattle.std.specs.Result.{OnOk}
 use Rattle.cmark_tree.specs.declared.tree.Tree.{Tree}
 use Rattle.cmark_tree.specs.declared.tree_index.TreeIndex.{TreeIndex}
 use Rattle.cmark_tree.specs.Forest.{Forest, Nil, Node, join, one}
-use Rattle.cmark_tree.specs.Zip.{Level, Zip, plug, siblings, IsLast}
+use Rattle.cmark_tree.specs.Zip.{Level, Zip, nothing, plug, siblings, IsLast}
 use Rattle.cmark_tree.specs.Tree.{Holds, HasNode, parent_of, focus_of}
-use Rattle.cmark_tree.specs.Building.{Opened, opened, Is, IsPlaced}
+use Rattle.cmark_tree.specs.Building.{Opened, opened, Is, IsPlaced, closed}
 use Rattle.cmark_tree.specs.Arena.{Entry, first, Stands, items_of, Placed}
 use Rattle.cmark_tree.specs.Tree.{entry_at}
+use Rattle.cmark_tree.proofs.Entries.{HasNumber-prop}
 use Rattle.cmark_tree.proofs.StandsLemmas.{Stands-inner, Stands-right}
 use Rattle.cmark_tree.proofs.Steps.{parent_number, in_right, first_number, place_above}
 use Rattle.cmark_tree.proofs.Building.{items_of-join}
 use Rattle.cmark_tree.proofs.Moving.{last_at, none_at}
+use Rattle.cmark_tree.proofs.Items.{Is-item_parent}
+use Rattle.cmark_tree.specs.Lending.{with_item_at}
 use Rattle.std.proofs.lemmas.Option.{same_Some}
 
 module _ {T : Type 0} where
   pub at-place : (t : Tree T) (here : Forest T) (up : List (Opened T)) → Is t here up → IsPlaced t
-  at-place t here up is = (here, up, is)
+  at-place t here up is = ∣ (here, up, is) ∣₁
+
+  pub empty-placed : (t : Tree T) → Holds t nothing → IsPlaced t
+  empty-placed t holds = at-place t Nil [] (record { z = nothing; holds = holds; last = refl; at_end = tt; here_is = refl; up_is = refl })
 
   pub placed-either : (t : Tree T) (a b : Forest T) (up : List (Opened T)) → Is t a up ⊎ Is t b up → IsPlaced t
-  placed-either t a b up e = elim e [ inl is ↦ (a, up, is) | inr is ↦ (b, up, is) ]
+  placed-either t a b up e = elim e [ inl is ↦ ∣ (a, up, is) ∣₁ | inr is ↦ ∣ (b, up, is) ∣₁ ]
+
+  -- what is known of one way to see an old tree places a new one
+  pub placed-by : {A : Type 0} → (new : Tree T) → ∥ A ∥₁ → (A → IsPlaced new) → IsPlaced new
+  placed-by new some step = ∥∥₁_elim some ∥∥₁_prop step
 
   -- the number that `peek_up` returns is a node's
   pub parent-node : (t : Tree T) (i : TreeIndex) → IsPlaced t → (o : Option TreeIndex) → ((z : Zip T) → Holds t z → o ≡ parent_of z.up) → o ≡ Some i → HasNode t i.ix
-  parent-node t i placed o read some = let is = placed.2 in parent_number t.nodes is.z.up _ i is.holds.forest.stands (sym (read is.z is.holds) ∙ some)
+  parent-node t i placed o read some = ∥∥₁_elim placed (HasNumber-prop _ _) (λ p. let is = p.2 in parent_number t.nodes is.z.up _ i is.holds.forest.stands (sym (read is.z is.holds) ∙ some))
 
   opened-some : (levels : List (Level T)) (i : TreeIndex) → parent_of levels ≡ Some i → (v : Opened T) × (up : List (Opened T)) × (opened levels ≡ v ∷ up)
   opened-some [] i e = absurd (let q : None ≡ Some i = e in cc)
   opened-some (l ∷ levels) i e = (_, _, refl)
 
   -- if `peek_up` returns a number, a node is open
-  pub parent-open : (t : Tree T) (i : TreeIndex) → IsPlaced t → (o : Option TreeIndex) → ((z : Zip T) → Holds t z → o ≡ parent_of z.up) → o ≡ Some i → (here : Forest T) × (v : Opened T) × (up : List (Opened T)) × Is t here (v ∷ up)
-  parent-open t i placed o read some =
-      let is = placed.2 in
+  pub parent-open : (t : Tree T) (i : TreeIndex) → IsPlaced t → (o : Option TreeIndex) → ((z : Zip T) → Holds t z → o ≡ parent_of z.up) → o ≡ Some i → ∥ ((here : Forest T) × (v : Opened T) × (up : List (Opened T)) × Is t here (v ∷ up)) ∥₁
+  parent-open t i placed o read some = ∥∥₁_map placed (λ p.
+      let is = p.2 in
       let split = opened-some is.z.up i (sym (read is.z is.holds) ∙ some) in
-      (placed.0, split.0, split.1, subst (Is t placed.0) (sym is.up_is ∙ split.2) is)
+      (p.0, split.0, split.1, subst (Is t p.0) (sym is.up_is ∙ split.2) is))
 
   -- the node of that number is the innermost open node
   pub parent-read : (t : Tree T) (i : TreeIndex) (here : Forest T) (v : Opened T) (up : List (Opened T)) → ((z : Zip T) → Holds t z → Some i ≡ parent_of z.up) → Is t here (v ∷ up) → (e : Entry T) × (entry_at t i.ix ≡ Some e) × (e.item ≡ v.item)
@@ -51,9 +62,24 @@ module _ {T : Type 0} where
             ap (λ w. w.item) top,
           )
 
+  -- the innermost open node gets another item, and is closed
+  module _ (t new : Tree T) (i : TreeIndex) (x : T) (change : T → T)
+      (value : (e : Entry T) → entry_at t i.ix ≡ Some e → x ≡ e.item)
+      (close : (here : Forest T) (v : Opened T) (up : List (Opened T)) → Is (with_item_at t i.ix (change x)) here (v ∷ up) → Is new (closed v here) up) where
+    pub closes-with : ((z : Zip T) → Holds t z → Some i ≡ parent_of z.up) → (here : Forest T) (v : Opened T) (up : List (Opened T)) → Is t here (v ∷ up) → Is new (closed (record v { item = change v.item }) here) up
+    closes-with parent here v up is =
+        let read = parent-read t i here v up parent is in
+        let same : x ≡ v.item = value read.0 read.1 ∙ read.2 in
+        subst (λ k. Is new (closed (record v { item = change k }) here) up) same (close here (record v { item = change x }) up (Is-item_parent t here v up i (change x) parent is))
+
+    pub closes-placed : IsPlaced t → (o : Option TreeIndex) → ((z : Zip T) → Holds t z → o ≡ parent_of z.up) → o ≡ Some i → IsPlaced new
+    closes-placed placed o read some = placed-by new (parent-open t i placed o read some) (λ p.
+        at-place new _ _ (closes-with (λ z h. sym some ∙ read z h) p.0 p.1 p.2 p.3))
+
   -- the number that `cur` returns is a node's
   pub focus-node : (t : Tree T) (i : TreeIndex) → IsPlaced t → (o : Option TreeIndex) → ((z : Zip T) → Holds t z → o ≡ focus_of z.right) → o ≡ Some i → HasNode t i.ix
-  focus-node t i placed o read some = let is = placed.2 in go is.z.right (in_right t.nodes t.first is.z is.holds.forest) (sym (read is.z is.holds) ∙ some)
+  focus-node t i placed o read some = ∥∥₁_elim placed (HasNumber-prop _ _) (λ p.
+      let is = p.2 in go is.z.right (in_right t.nodes t.first is.z is.holds.forest) (sym (read is.z is.holds) ∙ some))
     where
       go : (f : Forest (Placed T)) → Stands (entry_at t) f → focus_of f ≡ Some i → HasNode t i.ix
       go Nil st e = absurd (let q : None ≡ Some i = e in cc)
@@ -61,13 +87,14 @@ module _ {T : Type 0} where
           subst (HasNode t) (ap (λ k. k.ix) (same_Some (record { ix = p.ix }) i e)) (first_number t.nodes (Node p inside after) st (place_above t.nodes p inside after st))
 
   -- if `cur` returns a number, there is a last sibling
-  pub focus-open : (t : Tree T) (i : TreeIndex) → IsPlaced t → (o : Option TreeIndex) → ((z : Zip T) → Holds t z → o ≡ focus_of z.right) → o ≡ Some i → (here : Forest T) × (x : T) × (inside : Forest T) × (up : List (Opened T)) × Is t (join here (one x inside)) up
-  focus-open t i placed o read some = let is = placed.2 in go is is.z.left is.z.right is.last is.here_is (sym (read is.z is.holds) ∙ some)
+  pub focus-open : (t : Tree T) (i : TreeIndex) → IsPlaced t → (o : Option TreeIndex) → ((z : Zip T) → Holds t z → o ≡ focus_of z.right) → o ≡ Some i → ∥ ((here : Forest T) × (x : T) × (inside : Forest T) × (up : List (Opened T)) × Is t (join here (one x inside)) up) ∥₁
+  focus-open t i placed o read some = ∥∥₁_map placed (λ p.
+      let is = p.2 in go p.0 p.1 is is.z.left is.z.right is.last is.here_is (sym (read is.z is.holds) ∙ some))
     where
-      go : (is : Is t placed.0 placed.1) (left right : Forest (Placed T)) → IsLast left right → items_of (join left right) ≡ placed.0 → focus_of right ≡ Some i → (here : Forest T) × (x : T) × (inside : Forest T) × (up : List (Opened T)) × Is t (join here (one x inside)) up
-      go is left Nil last e f = absurd (let q : None ≡ Some i = f in cc)
-      go is left (Node p inside (Node q b c)) last e f = absurd (let k : Node q b c ≡ Nil = last in cc)
-      go is left (Node p inside Nil) last e f = (items_of left, p.item, items_of inside, placed.1, subst (λ h. Is t h placed.1) (sym e ∙ items_of-join left (Node p inside Nil)) is)
+      go : (now : Forest T) (up : List (Opened T)) → Is t now up → (left right : Forest (Placed T)) → IsLast left right → items_of (join left right) ≡ now → focus_of right ≡ Some i → (here : Forest T) × (x : T) × (inside : Forest T) × (up : List (Opened T)) × Is t (join here (one x inside)) up
+      go now up is left Nil last e f = absurd (let q : None ≡ Some i = f in cc)
+      go now up is left (Node p inside (Node q b c)) last e f = absurd (let k : Node q b c ≡ Nil = last in cc)
+      go now up is left (Node p inside Nil) last e f = (items_of left, p.item, items_of inside, up, subst (λ h. Is t h up) (sym e ∙ items_of-join left (Node p inside Nil)) is)
 
   -- and that number reads it
   pub focus-read : (t : Tree T) (i : TreeIndex) (here : Forest T) (x : T) (inside : Forest T) (up : List (Opened T)) → ((z : Zip T) → Holds t z → Some i ≡ focus_of z.right) → Is t (join here (one x inside)) up → (e : Entry T) × (entry_at t i.ix ≡ Some e) × (e.item ≡ x)

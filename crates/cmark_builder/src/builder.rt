@@ -21,6 +21,7 @@ pub struct Builder<'a> {
     tree: Tree<Item>,
     /// The tables that the items point into, and the definitions of links.
     pub allocations: Allocations<'a>,
+    ghost placed: { IsPlaced tree },
 }
 
 /// The body of this paragraph as the title of a definition. A text that is part of the node stays there.
@@ -72,8 +73,6 @@ impl<'a> Builder<'a> {
     /// extended.
     #[inline(always)]
     pub fn open(&mut self, start: usize, body: ItemBody) -> Result<(), AllocError>
-        requires { IsPlaced self.old.tree }
-        ensures placed { IsPlaced self.new.tree }
         ensures ok { OnOk result
             ((here : Forest Item) (up : List (Opened Item)) → Is self.old.tree here up
             → Is self.new.tree Nil (record { left = here; item = item_at start start body } ∷ up)) }
@@ -90,8 +89,6 @@ impl<'a> Builder<'a> {
     /// Adds a node without children after the last sibling. If memory is refused, the tables are unchanged, and the tree can still be
     /// extended.
     pub fn add(&mut self, start: usize, end: usize, body: ItemBody) -> Result<(), AllocError>
-        requires { IsPlaced self.old.tree }
-        ensures placed { IsPlaced self.new.tree }
         ensures ok { OnOk result
             ((here : Forest Item) (up : List (Opened Item)) → Is self.old.tree here up
             → Is self.new.tree (join here (one (item_at start end body) Nil)) up) }
@@ -103,8 +100,6 @@ impl<'a> Builder<'a> {
 
     /// Closes the innermost open node at this byte offset of the text. If no node is open, nothing changes.
     pub fn close(&mut self, end: usize)
-        requires { IsPlaced self.old.tree }
-        ensures placed { IsPlaced self.new.tree }
         ensures closed { (here : Forest Item) (v : Opened Item) (up : List (Opened Item))
             → Is self.old.tree here (v ∷ up)
             → Is self.new.tree (closed (ended end v.item.body v) here) up }
@@ -120,8 +115,6 @@ impl<'a> Builder<'a> {
 
     /// Closes the innermost open node at this byte offset of the text, with another body. If no node is open, nothing changes.
     pub fn close_as(&mut self, end: usize, body: ItemBody)
-        requires { IsPlaced self.old.tree }
-        ensures placed { IsPlaced self.new.tree }
         ensures closed { (here : Forest Item) (v : Opened Item) (up : List (Opened Item))
             → Is self.old.tree here (v ∷ up)
             → Is self.new.tree (closed (ended end body v) here) up }
@@ -141,8 +134,6 @@ impl<'a> Builder<'a> {
     /// both are one node. This happens only if the node is an empty paragraph that begins at `start`; else nothing changes. Returns whether
     /// it happened.
     pub fn close_whole(&mut self, start: usize, text_end: usize, end: usize) -> bool
-        requires { IsPlaced self.old.tree }
-        ensures placed { IsPlaced self.new.tree }
         ensures answer { (here : Forest Item) (up : List (Opened Item)) → Is self.old.tree here up
             → result ≡ is_empty_paragraph start here up }
         ensures closed { result ≡ true
@@ -170,8 +161,6 @@ impl<'a> Builder<'a> {
 
     /// Makes the last sibling the title of a definition, with the nodes inside it. If there is no sibling, nothing changes.
     pub fn title_last(&mut self)
-        requires { IsPlaced self.old.tree }
-        ensures placed { IsPlaced self.new.tree }
         ensures turned { (here : Forest Item) (item : Item) (inside : Forest Item)
             (up : List (Opened Item)) → Is self.old.tree (join here (one item inside)) up
             → Is self.new.tree
@@ -189,8 +178,6 @@ impl<'a> Builder<'a> {
     /// Puts a node around the last sibling, which becomes the title of a definition. The new node begins at that sibling's start and is
     /// open. If there is no sibling, the new node is empty and begins at the start of the text.
     pub fn enclose_title(&mut self, around: ItemBody) -> Result<(), AllocError>
-        requires { IsPlaced self.old.tree }
-        ensures placed { IsPlaced self.new.tree }
         ensures ok { OnOk result
             ((here : Forest Item) (item : Item) (inside : Forest Item) (up : List (Opened Item))
             → Is self.old.tree (join here (one item inside)) up
@@ -216,8 +203,6 @@ impl<'a> Builder<'a> {
     /// Closes the innermost open node at this byte offset of the text, with another body, and moves its last child after it. The time is
     /// proportional to the number of children. If no node is open, nothing changes.
     pub fn release_last(&mut self, end: usize, body: ItemBody)
-        requires { IsPlaced self.old.tree }
-        ensures placed { IsPlaced self.new.tree }
         ensures released { (here : Forest Item) (item : Item) (inside : Forest Item)
             (v : Opened Item) (up : List (Opened Item))
             → Is self.old.tree (join here (one item inside)) (v ∷ up)
@@ -240,8 +225,6 @@ impl<'a> Builder<'a> {
     /// start of that child, or `None` if each child ends before. The time is proportional to the number of children. If no node is open,
     /// nothing changes and the result is `None`.
     pub fn cut(&mut self, at: usize) -> Option<usize>
-        requires { IsPlaced self.old.tree }
-        ensures placed { IsPlaced self.new.tree }
         ensures kept { (here : Forest Item) (v : Opened Item) (up : List (Opened Item))
             → Is self.old.tree here (v ∷ up)
             → Is self.new.tree (ending_before spans at here) (v ∷ up) }

@@ -37,7 +37,7 @@ pub draws-owned : (text : List ℕ) (old new : Builder) (kept : Allocations) (ow
     Adds old new (item_at start end (body.SynthesizeText index)) → new.allocations ≡ kept →
     Draws text old d → Draws text new (drawn (Node (node (OwnedText (text_bytes owned)) start end) Nil Nil) d)
 draws-owned text old new kept owned index start end d at is step same draws =
-    let mid : Builder = record { tree = old.tree; allocations = kept } in
+    let mid : Builder = record old { allocations = kept } in
     let texts : kept.texts ≡ old.allocations.texts ++ owned ∷ [] = ap (λ t. t.texts) is in
     draws-add text mid new (item_at start end (body.SynthesizeText index)) (node (OwnedText (text_bytes owned)) start end) d step same
     (ap (λ o. option_map (ranged start end) (option_map OwnedText o)) (

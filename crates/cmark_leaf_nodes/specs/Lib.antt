@@ -1,4 +1,5 @@
 pub mod Closings
 pub mod Contents
+pub mod ReadFacts
 pub mod Stretches
 pub mod TextColumns

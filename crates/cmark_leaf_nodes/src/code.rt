@@ -2,7 +2,6 @@
 //! next piece is known.
 
 ghost use Rattle.std.specs.Prelude.{◌≡◌, ℕ, List, [], Some, MatchOption, IfOk, OnOk};
-ghost use Rattle.cmark_tree.specs.Building.{IsPlaced};
 ghost use Rattle.cmark_items.specs.Tables.{defined};
 ghost use Rattle.cmark_grammar.specs.Rows.{begin_of};
 ghost use Rattle.cmark_grammar.specs.Tokens.{piece_if, spaces_if, left_columns};
@@ -20,8 +19,6 @@ use std::alloc::AllocError;
 
 /// Adds the stretch that waits, if there is one, as a node after the last sibling.
 pub fn draw_stretch(builder: &mut Builder<'_>, waits: Option<Stretch>) -> Result<(), AllocError>
-    requires { IsPlaced builder.old.tree }
-    ensures placed { IsPlaced builder.new.tree }
     ensures drawn { OnOk result ((text : List ℕ) (d : Drawing) → Draws text builder.old d
         → Draws text builder.new (drawn (texts_of (rest_of (shown_waits text waits))) d)) }
     ensures definitions { defined builder.new.allocations ≡ defined builder.old.allocations }
@@ -65,8 +62,6 @@ fn add_stretch(
     waits: Option<Stretch>,
     next: Stretch,
 ) -> Result<Option<Stretch>, AllocError>
-    requires { IsPlaced builder.old.tree }
-    ensures placed { IsPlaced builder.new.tree }
     ensures goes { IfOk result
         (λ left. (text : List ℕ)
         → Goes text builder.old builder.new waits left (piece_if text next.start next.end [])) }
@@ -88,8 +83,6 @@ fn add_left_columns(
     waits: Option<Stretch>,
     rest: LineRest<'_>,
 ) -> Result<Option<Stretch>, AllocError>
-    requires { IsPlaced builder.old.tree }
-    ensures placed { IsPlaced builder.new.tree }
     ensures goes { IfOk result
         (λ left. (text : List ℕ)
         → Goes text builder.old builder.new waits left
@@ -114,8 +107,6 @@ pub fn draw_code_line(
     most: usize,
     waits: Option<Stretch>,
 ) -> Result<Option<Stretch>, AllocError>
-    requires { IsPlaced builder.old.tree }
-    ensures placed { IsPlaced builder.new.tree }
     ensures drawn { OnOk result
         ((text : List ℕ) (d : Drawing) → Draws text builder.old d
         → Draws text builder.new

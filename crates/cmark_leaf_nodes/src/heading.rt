@@ -2,7 +2,6 @@
 
 ghost use Rattle.std.specs.Prelude.{◌≡◌, ◌≤◌, ℕ, List, length, OnOk};
 ghost use Rattle.std.specs.List.{take_while};
-ghost use Rattle.cmark_tree.specs.Building.{IsPlaced};
 ghost use Rattle.cmark_items.specs.Tables.{defined};
 ghost use Rattle.cmark_grammar.specs.Characters.{number_sign};
 ghost use Rattle.cmark_grammar.specs.Attributes.{before_braces, is_brace};
@@ -110,8 +109,6 @@ pub fn draw_heading(
     rest: LineRest<'_>,
     attributes: bool,
 ) -> Result<(), AllocError>
-    requires { IsPlaced builder.old.tree }
-    ensures placed { IsPlaced builder.new.tree }
     ensures drawn { OnOk result
         ((text : List ℕ) (d : Drawing) → Draws text builder.old d
         → Draws text builder.new

@@ -1,7 +1,6 @@
 //! The lines of HTML blocks (CommonMark 4.6).
 
 ghost use Rattle.std.specs.Prelude.{◌≡◌, ℕ, List, [], OnOk};
-ghost use Rattle.cmark_tree.specs.Building.{IsPlaced};
 ghost use Rattle.cmark_items.specs.Tables.{defined};
 ghost use Rattle.cmark_grammar.specs.BlockDocument.{Nil};
 ghost use Rattle.cmark_grammar.specs.Rows.{begin_of};
@@ -18,8 +17,6 @@ use std::alloc::AllocError;
 
 /// Adds a stretch of HTML as a node after the last sibling, unless it is empty.
 fn draw_html(builder: &mut Builder<'_>, stretch: Stretch) -> Result<(), AllocError>
-    requires { IsPlaced builder.old.tree }
-    ensures placed { IsPlaced builder.new.tree }
     ensures drawn { OnOk result
         ((text : List ℕ) (d : Drawing) → Draws text builder.old d
         → Draws text builder.new
@@ -34,8 +31,6 @@ fn draw_html(builder: &mut Builder<'_>, stretch: Stretch) -> Result<(), AllocErr
 
 /// Adds the columns at the beginning that are left of a tab, as a node of spaces after the last sibling.
 fn draw_left_columns(builder: &mut Builder<'_>, rest: LineRest<'_>) -> Result<(), AllocError>
-    requires { IsPlaced builder.old.tree }
-    ensures placed { IsPlaced builder.new.tree }
     ensures drawn { OnOk result
         ((text : List ℕ) (d : Drawing) → Draws text builder.old d
         → Draws text builder.new
@@ -56,8 +51,6 @@ fn draw_left_columns(builder: &mut Builder<'_>, rest: LineRest<'_>) -> Result<()
 /// it. If the line ends in CR LF, the line feed is a node of its own after it, and the CR is left out. If memory is refused, some of the
 /// nodes may have been added.
 pub fn draw_html_line(builder: &mut Builder<'_>, rest: LineRest<'_>) -> Result<(), AllocError>
-    requires { IsPlaced builder.old.tree }
-    ensures placed { IsPlaced builder.new.tree }
     ensures drawn { OnOk result
         ((text : List ℕ) (d : Drawing) → Draws text builder.old d
         → Draws text builder.new

@@ -2,7 +2,6 @@
 //! before, are one node.
 
 ghost use Rattle.std.specs.Prelude.{◌≡◌, ℕ, List, OnOk};
-ghost use Rattle.cmark_tree.specs.Building.{IsPlaced};
 ghost use Rattle.cmark_items.specs.Tables.{defined};
 ghost use Rattle.cmark_grammar.specs.BlockDocument.{Nil};
 ghost use Rattle.cmark_grammar.specs.Tokens.{words_end, stretch_then};
@@ -33,8 +32,6 @@ pub fn draw_last_lines(
     from: usize,
     last: LineRest<'_>,
 ) -> Result<(), AllocError>
-    requires { IsPlaced builder.old.tree }
-    ensures placed { IsPlaced builder.new.tree }
     ensures drawn { OnOk result
         ((text : List ℕ) (d : Drawing) → Draws text builder.old d
         → Draws text builder.new
@@ -53,8 +50,6 @@ pub fn close_lines(
     last: LineRest<'_>,
     end: usize,
 ) -> Result<(), AllocError>
-    requires { IsPlaced builder.old.tree }
-    ensures placed { IsPlaced builder.new.tree }
     ensures drawn { OnOk result
         ((text : List ℕ) (d : Drawing) → Draws text builder.old d
         → Draws text builder.new
@@ -77,8 +72,6 @@ pub fn draw_lines(
     from: usize,
     last: LineRest<'_>,
 ) -> Result<(), AllocError>
-    requires { IsPlaced builder.old.tree }
-    ensures placed { IsPlaced builder.new.tree }
     ensures drawn { OnOk result
         ((text : List ℕ) (d : Drawing) → Draws text builder.old d
         → Draws text builder.new
@@ -91,8 +84,6 @@ pub fn draw_lines(
 /// Cuts the texts inside the open node at this byte offset, which becomes the end of the last remaining text. The time is proportional to
 /// the number of texts. If memory is refused, that last text may be missing.
 pub fn cut_lines(builder: &mut Builder<'_>, at: usize) -> Result<(), AllocError>
-    requires { IsPlaced builder.old.tree }
-    ensures placed { IsPlaced builder.new.tree }
     ensures drawn { OnOk result ((text : List ℕ) (d : Drawing) → Draws text builder.old d
         → Draws text builder.new (texts_cut text at d)) }
     ensures definitions { defined builder.new.allocations ≡ defined builder.old.allocations }

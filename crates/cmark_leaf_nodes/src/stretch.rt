@@ -1,7 +1,6 @@
 //! Lines of the text: stretches of it, and the spaces that are left of a tab.
 
 ghost use Rattle.std.specs.Prelude.{◌≡◌, ◌≤◌, ◌<◌, ℕ, List, [], replicate, OnOk};
-ghost use Rattle.cmark_tree.specs.Building.{IsPlaced};
 ghost use Rattle.cmark_items.specs.Tables.{defined};
 ghost use Rattle.cmark_grammar.specs.BlockDocument.{OwnedText, Nil, Node, node};
 ghost use Rattle.cmark_grammar.specs.Rows.{begin_of};
@@ -74,9 +73,7 @@ pub(crate) fn draw_spaces(
     count: usize,
     at: usize,
 ) -> Result<(), AllocError>
-    requires placed { IsPlaced builder.old.tree }
     requires count { count ≤ 3 }
-    ensures placed { IsPlaced builder.new.tree }
     ensures drawn { OnOk result
         ((text : List ℕ) (d : Drawing) → Draws text builder.old d
         → Draws text builder.new

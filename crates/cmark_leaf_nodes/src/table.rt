@@ -1,7 +1,6 @@
 //! The rows of tables, cell by cell (GFM 4.10).
 
 ghost use Rattle.std.specs.Prelude.{◌≡◌, ◌≤◌, ◌+◌, ◌-◌, ℕ, suc, List, length, IfOk, OnOk};
-ghost use Rattle.cmark_tree.specs.Building.{IsPlaced};
 ghost use Rattle.cmark_items.specs.Tables.{defined};
 ghost use Rattle.cmark_grammar.specs.BlockDocument.{TableHead, TableRow, TableCell, Node, Nil, node};
 ghost use Rattle.cmark_grammar.specs.Rows.{start_of};
@@ -23,9 +22,7 @@ use std::alloc::AllocError;
 /// Adds a cell of these bytes, which are at a byte offset of the text, as a node after the last sibling. Its text is without the spaces and
 /// tabs at both ends.
 fn draw_cell(builder: &mut Builder<'_>, at: usize, cell: &[u8]) -> Result<(), AllocError>
-    requires placed { IsPlaced builder.old.tree }
     requires small { at + length cell.now ≤ 18446744073709551615 }
-    ensures placed { IsPlaced builder.new.tree }
     ensures drawn { OnOk result
         ((text : List ℕ) (d : Drawing) → Draws text builder.old d
         → Draws text builder.new
@@ -50,9 +47,7 @@ fn draw_next_cell<'a>(
     content_end: usize,
     line_end: usize,
 ) -> Result<(&'a [u8], usize), AllocError>
-    requires placed { IsPlaced builder.old.tree }
     requires within { length cells.now ≤ content_end }
-    ensures placed { IsPlaced builder.new.tree }
     ensures within { IfOk result (λ next. length next.0.now ≤ content_end) }
     ensures drawn { IfOk result
         (λ next. (text : List ℕ) (left : ℕ) (d : Drawing) → Draws text builder.old d
@@ -90,8 +85,6 @@ fn draw_cells(
     rest: LineRest<'_>,
     columns: usize,
 ) -> Result<usize, AllocError>
-    requires { IsPlaced builder.old.tree }
-    ensures placed { IsPlaced builder.new.tree }
     ensures drawn { OnOk result ((text : List ℕ) (d : Drawing) → Draws text builder.old d
         → Draws text builder.new (drawn (row_cells text columns (row_of rest.entry)) d)) }
     ensures filled { IfOk result (λ filled. filled ≡ count_missing columns (row_of rest.entry)) }
@@ -117,8 +110,6 @@ pub fn draw_head(
     rest: LineRest<'_>,
     columns: usize,
 ) -> Result<(), AllocError>
-    requires { IsPlaced builder.old.tree }
-    ensures placed { IsPlaced builder.new.tree }
     ensures drawn { OnOk result
         ((text : List ℕ) (d : Drawing) → Draws text builder.old d
         → Draws text builder.new
@@ -139,8 +130,6 @@ pub fn draw_row(
     rest: LineRest<'_>,
     columns: usize,
 ) -> Result<usize, AllocError>
-    requires { IsPlaced builder.old.tree }
-    ensures placed { IsPlaced builder.new.tree }
     ensures drawn { OnOk result
         ((text : List ℕ) (d : Drawing) → Draws text builder.old d
         → Draws text builder.new

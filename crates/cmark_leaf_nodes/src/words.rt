@@ -1,7 +1,6 @@
 //! Texts of the source as nodes.
 
 ghost use Rattle.std.specs.Prelude.{◌≡◌, [], List, ℕ, OnOk};
-ghost use Rattle.cmark_tree.specs.Building.{IsPlaced};
 ghost use Rattle.cmark_items.specs.Tables.{defined};
 ghost use Rattle.cmark_grammar.specs.Tokens.{piece_if};
 ghost use Rattle.cmark_block_model.specs.Drawing.{Drawing, drawn};
@@ -19,8 +18,6 @@ pub(crate) fn draw_words(
     start: usize,
     end: usize,
 ) -> Result<(), AllocError>
-    requires { IsPlaced builder.old.tree }
-    ensures placed { IsPlaced builder.new.tree }
     ensures drawn { OnOk result ((text : List ℕ) (d : Drawing) → Draws text builder.old d
         → Draws text builder.new (drawn (texts_of (piece_if text start end [])) d)) }
     ensures definitions { defined builder.new.allocations ≡ defined builder.old.allocations }

@@ -1,6 +1,7 @@
 -- The nodes after a write to where they are stored. No other file of lemmas knows how they are stored.
 use Rattle.std.proofs.Common.{◌≡◌, ◌≢◌, Option, ◌⊎◌, inl, inr, ℕ, zero, suc, ◌-◌, ◌<◌, ◌≤◌, List, [], ◌∷◌, ◌++◌, length, slice_set, get_or, Some, None, Result, Ok, Err, OnErr, refl, sym, ap, ◌∙◌, subst, arith, length-append, length-set}
 use Rattle.std.specs.Prelude.{slice_get}
+use Rattle.std.specs.Coded.{le_prop}
 use Rattle.std.specs.List.{swap}
 use Rattle.std.proofs.lemmas.List.Edits.{swap_is}
 use Rattle.std.proofs.lemmas.Option.{slice_get-get_or, slice_get_past, same_Some}
@@ -104,6 +105,9 @@ module _ {T : Type 0} where
       above (suc j) h = omega arith
 
   -- the places of a number
+  pub HasNumber-prop : (v : Nodes T) (ix : ℕ) → IsProp (HasNumber v ix)
+  HasNumber-prop v ix = hlevel le_prop
+
   pub stored_place : (v : Nodes T) (ix : ℕ) → HasNumber v ix → ix - 1 < length v.items.items
   unfolding node_count
   stored_place v ix has = omega (arith, has.0, has.1)

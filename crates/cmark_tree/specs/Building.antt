@@ -33,7 +33,7 @@ module _ {T : Type 0} where
 
   -- there are some current siblings inside some open nodes
   abbrev pub IsPlaced : Tree T → Type 0
-  IsPlaced t = (here : Forest T) × (up : List (Opened T)) × Is t here up
+  IsPlaced t = ∥ ((here : Forest T) × (up : List (Opened T)) × Is t here up) ∥₁
 
   -- the innermost open node is closed, and comes after its siblings
   abbrev pub closed : Opened T → Forest T → Forest T

@@ -57,11 +57,11 @@ module _ {T : Type 0} where
 
   -- there is no node at the place of the next one
   abbrev pub IsOpen : Tree T → Type 0
-  IsOpen t = (z : Zip T) × Holds t z × CanAppend z
+  IsOpen t = ∥ ((z : Zip T) × Holds t z × CanAppend z) ∥₁
 
   -- some node is the focus
   abbrev pub IsAtNode : Tree T → Type 0
-  IsAtNode t = (z : Zip T) × Holds t z × HasFocus z
+  IsAtNode t = ∥ ((z : Zip T) × Holds t z × HasFocus z) ∥₁
 
   -- the node is among the current siblings
   abbrev pub IsAtSibling : Tree T → ℕ → Type 0

@@ -17,9 +17,13 @@ module _ {T : Type 0} where
     pub once : IsOnce f
     pub head_is : head ≡ first f
 
+  -- some siblings begin with that number
+  abbrev pub HasChildren : Nodes T → (head : ℕ) → Type 0
+  HasChildren nodes head = ∥ ((f : Forest (Placed T)) × IsChildren nodes f head) ∥₁
+
   -- that number belongs to a sibling from `head` on
   abbrev pub IsAmong : Nodes T → (head ix : ℕ) → Type 0
-  IsAmong nodes head ix = (done : Forest (Placed T)) × (p : Placed T) × (inside : Forest (Placed T)) × (after : Forest (Placed T)) × IsChildren nodes (join done (Node p inside after)) head × (p.ix ≡ ix)
+  IsAmong nodes head ix = ∥ ((done : Forest (Placed T)) × (p : Placed T) × (inside : Forest (Placed T)) × (after : Forest (Placed T)) × IsChildren nodes (join done (Node p inside after)) head × (p.ix ≡ ix)) ∥₁
 
   abbrev pub HasParent : List (Level T) → Type 0
   HasParent [] = ⊥
@@ -27,8 +31,8 @@ module _ {T : Type 0} where
 
   -- some siblings inside that parent may end with that one
   abbrev pub CanEnd : Tree T → TreeIndex → ℕ → Type 0
-  CanEnd t parent last = (done : Forest (Placed T)) × (rest : Forest (Placed T)) × (up : List (Level T))
-      × IsForest (entry_at t) t.first (plug up (join done rest)) × (parent_of up ≡ Some parent) × (last_place done ≡ last)
+  CanEnd t parent last = ∥ ((done : Forest (Placed T)) × (rest : Forest (Placed T)) × (up : List (Level T))
+      × IsForest (entry_at t) t.first (plug up (join done rest)) × (parent_of up ≡ Some parent) × (last_place done ≡ last)) ∥₁
 
   -- there is a parent, and no escaped child of it begins at byte 0
   abbrev pub CanTruncate : Spans T → Tree T → Type 0

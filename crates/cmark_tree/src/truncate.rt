@@ -9,7 +9,7 @@ ghost use Rattle.cmark_tree.specs.Tree.{Holds, entry_at, parent_of, spine_of};
 ghost use Rattle.cmark_tree.specs.Truncating.{Spans, shortened, IsCut, last_place, at_last, siblings_truncated};
 ghost use Rattle.cmark_tree.specs.Building.{Opened, Is, IsPlaced};
 ghost use Rattle.cmark_tree.specs.Cut.{ending_before, reaching_start};
-ghost use Rattle.cmark_tree.specs.Truncated.{CanTruncate, HasParent, CanEnd, IsChildren, IsShortened};
+ghost use Rattle.cmark_tree.specs.Truncated.{CanTruncate, HasParent, CanEnd, HasChildren, IsChildren, IsShortened};
 
 use crate::nodes::Nodes;
 use crate::tree::Tree;
@@ -65,7 +65,7 @@ struct Cut {
 
 // The place at which the siblings from `head` on are cut.
 fn cut_place<T: TreeSpan>(nodes: &Nodes<T>, head: usize, to: usize) -> Cut
-    requires { (f : Forest (Placed T)) × IsChildren nodes.now f head }
+    requires { HasChildren nodes.now head }
     ensures { (f : Forest (Placed T)) → IsChildren nodes.now f head
         → IsCut T.spans to f result.kept result.at }
 {

@@ -6,7 +6,6 @@ use Rattle.cmark_blocks.proofs.code.draw_blank_lines.Goals as goal
 
 pub loop-line-preserved : goal.loop-line-preserved
 loop-line-preserved c = record {
-  placed = c.in_ok-left.ensures.placed;
   lines = λ text.
       subst (λ rs. DrawsLines text c.args.builder.now c.draw_code_line.new.builder rs c.args.waits c.in_ok-left.left)
       (rows-more c.args.lines.now c.loop-line.line-index c.line-item.result (omega (arith, c.loop-line-test.true, c.loop-line.auto.line-index-end)) c.line-item.is)

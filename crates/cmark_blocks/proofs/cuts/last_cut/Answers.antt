@@ -7,10 +7,11 @@ use Rattle.cmark_blocks.proofs.ReferenceSteps.{no_reference}
 use Rattle.cmark_blocks.proofs.SearchSteps.{starts-here}
 use Rattle.cmark_blocks.proofs.cuts.last_cut.Goals as goal
 
-pub find_cut-requires-clause-starts : goal.find_cut-requires-clause-starts
-find_cut-requires-clause-starts c =
-    starts-here c.args.text.now (shown_options c.args.options) _ c.args.from c.in_ok-pass.pass
-    (c.in_ok-pass.ensures.runs [] [] (λ folded. no_reference c.new-definitions.result folded (c.new-definitions.ensures folded)) c.new-footnotes.ensures)
+pub find_cut-requires : goal.find_cut-requires
+find_cut-requires c = record {
+  starts = starts-here c.args.text.now (shown_options c.args.options) _ c.args.from c.in_ok-pass.pass
+      (c.in_ok-pass.ensures.runs [] [] (λ folded. no_reference c.new-definitions.result folded (c.new-definitions.ensures folded)) c.new-footnotes.ensures);
+}
 
 -- the beginning is settled for the pass too
 pub returns-clause-settled : goal.returns-clause-settled

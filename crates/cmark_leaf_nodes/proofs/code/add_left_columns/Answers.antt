@@ -7,8 +7,8 @@ use Rattle.cmark_leaf_nodes.proofs.code.add_left_columns.Goals as goal
 pub returns-then-count-eq0-clause-goes : goal.returns-then-count-eq0-clause-goes
 returns-then-count-eq0-clause-goes c text = goes-none text c.args.builder.now c.args.waits _ (spaces-none _ c.remaining_space-count.result _ (c.remaining_space-count.ensures ∙ sym (left-cut (row_of c.args.rest).columns)) c.if-count-eq0.true)
 
-pub draw_spaces-requires-clause-count : goal.draw_spaces-requires-clause-count
-draw_spaces-requires-clause-count c =
+pub draw_spaces-requires : goal.draw_spaces-requires
+draw_spaces-requires c =
     let le : cut_columns (row_of c.args.rest).columns ≤ 3 = rest-cut c.args.rest in
     let e : c.remaining_space-count.result ≡ cut_columns (row_of c.args.rest).columns = c.remaining_space-count.ensures in
     omega (arith, le, e)

@@ -9,8 +9,8 @@ pub returns-then-count-eq0-clause-drawn : goal.returns-then-count-eq0-clause-dra
 returns-then-count-eq0-clause-drawn c text d draws =
     draws-html-none text c.args.builder.now _ d (spaces-none _ c.remaining_space-count.result _ (c.remaining_space-count.ensures ∙ sym (left-cut (row_of c.args.rest).columns)) c.if-count-eq0.true) draws
 
-pub draw_spaces-requires-clause-count : goal.draw_spaces-requires-clause-count
-draw_spaces-requires-clause-count c =
+pub draw_spaces-requires : goal.draw_spaces-requires
+draw_spaces-requires c =
     let le : cut_columns (row_of c.args.rest).columns ≤ 3 = rest-cut c.args.rest in
     let e : c.remaining_space-count.result ≡ cut_columns (row_of c.args.rest).columns = c.remaining_space-count.ensures in
     omega (arith, le, e)

@@ -16,7 +16,6 @@ loop-left-init c =
     let content_end = c.content_end-content_end.result in
     let begins = cells-begin c.args.rest c.words.result.now cells content_end c.words.ensures c.cells_in_row-cells.ensures.value c.cells_in_row-cells.ensures.within c.content_end-content_end.ensures.place in
     record {
-      placed = c.requires;
       within = begins.0;
       drawn = λ text d draws. (
         d,
@@ -36,7 +35,6 @@ loop-left-preserved c =
     let content_end = c.content_end-content_end.result in
     let one : left ≡ suc (left - 1) = omega (arith, c.loop-left-test.true) in
     record {
-      placed = c.in_ok-following.ensures.placed;
       within = c.in_ok-following.ensures.within;
       drawn = λ text d draws.
           let so_far = before.drawn text d draws in

@@ -1,5 +1,4 @@
 use Rattle.std.proofs.Common.{◌≡◌, ◌-◌, ◌+◌, ◌≤◌, ℕ, List, length}
-use Rattle.cmark_tree.specs.Building.{IsPlaced}
 use Rattle.cmark_items.specs.Tables.{defined}
 use Rattle.cmark_grammar.specs.TableRows.{count_missing}
 use Rattle.cmark_grammar.specs.TableTokens.{cells_then, row_cells}
@@ -11,7 +10,6 @@ use Rattle.cmark_leaf_nodes.proofs.table.draw_cells.Given as goal
 
 abbrev pub invariant-loop-left : goal.invariant-loop-left
 invariant-loop-left l = record {
-  placed : IsPlaced l.builder.tree;
   within : length l.cells ≤ l.content_end;
   drawn : (text : List ℕ) (d : Drawing) → Draws text l.fn.builder d → (e : Drawing) × Draws text l.builder e
       × (drawn (row_cells text l.fn.columns (row_of l.fn.rest)) d ≡ drawn (cells_then text l.left (l.content_end - length l.cells) l.line_end (cells_after l.cells)) e);

@@ -1,7 +1,7 @@
 use Rattle.std.proofs.Common.{sym, ap, ◌∙◌, subst}
 use Rattle.std.specs.Prelude.{◌||◌, is_some}
 use Rattle.cmark_block_model.specs.BlockPass.{siblings_with_block}
-use Rattle.cmark_blocks.specs.Runs.{Runs}
+use Rattle.cmark_blocks.specs.Runs.{state_of, RunsIn}
 use Rattle.cmark_blocks.specs.Titles.{list_around}
 use Rattle.cmark_blocks.proofs.RunSteps.{runs-inner}
 use Rattle.cmark_blocks.proofs.TitleSteps.{ended-alone, no-list}
@@ -15,5 +15,5 @@ returns-clause-runs g c text options lookup m runs =
     let replacement = g.E.EntityLookup.replacement in
     let inner = siblings_with_block m.inner in
     let none = ap (λ s. is_some s.list || is_some (list_around s.title)) (sym runs.inner) ∙ sym c.has_list.ensures ∙ c.if-has_list.false in
-    subst (λ d. Runs replacement text options lookup (record m { drawing = d; inner = inner }) (record c.args.self.now { inner = c.add_block.new.self })) (sym (ended-alone m.inner m.drawing none))
-    (runs-inner replacement text options lookup m c.args.self.now c.add_block.new.self inner runs (c.add_block.ensures ∙ ap siblings_with_block runs.inner))
+    subst (λ d. RunsIn replacement text options lookup (record m { drawing = d; inner = inner }) (record (state_of c.args.self.now) { inner = c.add_block.new.self })) (sym (ended-alone m.inner m.drawing none))
+    (runs-inner replacement text options lookup m (state_of c.args.self.now) c.add_block.new.self inner runs (c.add_block.ensures ∙ ap siblings_with_block runs.inner))

@@ -14,7 +14,7 @@ use Rattle.cmark_leaf_nodes.specs.TextColumns.{StandInText, IsRead}
 use Rattle.cmark_leaf_nodes.proofs.TextColumnSteps.{without-in_text}
 use Rattle.cmark_blocks.specs.declared.state.OpenLeaf.TheVariants as leaf
 use Rattle.cmark_blocks.specs.Entered.{takes_line, line_taken}
-use Rattle.cmark_blocks.specs.Runs.{Runs}
+use Rattle.cmark_blocks.specs.Runs.{Runs, state_of, RunsIn}
 use Rattle.cmark_blocks.proofs.BoxSteps.{box-read}
 use Rattle.cmark_blocks.proofs.LineSteps.{block_quote-in_text, alert-in_text}
 use Rattle.cmark_blocks.proofs.RunSteps.{runs-leaf, none_after_closed}
@@ -31,7 +31,7 @@ begin_task-requires-clause-line g c =
     let is_inside = subst (λ s. Enters row s) c.in-Item.is c.requires.start.enters options in
     let is_after = subst (λ o. IfSome o (IsAfterBox (row_of inside))) c.in-Some.is c.task_marker-task.ensures.following in
     let in_text = subst (λ (s : Row). StandInText text s.columns) (sym is_inside) (without-in_text text (marker_width (shown_start options row (begun.Item c.in-Item.item inside)) row) row c.requires.line.in_text) in
-    subst (λ t. IsRead t.now c.in-Some.following) (sym c.in_ok-begin_item-in-Item.ensures.text)
+    subst (λ t. IsRead t.now c.in-Some.following) (sym c.in_ok-begin_item-in-Item.ensures.keeps.text)
     (box-read text options inside c.in-Some.following c.in-Some.is_checked read is_after (subst (λ s. IsIn text (inside_of s)) c.in-Item.is c.requires.start.placed) in_text)
 
 pub returns-then-is_some-clause-runs : goal.returns-then-is_some-clause-runs
@@ -42,10 +42,10 @@ returns-then-is_some-clause-runs g c text options lookup m runs =
     let in_text = c.alert_kind-alert.ensures options (ap (λ (o : Options). o.gfm) (sym runs.options_is) ∙ sym c.reads_alerts.ensures) in
     let same = block_quote-in_text options row c.args.start c.in-BlockQuote.inside alert c.in-BlockQuote.is in_text in
     let begun = subst (λ at. Runs replacement text options lookup (block_quote_begun alert at m) c.begin_block_quote.new.self) c.words_begin.ensures.place (c.in_ok-begin_block_quote-in-BlockQuote.ensures.runs text options lookup m runs) in
-    let closed = none_after_closed replacement text options lookup _ c.begin_block_quote.new.self (c.in_ok-begin_block_quote-in-BlockQuote.ensures.leaf ∙ c.requires.closed) begun in
-    let tagged = runs-leaf replacement text options lookup _ c.begin_block_quote.new.self leaf.AfterTag model.AfterTag begun (refl, closed) in (
+    let closed = none_after_closed replacement text options lookup _ (state_of c.begin_block_quote.new.self) (c.in_ok-begin_block_quote-in-BlockQuote.ensures.keeps.leaf ∙ c.requires.closed) begun in
+    let tagged = runs-leaf replacement text options lookup _ (state_of c.begin_block_quote.new.self) leaf.AfterTag model.AfterTag begun (refl, closed) in (
       subst (λ k. takes_line k ≡ true) (sym same) (alert-in_text c.alert_kind-alert.result true (sym c.is_some.ensures ∙ c.if-is_some.true)),
-      subst (λ (k : Container). Runs replacement text options lookup (line_taken text options lookup k row (container_begun k row m)) (record c.begin_block_quote.new.self { leaf = leaf.AfterTag })) (sym same) tagged,
+      subst (λ (k : Container). RunsIn replacement text options lookup (line_taken text options lookup k row (container_begun k row m)) (record (state_of c.begin_block_quote.new.self) { leaf = leaf.AfterTag })) (sym same) tagged,
     )
 
 pub returns-else-is_some-clause-runs : goal.returns-else-is_some-clause-runs

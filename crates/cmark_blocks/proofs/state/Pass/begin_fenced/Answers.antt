@@ -12,6 +12,7 @@ use Rattle.cmark_builder.specs.Drawn.{Draws}
 use Rattle.cmark_blocks.specs.declared.state.OpenLeaf.TheVariants as leaf
 use Rattle.cmark_blocks.proofs.InfoSteps.{draws-fenced}
 use Rattle.cmark_blocks.proofs.RunSteps.{runs-builder, runs-leaf, none_after_closed}
+use Rattle.cmark_blocks.specs.Runs.{state_of}
 use Rattle.cmark_blocks.proofs.state.Pass.begin_fenced.Goals as goal
 
 pub returns-clause-runs : goal.returns-clause-runs
@@ -28,8 +29,8 @@ returns-clause-runs g c more text options lookup m ahead runs =
     let draws = subst (λ start. Draws text c.open.new.self (opened start kind d)) c.words_begin.ensures.place
     (draws-fenced text before.builder c.open.new.self c.allocate_cow.new.self c.in_ok-info.info c.in_ok-index.index c.words_begin.result (resolved lookup fence.info) d
     c.in_ok-index.ensures.index c.in_ok-index.ensures.kept info c.in_ok-open.ensures.ok c.in_ok-open.ensures.tables r.drawing) in
-    let none = ap (λ b. b.items) c.begin_block.ensures.others.blank_lines ∙ none_after_closed replacement text options lookup m c.args.self.now c.requires.closed runs in
+    let none = ap (λ b. b.items) c.begin_block.ensures.others.blank_lines ∙ none_after_closed replacement text options lookup m (state_of c.args.self.now) c.requires.closed runs in
     runs-leaf replacement text options lookup _ _ (leaf.Fenced c.args.fence.delimiter c.args.fence.run_length c.args.indent None) (model.InFenced fence None)
-    (runs-builder replacement text options lookup (block_begun m) before c.open.new.self begun r draws
+    (runs-builder replacement text options lookup (block_begun m) (state_of before) c.open.new.self begun r draws
     (ap defined c.in_ok-open.ensures.tables ∙ ap defined c.in_ok-index.ensures.kept))
     (fence, (refl, refl, refl), refl, none)

@@ -70,7 +70,6 @@ returns-in-Some-metadata_begun-clause-runs g c text options lookup columns m le 
 
 pub returns : goal.returns
 returns g c = record {
-  good = c.begin_leaf.ensures.good;
   runs = λ text options lookup columns m le runs.
       let row = row_of c.args.rest in
       let next = lines_at text row.line_end in

@@ -13,6 +13,7 @@ use Rattle.cmark_block_model.specs.Drawing.{Drawing, drawn, opened, closed_at}
 use Rattle.cmark_builder.specs.Drawn.{Draws}
 use Rattle.cmark_builder.proofs.DrawnSteps.{draws-open, draws-close}
 use Rattle.cmark_blocks.proofs.RunSteps.{runs-builder}
+use Rattle.cmark_blocks.specs.Runs.{state_of}
 use Rattle.cmark_blocks.proofs.state.Pass.begin_heading.Goals as goal
 use Rattle.cmark_items.specs.Tables.{defined}
 
@@ -40,5 +41,5 @@ returns-clause-runs g c text options lookup m ahead runs =
     (subst (λ a. Draws text c.draw_heading.new.builder (drawn (heading_tokens text a (run 35 (words_of row)) row) begun)) flag line) in
     let draws = subst (λ line_end. Draws text c.close.new.self (closed_at line_end (drawn (heading_tokens text on n row) begun))) c.line_end.ensures.place
     (draws-close text c.draw_heading.new.builder c.close.new.self c.line_end.result (drawn (heading_tokens text on n row) begun) c.close.ensures.closed c.close.ensures.none c.close.ensures.tables level) in
-    runs-builder replacement text options lookup (block_begun m) before c.close.new.self (drawn (Node (node kind (start_of row) row.line_end) (heading_tokens text on n row) Nil) d) r draws
+    runs-builder replacement text options lookup (block_begun m) (state_of before) c.close.new.self (drawn (Node (node kind (start_of row) row.line_end) (heading_tokens text on n row) Nil) d) r draws
     (ap defined c.close.ensures.tables ∙ c.in_ok-draw_heading.ensures.definitions ∙ ap defined c.in_ok-open.ensures.tables ∙ c.in_ok-body.ensures.definitions)

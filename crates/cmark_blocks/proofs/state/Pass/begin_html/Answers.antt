@@ -10,7 +10,7 @@ use Rattle.cmark_block_model.specs.OpenBlocks as model
 use Rattle.cmark_builder.specs.Drawn.{Draws}
 use Rattle.cmark_builder.proofs.DrawnSteps.{draws-open, draws-close}
 use Rattle.cmark_blocks.specs.declared.state.OpenLeaf.TheVariants as leaf
-use Rattle.cmark_blocks.specs.Runs.{Runs}
+use Rattle.cmark_blocks.specs.Runs.{state_of, RunsIn}
 use Rattle.cmark_blocks.proofs.RunSteps.{runs-builder, runs-leaf, none_after_closed}
 use Rattle.cmark_blocks.proofs.state.Pass.begin_html.Goals as goal
 use Rattle.cmark_items.specs.Tables.{defined}
@@ -29,12 +29,12 @@ returns-then-ends_at_once-clause-runs g c more text options lookup m ahead runs 
     let line : Drawing = drawn (html_then (verbatim_line text row.columns row) Nil) begun in
     let draws = subst (λ line_end. Draws text c.close.new.self (closed_at line_end line)) c.line_end.ensures.place
     (draws-close text c.draw_html_line.new.builder c.close.new.self c.line_end.result line c.close.ensures.closed c.close.ensures.none c.close.ensures.tables (c.in_ok-draw_html_line.ensures.drawn text begun first)) in
-    subst (λ b. Runs replacement text options lookup (html_begun text options lookup b kind row.line_end (html_line text options lookup row (node_opened (begin_of row) HtmlBlock (block_begun m)))) (record before { builder = c.close.new.self; leaf = leaf.Closed }))
+    subst (λ b. RunsIn replacement text options lookup (html_begun text options lookup b kind row.line_end (html_line text options lookup row (node_opened (begin_of row) HtmlBlock (block_begun m)))) (record (state_of before) { builder = c.close.new.self; leaf = leaf.Closed }))
     (sym c.if-ends_at_once.true ∙ c.ends_at_once.ensures)
     (runs-leaf replacement text options lookup _ _ leaf.Closed model.Closed
-    (runs-builder replacement text options lookup (block_begun m) before c.close.new.self (closed_at row.line_end line) r draws
+    (runs-builder replacement text options lookup (block_begun m) (state_of before) c.close.new.self (closed_at row.line_end line) r draws
     (ap defined c.close.ensures.tables ∙ c.in_ok-draw_html_line.ensures.definitions ∙ ap defined c.in_ok-open.ensures.tables))
-    (refl, ap (λ b. b.items) c.begin_block.ensures.others.blank_lines ∙ none_after_closed replacement text options lookup m c.args.self.now c.requires.closed runs))
+    (refl, ap (λ b. b.items) c.begin_block.ensures.others.blank_lines ∙ none_after_closed replacement text options lookup m (state_of c.args.self.now) c.requires.closed runs))
 
 pub returns-else-ends_at_once-clause-runs : goal.returns-else-ends_at_once-clause-runs
 returns-else-ends_at_once-clause-runs g c more text options lookup m ahead runs =
@@ -48,9 +48,9 @@ returns-else-ends_at_once-clause-runs g c more text options lookup m ahead runs 
     let first = subst (λ start. Draws text c.open.new.self (opened start HtmlBlock d)) c.begin.ensures.place
     (draws-open text before.builder c.open.new.self c.begin.result _ HtmlBlock d c.in_ok-open.ensures.ok c.in_ok-open.ensures.tables refl r.drawing) in
     let line : Drawing = drawn (html_then (verbatim_line text row.columns row) Nil) begun in
-    subst (λ b. Runs replacement text options lookup (html_begun text options lookup b kind row.line_end (html_line text options lookup row (node_opened (begin_of row) HtmlBlock (block_begun m)))) (record before { builder = c.draw_html_line.new.builder; leaf = leaf.Html c.args.kind }))
+    subst (λ b. RunsIn replacement text options lookup (html_begun text options lookup b kind row.line_end (html_line text options lookup row (node_opened (begin_of row) HtmlBlock (block_begun m)))) (record (state_of before) { builder = c.draw_html_line.new.builder; leaf = leaf.Html c.args.kind }))
     (sym c.if-ends_at_once.false ∙ c.ends_at_once.ensures)
     (runs-leaf replacement text options lookup _ _ (leaf.Html c.args.kind) (model.InHtml kind)
-    (runs-builder replacement text options lookup (block_begun m) before c.draw_html_line.new.builder line r (c.in_ok-draw_html_line.ensures.drawn text begun first)
+    (runs-builder replacement text options lookup (block_begun m) (state_of before) c.draw_html_line.new.builder line r (c.in_ok-draw_html_line.ensures.drawn text begun first)
     (c.in_ok-draw_html_line.ensures.definitions ∙ ap defined c.in_ok-open.ensures.tables))
-    (refl, ap (λ b. b.items) c.begin_block.ensures.others.blank_lines ∙ none_after_closed replacement text options lookup m c.args.self.now c.requires.closed runs))
+    (refl, ap (λ b. b.items) c.begin_block.ensures.others.blank_lines ∙ none_after_closed replacement text options lookup m (state_of c.args.self.now) c.requires.closed runs))

@@ -9,6 +9,7 @@ use Rattle.cmark_builder.proofs.DrawnSteps.{draws-open}
 use Rattle.cmark_blocks.specs.Titles.{with_open}
 use Rattle.cmark_blocks.proofs.RunSteps.{runs-builder, runs-inner}
 use Rattle.cmark_items.specs.Tables.{defined}
+use Rattle.cmark_blocks.specs.Runs.{state_of}
 use Rattle.cmark_blocks.proofs.state.Pass.begin_list.Goals as goal
 
 pub returns-clause-runs : goal.returns-clause-runs
@@ -23,7 +24,7 @@ returns-clause-runs g c text options lookup m runs =
     (ap (λ s. option_map (ranged start start) (kind_of before.builder.allocations.texts s)) c.body.ensures ∙ ap (λ n. Some (node (list_kind item.delimiter n false) start start)) number)
     r.drawing in
     runs-inner replacement text options lookup _ _ _ _
-    (runs-builder replacement text options lookup (block_begun m) before c.open.new.self (opened start (list_kind item.delimiter item.number false) (block_begun m).drawing) r draws (ap defined c.in_ok-open.ensures.tables))
+    (runs-builder replacement text options lookup (block_begun m) (state_of before) c.open.new.self (opened start (list_kind item.delimiter item.number false) (block_begun m).drawing) r draws (ap defined c.in_ok-open.ensures.tables))
     (c.with_list-self.ensures
     ∙ ap (with_open (record { delimiter = item.delimiter; number = list_number item.delimiter c.unwrap_or-number.result; loose = false; end = start })) r.inner
     ∙ ap {A = Option ℕ} {B = model.Siblings} (λ n. record (block_begun m).inner { list = Some (record { delimiter = item.delimiter; number = n; loose = false; end = start }) }) number)

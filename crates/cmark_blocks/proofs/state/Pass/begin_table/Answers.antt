@@ -13,7 +13,7 @@ use Rattle.cmark_block_model.specs.OpenBlocks as model
 use Rattle.cmark_builder.specs.Drawn.{Draws}
 use Rattle.cmark_builder.proofs.DrawnSteps.{draws-open}
 use Rattle.cmark_blocks.specs.declared.state.OpenLeaf.TheVariants as leaf
-use Rattle.cmark_blocks.specs.Runs.{Runs}
+use Rattle.cmark_blocks.specs.Runs.{state_of, RunsIn}
 use Rattle.cmark_blocks.proofs.RunSteps.{runs-builder, runs-leaf, none_after_closed}
 use Rattle.cmark_blocks.proofs.state.Pass.begin_table.Goals as goal
 
@@ -32,10 +32,10 @@ returns-clause-runs g c text options lookup m more ahead runs many =
     let is_table = c.in_ok-body.ensures.kind ∙ ap (λ ws. Some (Table (columns_of (delimiter_row ws)))) c.words_in-row.ensures in
     let first = subst (λ start. Draws text c.open.new.self (opened start kind d)) c.words_begin.ensures.place
     (draws-open text c.table_body.new.builder c.open.new.self c.words_begin.result _ kind d c.in_ok-open.ensures.ok c.in_ok-open.ensures.tables (ap (option_map (ranged c.words_begin.result c.words_begin.result)) is_table) (c.in_ok-body.ensures.drawn text d r.drawing)) in
-    let none = ap (λ b. b.items) c.begin_block.ensures.others.blank_lines ∙ none_after_closed replacement text options lookup m c.args.self.now c.requires.closed runs in
-    subst (λ (k : ℕ). Runs replacement text options lookup (record (block_begun m) { drawing = drawn (table_tokens text k row []) begun; leaf = model.InTable k most_filled false }) (record before { builder = new; leaf = leaf.Table columns 262144 false }))
+    let none = ap (λ b. b.items) c.begin_block.ensures.others.blank_lines ∙ none_after_closed replacement text options lookup m (state_of c.args.self.now) c.requires.closed runs in
+    subst (λ (k : ℕ). RunsIn replacement text options lookup (record (block_begun m) { drawing = drawn (table_tokens text k row []) begun; leaf = model.InTable k most_filled false }) (record (state_of before) { builder = new; leaf = leaf.Table columns 262144 false }))
     (sym many)
     (runs-leaf replacement text options lookup _ _ (leaf.Table columns 262144 false) (model.InTable columns most_filled false)
-    (runs-builder replacement text options lookup (block_begun m) before new head r (c.in_ok-draw_head.ensures.drawn text begun first)
+    (runs-builder replacement text options lookup (block_begun m) (state_of before) new head r (c.in_ok-draw_head.ensures.drawn text begun first)
     (c.in_ok-draw_head.ensures.definitions ∙ ap defined c.in_ok-open.ensures.tables ∙ c.in_ok-body.ensures.definitions))
     (refl, none))

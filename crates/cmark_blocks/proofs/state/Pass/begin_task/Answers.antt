@@ -7,6 +7,7 @@ use Rattle.cmark_block_model.specs.Drawing.{drawn}
 use Rattle.cmark_builder.specs.Drawn.{Draws}
 use Rattle.cmark_builder.proofs.DrawnSteps.{draws-add}
 use Rattle.cmark_blocks.proofs.RunSteps.{runs-builder}
+use Rattle.cmark_blocks.specs.Runs.{state_of}
 use Rattle.cmark_blocks.proofs.state.Pass.begin_task.Goals as goal
 use Rattle.cmark_items.specs.Tables.{defined}
 
@@ -21,5 +22,5 @@ returns-clause-runs g c =
     let draws = subst (λ end. Draws text new (drawn (Node (node kind start end) Nil Nil) m.drawing)) c.begin.ensures.place
     (draws-add text before.builder new _ (node kind start c.begin.result) m.drawing c.in_ok-add.ensures.ok c.in_ok-add.ensures.tables refl refl runs.drawing) in
     ran text options lookup _
-    (runs-builder g.E.EntityLookup.replacement text options lookup m before new (drawn (Node (node kind start (begin_of (row_of c.args.following))) Nil Nil) m.drawing) runs draws (ap defined c.in_ok-add.ensures.tables)))
+    (runs-builder g.E.EntityLookup.replacement text options lookup m (state_of before) new (drawn (Node (node kind start (begin_of (row_of c.args.following))) Nil Nil) m.drawing) runs draws (ap defined c.in_ok-add.ensures.tables)))
     c.begin_paragraph.ensures.runs

@@ -7,6 +7,7 @@ use Rattle.cmark_builder.proofs.DrawnSteps.{draws-close}
 use Rattle.cmark_blocks.specs.Shown.{shown_siblings, ShowsContainers}
 use Rattle.cmark_blocks.proofs.RunSteps.{shows-unsnoc, shows-none, runs-builder, runs-inner, runs-outer}
 use Rattle.cmark_items.specs.Tables.{defined}
+use Rattle.cmark_blocks.specs.Runs.{state_of}
 use Rattle.cmark_blocks.proofs.state.Pass.close_container.Goals as goal
 
 pub returns-in-Some-clause-runs : goal.returns-in-Some-clause-runs
@@ -21,7 +22,7 @@ returns-in-Some-clause-runs g c text options lookup m outer last split runs =
     (draws-close text before.builder c.close.new.self before.line_end drawing c.close.ensures.closed c.close.ensures.none c.close.ensures.tables r.drawing) in
     runs-inner replacement text options lookup _ _ c.siblings_after-self.result (after_container last.container m.line_end m.inner last.around)
     (runs-builder replacement text options lookup _ _ c.close.new.self (closed_at m.line_end drawing)
-    (runs-outer replacement text options lookup _ before c.pop.new.self outer r parts.0) draws (ap defined c.close.ensures.tables))
+    (runs-outer replacement text options lookup _ (state_of before) c.pop.new.self outer r parts.0) draws (ap defined c.close.ensures.tables))
     (c.siblings_after-self.ensures last parts.1
     ∙ ap (λ end. after_container last.container end (shown_siblings before.inner) last.around) r.line_end
     ∙ ap (λ inside. after_container last.container m.line_end inside last.around) r.inner)

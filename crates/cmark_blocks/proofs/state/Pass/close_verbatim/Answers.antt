@@ -5,7 +5,7 @@ use Rattle.cmark_block_model.specs.OpenBlocks as model
 use Rattle.cmark_builder.specs.Drawn.{Draws}
 use Rattle.cmark_builder.proofs.DrawnSteps.{draws-close}
 use Rattle.cmark_leaf_nodes.specs.Stretches.{shown_waits}
-use Rattle.cmark_blocks.specs.Runs.{Runs}
+use Rattle.cmark_blocks.specs.Runs.{state_of, RunsIn}
 use Rattle.cmark_blocks.specs.declared.state.OpenLeaf.TheVariants as leaf
 use Rattle.cmark_blocks.proofs.LeafSteps.{verbatim-closes}
 use Rattle.cmark_blocks.proofs.RunSteps.{runs-builder, runs-leaf}
@@ -21,7 +21,7 @@ returns-clause-runs g c text options lookup m runs =
     let draws = subst (λ e. Draws text c.close.new.self (closed_at e d)) runs.line_end
     (draws-close text built c.close.new.self before.line_end d c.close.ensures.closed c.close.ensures.none c.close.ensures.tables (c.in_ok-draw_stretch.ensures.drawn text m.drawing runs.drawing)) in
     let closes = verbatim-closes text options lookup before.leaf c.args.waits before.blank_lines.items m.leaf m c.requires.is runs.leaf in
-    subst (λ p. Runs replacement text options lookup p (record before { builder = c.close.new.self; leaf = leaf.Closed })) (sym closes.1)
+    subst (λ p. RunsIn replacement text options lookup p (record (state_of before) { builder = c.close.new.self; leaf = leaf.Closed })) (sym closes.1)
     (runs-leaf replacement text options lookup _ _ leaf.Closed model.Closed
-    (runs-builder replacement text options lookup m before c.close.new.self (closed_at m.line_end d) runs draws (ap defined c.close.ensures.tables ∙ c.in_ok-draw_stretch.ensures.definitions))
+    (runs-builder replacement text options lookup m (state_of before) c.close.new.self (closed_at m.line_end d) runs draws (ap defined c.close.ensures.tables ∙ c.in_ok-draw_stretch.ensures.definitions))
     (refl, closes.0))

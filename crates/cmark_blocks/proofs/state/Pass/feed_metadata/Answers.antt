@@ -8,7 +8,7 @@ use Rattle.cmark_builder.specs.Drawn.{Draws}
 use Rattle.cmark_builder.proofs.DrawnSteps.{draws-close}
 use Rattle.cmark_leaf_nodes.specs.Stretches.{shown_waits}
 use Rattle.cmark_blocks.specs.Ahead.{lines_at}
-use Rattle.cmark_blocks.specs.Runs.{Runs, ShowsLeaf}
+use Rattle.cmark_blocks.specs.Runs.{ShowsLeaf, state_of, RunsIn}
 use Rattle.cmark_blocks.specs.declared.state.OpenLeaf.TheVariants as leaf
 use Rattle.cmark_blocks.proofs.MetadataSteps.{metadata-closes, metadata-goes-on}
 use Rattle.cmark_blocks.proofs.RunSteps.{runs-builder, runs-leaf}
@@ -27,9 +27,9 @@ returns-then-ends_metadata-clause-runs g c text options lookup m runs =
     let draws = subst (λ line_end. Draws text c.close.new.self (closed_at line_end d)) c.line_end.ensures.place
     (draws-close text c.draw_stretch.new.builder c.close.new.self c.line_end.result d c.close.ensures.closed c.close.ensures.none c.close.ensures.tables (c.in_ok-draw_stretch.ensures.drawn text m.drawing runs.drawing)) in
     let fed = metadata-closes text options lookup kind waits row (lines_at text row.line_end) m shows.0 (sym c.ends_metadata.ensures ∙ c.if-ends_metadata.true) in
-    subst (λ p. Runs replacement text options lookup p (record before { builder = c.close.new.self; leaf = leaf.Closed })) (sym fed)
+    subst (λ p. RunsIn replacement text options lookup p (record (state_of before) { builder = c.close.new.self; leaf = leaf.Closed })) (sym fed)
     (runs-leaf replacement text options lookup _ _ leaf.Closed model.Closed
-    (runs-builder replacement text options lookup m before c.close.new.self (closed_at row.line_end d) runs draws (ap defined c.close.ensures.tables ∙ c.in_ok-draw_stretch.ensures.definitions))
+    (runs-builder replacement text options lookup m (state_of before) c.close.new.self (closed_at row.line_end d) runs draws (ap defined c.close.ensures.tables ∙ c.in_ok-draw_stretch.ensures.definitions))
     (refl, shows.1))
 
 pub returns-clause-runs : goal.returns-clause-runs
@@ -43,7 +43,7 @@ returns-clause-runs g c text options lookup m runs =
     let shows = subst (λ l. ShowsLeaf text l before.blank_lines.items m.leaf) c.requires.is runs.leaf in
     let run = code_line text 0 row waits in
     let fed = metadata-goes-on text options lookup kind waits row (lines_at text row.line_end) m shows.0 (sym c.ends_metadata.ensures ∙ c.if-ends_metadata.false) in
-    subst (λ p. Runs replacement text options lookup p (record before { builder = new; leaf = leaf.Metadata c.args.kind c.in_ok-left.left })) (sym fed)
+    subst (λ p. RunsIn replacement text options lookup p (record (state_of before) { builder = new; leaf = leaf.Metadata c.args.kind c.in_ok-left.left })) (sym fed)
     (runs-leaf replacement text options lookup _ _ (leaf.Metadata c.args.kind c.in_ok-left.left) (model.InMetadata kind run.waits)
-    (runs-builder replacement text options lookup m before new (drawn (texts_of run.done) m.drawing) runs (c.in_ok-left.ensures.drawn text m.drawing runs.drawing) c.in_ok-left.ensures.definitions)
+    (runs-builder replacement text options lookup m (state_of before) new (drawn (texts_of run.done) m.drawing) runs (c.in_ok-left.ensures.drawn text m.drawing runs.drawing) c.in_ok-left.ensures.definitions)
     (ap (model.InMetadata kind) (sym (c.in_ok-left.ensures.waits text)), shows.1))

@@ -8,7 +8,7 @@ use Rattle.cmark_block_model.specs.Drawing.{Drawing, drawn}
 use Rattle.cmark_block_model.specs.OpenBlocks as model
 use Rattle.cmark_blocks.specs.declared.state.OpenLeaf.TheVariants as leaf
 use Rattle.cmark_blocks.specs.Ahead.{lines_at}
-use Rattle.cmark_blocks.specs.Runs.{Runs, ShowsLeaf}
+use Rattle.cmark_blocks.specs.Runs.{ShowsLeaf, state_of, RunsIn}
 use Rattle.cmark_blocks.proofs.FeedSteps.{in_table, feeds-row}
 use Rattle.cmark_blocks.proofs.RunSteps.{runs-builder, runs-leaf}
 use Rattle.cmark_blocks.proofs.TableSteps.{row-fits}
@@ -33,7 +33,7 @@ returns-clause-runs g c text options lookup m runs =
     let fed = feeds-row text options lookup row (lines_at text row.line_end) m columns left (in_table replacement text options lookup m before runs columns left true is) another in
     let none = (subst (λ l. ShowsLeaf text l before.blank_lines.items m.leaf) is runs.leaf).1 in
     let row_drawn : Drawing = drawn (row_tokens text columns (row ∷ [])) m.drawing in
-    subst (λ p. Runs replacement text options lookup p (record before { builder = new; leaf = leaf.Table columns (left - filled) true })) (sym fed)
+    subst (λ p. RunsIn replacement text options lookup p (record (state_of before) { builder = new; leaf = leaf.Table columns (left - filled) true })) (sym fed)
     (runs-leaf replacement text options lookup _ _ (leaf.Table columns (left - filled) true) (model.InTable columns (left - count_missing columns row) true)
-    (runs-builder replacement text options lookup m before new row_drawn runs (c.in_ok-filled.ensures.drawn text m.drawing runs.drawing) c.in_ok-filled.ensures.definitions)
+    (runs-builder replacement text options lookup m (state_of before) new row_drawn runs (c.in_ok-filled.ensures.drawn text m.drawing runs.drawing) c.in_ok-filled.ensures.definitions)
     (ap (λ (n : ℕ). model.InTable columns (left - n) true) (sym c.in_ok-filled.ensures.filled), none))

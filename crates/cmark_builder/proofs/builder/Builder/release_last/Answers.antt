@@ -5,17 +5,15 @@ use Rattle.cmark_tree.specs.Zip.{Zip}
 use Rattle.cmark_tree.specs.Tree.{Holds, parent_of}
 use Rattle.cmark_items.specs.declared.item.Item.{Item}
 use Rattle.cmark_tree.proofs.Items.{Is-item_parent}
-use Rattle.cmark_builder.proofs.BuilderSteps.{at-place, split-last, parent-node, parent-open, parent-read}
+use Rattle.cmark_builder.proofs.BuilderSteps.{at-place, placed-by, split-last, parent-node, parent-open, parent-read}
 use Rattle.cmark_builder.proofs.builder.Builder.release_last.Goals as goal
 
 pub item_mut-list-requires : goal.item_mut-list-requires
-item_mut-list-requires c = parent-node c.args.self.now.tree c.in-Some.parent c.requires c.peek_up.result c.peek_up.ensures c.in-Some.is
+item_mut-list-requires c = parent-node c.args.self.now.tree c.in-Some.parent c.args.self.now.placed c.peek_up.result c.peek_up.ensures c.in-Some.is
 
 pub release-requires : goal.release-requires
-release-requires c =
-    let o = parent-open c.args.self.now.tree c.in-Some.parent c.requires c.peek_up.result c.peek_up.ensures c.in-Some.is in
-    let parent : (z : Zip Item) → Holds c.args.self.now.tree z → Some c.in-Some.parent ≡ parent_of z.up = λ z h. sym c.in-Some.is ∙ c.peek_up.ensures z h in
-    at-place _ _ _ (Is-item_parent c.args.self.now.tree o.0 o.1 o.2 c.in-Some.parent (record c.item_mut-list.result.now { end = c.args.end; body = c.args.body }) parent o.3)
+release-requires c = placed-by _ (parent-open c.args.self.now.tree c.in-Some.parent c.args.self.now.placed c.peek_up.result c.peek_up.ensures c.in-Some.is) (λ o.
+    at-place _ _ _ (Is-item_parent c.args.self.now.tree o.0 o.1 o.2 c.in-Some.parent (record c.item_mut-list.result.now { end = c.args.end; body = c.args.body }) (λ z h. sym c.in-Some.is ∙ c.peek_up.ensures z h) o.3))
 
 pub returns-in-Some-clause-released : goal.returns-in-Some-clause-released
 returns-in-Some-clause-released c here item inside v up is =
@@ -37,7 +35,11 @@ returns-in-Some-clause-childless c v up is =
     subst {A = Item} (λ i. Is c.release.new.self (closed (record v { item = record i { end = c.args.end; body = c.args.body } }) Nil) up) same
     (c.release.ensures.none (record v { item = w }) up (Is-item_parent t Nil v up c.in-Some.parent w parent is))
 
-pub returns-in-Some-clause-placed : goal.returns-in-Some-clause-placed
-returns-in-Some-clause-placed c =
-    let o = parent-open c.args.self.now.tree c.in-Some.parent c.requires c.peek_up.result c.peek_up.ensures c.in-Some.is in
-    split-last c.args.self.now.tree c.release.new.self o.1 o.2 o.0 (λ here x inside is. at-place _ _ _ (returns-in-Some-clause-released c here x inside o.1 o.2 is)) (λ is. at-place _ _ _ (returns-in-Some-clause-childless c o.1 o.2 is)) o.3
+pub invariant_of-self : goal.invariant_of-self
+invariant_of-self c = record {
+  placed = placed-by _ (parent-open c.args.self.now.tree c.in-Some.parent c.args.self.now.placed c.peek_up.result c.peek_up.ensures c.in-Some.is) (λ o.
+      let w = record c.item_mut-list.result.now { end = c.args.end; body = c.args.body } in
+      split-last _ c.release.new.self (record o.1 { item = w }) o.2 o.0
+      (λ here x inside is. at-place _ _ _ (c.release.ensures.released here x inside _ _ is)) (λ is. at-place _ _ _ (c.release.ensures.none _ _ is))
+      (Is-item_parent c.args.self.now.tree o.0 o.1 o.2 c.in-Some.parent w (λ z h. sym c.in-Some.is ∙ c.peek_up.ensures z h) o.3));
+}

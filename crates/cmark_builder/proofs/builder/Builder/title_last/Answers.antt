@@ -7,11 +7,11 @@ use Rattle.cmark_tree.specs.Tree.{Holds, focus_of}
 use Rattle.cmark_items.specs.declared.item.Item.{Item}
 use Rattle.cmark_builder.specs.Ended.{item_at, titled}
 use Rattle.cmark_tree.proofs.Items.{Is-item_focus}
-use Rattle.cmark_builder.proofs.BuilderSteps.{at-place, focus-node, focus-open, focus-read, focus-none, focus-some}
+use Rattle.cmark_builder.proofs.BuilderSteps.{at-place, placed-by, focus-node, focus-open, focus-read, focus-none, focus-some}
 use Rattle.cmark_builder.proofs.builder.Builder.title_last.Goals as goal
 
 pub item_mut-item-requires : goal.item_mut-item-requires
-item_mut-item-requires c = focus-node c.args.self.now.tree c.in-Some.last c.requires c.cur.result c.cur.ensures c.in-Some.is
+item_mut-item-requires c = focus-node c.args.self.now.tree c.in-Some.last c.args.self.now.placed c.cur.result c.cur.ensures c.in-Some.is
 
 pub returns-in-Some-clause-turned : goal.returns-in-Some-clause-turned
 returns-in-Some-clause-turned c here item inside up is =
@@ -24,10 +24,11 @@ returns-in-Some-clause-turned c here item inside up is =
     subst (λ b. Is (with_item_at t c.in-Some.last.ix w) (join here (one (item_at item.start item.end b) inside)) up) body
     (subst {A = Item} (λ k. Is (with_item_at t c.in-Some.last.ix w) (join here (one (record k { body = c.titled-item.result }) inside)) up) same (Is-item_focus t here item inside up c.in-Some.last w focus is))
 
-pub returns-in-Some-clause-placed : goal.returns-in-Some-clause-placed
-returns-in-Some-clause-placed c =
-    let o = focus-open c.args.self.now.tree c.in-Some.last c.requires c.cur.result c.cur.ensures c.in-Some.is in
-    at-place _ _ _ (returns-in-Some-clause-turned c o.0 o.1 o.2 o.3 o.4)
+pub invariant_of-self : goal.invariant_of-self
+invariant_of-self c = record {
+  placed = placed-by _ (focus-open c.args.self.now.tree c.in-Some.last c.args.self.now.placed c.cur.result c.cur.ensures c.in-Some.is) (λ o.
+      at-place _ _ _ (Is-item_focus c.args.self.now.tree o.0 o.1 o.2 o.3 c.in-Some.last (record c.item_mut-item.result.now { body = c.titled-item.result }) (λ z h. sym c.in-Some.is ∙ c.cur.ensures z h) o.4));
+}
 
 pub returns-in-Some-clause-none : goal.returns-in-Some-clause-none
 returns-in-Some-clause-none c up is = absurd (focus-some c.args.self.now.tree up c.in-Some.last c.cur.result c.cur.ensures c.in-Some.is is)

@@ -1,16 +1,18 @@
 use Rattle.std.proofs.Common.{inr}
+use Rattle.std.proofs.Math.Logic.{∥∥₁_map}
 use Rattle.cmark_tree.specs.Zip.{appended}
 use Rattle.cmark_tree.proofs.Building.{Is-append, Is-open, Is-unchanged}
 use Rattle.cmark_tree.proofs.Entries.{on_err}
 use Rattle.cmark_tree.proofs.tree.Tree.open.Goals as goal
 
 pub append-requires : goal.append-requires
-append-requires g c = let is = c.requires.2 in (is.z, is.holds, is.last)
+append-requires g c = ∥∥₁_map c.requires (λ r.
+    let is = r.2 in (is.z, is.holds, is.last))
 
 pub push-requires : goal.push-requires
-push-requires g c =
-    let is = c.requires.2 in
-    (appended c.in_ok-append.field-0.ix c.args.item is.z, c.in_ok-append.ensures.ok is.z is.holds is.last, tt)
+push-requires g c = ∥∥₁_map c.requires (λ r.
+    let is = r.2 in
+    (appended c.in_ok-append.field-0.ix c.args.item is.z, c.in_ok-append.ensures.ok is.z is.holds is.last, tt))
 
 pub returns-clause-ok : goal.returns-clause-ok
 returns-clause-ok g c here up is =

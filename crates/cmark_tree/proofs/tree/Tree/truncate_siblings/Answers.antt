@@ -20,7 +20,7 @@ pub cut_place-cut-requires : goal.cut_place-cut-requires
 cut_place-cut-requires g c =
     let z = c.requires.0 in
     let h = c.requires.1 in
-    (siblings z, children c.args.self.now.nodes c.args.self.now.first (siblings z) z.up c.in-Some.parent c.child.result h.forest (sym (c.peek_up.ensures z h) ∙ c.in-Some.is) c.child.ensures)
+    ∣ (siblings z, children c.args.self.now.nodes c.args.self.now.first (siblings z) z.up c.in-Some.parent c.child.result h.forest (sym (c.peek_up.ensures z h) ∙ c.in-Some.is) c.child.ensures) ∣₁
 
 pub end_siblings-requires : goal.end_siblings-requires
 end_siblings-requires g c =
@@ -28,7 +28,7 @@ end_siblings-requires g c =
     let h = c.requires.1 in
     let parent = sym (c.peek_up.ensures z h) ∙ c.in-Some.is in
     let cut = c.cut_place-cut.ensures (siblings z) (children c.args.self.now.nodes c.args.self.now.first (siblings z) z.up c.in-Some.parent c.child.result h.forest parent c.child.ensures) in
-    (cut.done, cut.rest, z.up, subst (λ f. IsForest (node_at c.args.self.now.nodes) c.args.self.now.first (plug z.up f)) cut.split h.forest, parent, sym cut.kept_is)
+    ∣ (cut.done, cut.rest, z.up, subst (λ f. IsForest (node_at c.args.self.now.nodes) c.args.self.now.first (plug z.up f)) cut.split h.forest, parent, sym cut.kept_is) ∣₁
 
 pub returns-then-cut-eq0 : goal.returns-then-cut-eq0
 returns-then-cut-eq0 g c z h deep =
@@ -64,7 +64,7 @@ end_siblings-requires-then-shorten_at g c =
     let n = cut_node g.T.TreeSpan.spans c.args.end (siblings z) c.cut_place-cut.result.kept c.cut_place-cut.result.at cut c.if-cut-eq0.false in
     let r = c.shorten_at.ensures _ (cut_read g.T.TreeSpan.spans c.args.end c.args.self.now.nodes c.args.self.now.first c.cut_place-cut.result.kept c.cut_place-cut.result.at (siblings z) z.up h.forest n) in
     let s = shortened_left g.T.TreeSpan.spans c.args.end c.args.self.now.nodes c.shorten_at.new.nodes c.args.self.now.first c.cut_place-cut.result.kept c.cut_place-cut.result.at (siblings z) z.up c.shorten_at.result h.forest n r c.if-shorten_at.true in
-    (join n.done (one (record n.place { item = r.item }) n.inside), n.after, z.up, s.0, parent, s.1)
+    ∣ (join n.done (one (record n.place { item = r.item }) n.inside), n.after, z.up, s.0, parent, s.1) ∣₁
 
 pub returns-then-shorten_at : goal.returns-then-shorten_at
 returns-then-shorten_at g c z h deep =
@@ -85,7 +85,7 @@ end_siblings-requires-else-shorten_at g c =
     let n = cut_node g.T.TreeSpan.spans c.args.end (siblings z) c.cut_place-cut.result.kept c.cut_place-cut.result.at cut c.if-cut-eq0.false in
     let r = c.shorten_at.ensures _ (cut_read g.T.TreeSpan.spans c.args.end c.args.self.now.nodes c.args.self.now.first c.cut_place-cut.result.kept c.cut_place-cut.result.at (siblings z) z.up h.forest n) in
     let s = shortened_away g.T.TreeSpan.spans c.args.end c.args.self.now.nodes c.shorten_at.new.nodes c.args.self.now.first c.cut_place-cut.result.kept c.cut_place-cut.result.at (siblings z) z.up c.shorten_at.result h.forest n r c.if-shorten_at.false in
-    (n.done, Node (record n.place { item = r.item }) n.inside n.after, z.up, s.0, parent, n.last_is)
+    ∣ (n.done, Node (record n.place { item = r.item }) n.inside n.after, z.up, s.0, parent, n.last_is) ∣₁
 
 pub returns-else-shorten_at : goal.returns-else-shorten_at
 returns-else-shorten_at g c z h deep =

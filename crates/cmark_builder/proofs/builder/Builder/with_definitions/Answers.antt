@@ -1,0 +1,5 @@
+use Rattle.cmark_builder.proofs.BuilderSteps.{empty-placed}
+use Rattle.cmark_builder.proofs.builder.Builder.with_definitions.Goals as goal
+
+pub invariant_of-result : goal.invariant_of-result
+invariant_of-result c = record { placed = empty-placed _ c.in_ok-tree.ensures.empty }
