@@ -41,6 +41,10 @@ pub struct Tree<T> {
     pub(crate) cur: usize,
 }
 
+// The path has room for this many nodes from the beginning, so that it grows only in deep texts: a second, larger piece of memory takes five
+// times the instructions of the first.
+const DEPTH_AT_ONCE: usize = 16;
+
 // The node that a link leads to.
 fn index_of(link: usize) -> Option<TreeIndex>
     ensures { result ≡ index_at link }
@@ -81,7 +85,7 @@ fn sibling_before<T: Drop>(nodes: &Nodes<T>, head: usize, last: usize) -> usize
 }
 
 impl<T: Drop> Tree<T> {
-    /// An empty forest with room for `capacity` nodes. It fails if there is no memory for them.
+    /// An empty forest with room for `capacity` nodes. It fails if there is no memory for them or for the path.
     pub fn with_capacity(alloc: Global, capacity: usize) -> Result<Tree<T>, AllocError>
         ensures empty { IfOk result (λ t. Holds t nothing) }
         ensures none { IfOk result (λ t. tree_len t ≡ 0) }
@@ -89,7 +93,7 @@ impl<T: Drop> Tree<T> {
         let nodes = Nodes::with_capacity(alloc, capacity)?;
         Ok(Tree {
             nodes,
-            spine: Vec::new(alloc),
+            spine: Vec::with_capacity(alloc, DEPTH_AT_ONCE)?,
             first: 0,
             cur: 0,
         })
