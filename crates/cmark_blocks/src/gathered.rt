@@ -24,6 +24,9 @@ pub(crate) struct Gathered<'a> {
     pub last: LineRest<'a>,
 }
 
+/// A string for a paragraph's text has room for at least this many bytes, so that it grows only for long definitions.
+const BYTES_AT_ONCE: usize = 256;
+
 /// The words of a line of this text.
 pub(crate) fn words_in<'a>(text: &'a str, rest: LineRest<'a>) -> &'a str
     requires { IsRead text.now rest }
@@ -64,6 +67,7 @@ impl<'a, E: EntityLookup> Pass<'a, E> {
     {
         let mut text = room;
         text.clear();
+        text.reserve(BYTES_AT_ONCE)?;
         text.push_str(words_in(self.text, rest))?;
         Ok(Gathered {
             text,

@@ -79,6 +79,15 @@ pub(crate) struct Pass<'a, E> {
     ghost last: { IsLastRead text.now leaf } by { IsLastRead-prop text.now leaf },
 }
 
+// A text with fewer bytes than this mostly has few nodes.
+const SHORT: usize = 512;
+
+// The number of nodes for which the tree of a text of `len` bytes makes room at once. It is enough for most short texts, which then ask for
+// their memory once. The C library keeps freed memory of up to 1,024 bytes in its quickest lists, so a text of a few lines asks for no more.
+fn room_for(len: usize) -> usize {
+    if len < SHORT { 32 } else { 128 }
+}
+
 impl<'a, E: EntityLookup> Pass<'a, E> {
     ghost use Rattle.cmark_block_model.specs.OpenBlocks.{at_start};
     ghost use Rattle.cmark_blocks.specs.Runs.{Runs};
@@ -96,7 +105,7 @@ impl<'a, E: EntityLookup> Pass<'a, E> {
             (Runs E.replacement text.entry.now (shown_options options)
             (E.replacement entities.entry.now) at_start) }
     {
-        let builder = Builder::new(alloc)?;
+        let builder = Builder::new(alloc, room_for(text.len()))?;
         Ok(Pass {
             alloc,
             text,

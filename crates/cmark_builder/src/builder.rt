@@ -43,13 +43,13 @@ fn is_paragraph_from(item: Item, start: usize) -> bool
 }
 
 impl<'a> Builder<'a> {
-    /// A document without nodes. Fails only if memory is refused.
-    pub fn new(alloc: Global) -> Result<Builder<'a>, AllocError>
+    /// A document without nodes. With the first one it makes room for at least `room` nodes. Fails only if memory is refused.
+    pub fn new(alloc: Global, room: usize) -> Result<Builder<'a>, AllocError>
         ensures tree { IfOk result (λ b. Is b.tree Nil []) }
         ensures tables { IfOk result (λ b. IsEmpty b.allocations) }
     {
         Ok(Builder {
-            tree: Tree::with_capacity(alloc, 0)?,
+            tree: Tree::with_capacity(alloc, room)?,
             allocations: Allocations::new(alloc),
         })
     }

@@ -42,6 +42,7 @@ impl<'a> LeafText<'a> {
     /// Makes these lines the text. They have to be in the order of the source; they may be the content of a table cell (GFM 4.10).
     ///
     /// If memory is refused, there is no text until the next call succeeds. An empty slice of lines, as an empty cell has, takes no memory.
+    #[inline(always)]
     pub fn read(&mut self, lines: &[LeafLine], is_cell: bool) -> Result<(), AllocError>
         requires { AreLines (source_of self.old) 0 lines.now }
         ensures read { OnOk result (IsRead self.new) }
@@ -127,7 +128,12 @@ impl<'a> LeafText<'a> {
         ensures end { result.end ≡ place_of self.now (to - 1) + 1 }
         ensures part { IsPart (source_of self.now) result.start result.end }
     {
-        let start = self.place(from);
+        let stretch = self.stretches[self.stretch_at(from)];
+        let start = stretch.place(from);
+        // Most parts are in one stretch, so that their end needs no search.
+        if to - stretch.at <= stretch.end - stretch.start {
+            return start..start + (to - from);
+        }
         let last = self.place(to - 1);
         start..last + 1
     }

@@ -39,6 +39,7 @@ pub(crate) fn write_pairs(pairs: &[Pair], options: Options, slots: &mut Vec<Slot
 
 /// Writes the spans of a pair into the slots of its bytes, the innermost first (CommonMark 6.2, rules 13 and 14). A pair becomes spans of
 /// width 2 from the inside, and an odd byte on each side the outermost span.
+#[inline(always)]
 pub(crate) fn write_pair(pair: Pair, options: Options, slots: &mut Vec<Slot>)
     requires opens { pair.count ≤ pair.from }
     requires texts { CanWrite slots.old.items (spans_of_pair (shown_pair pair)) }

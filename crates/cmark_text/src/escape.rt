@@ -185,6 +185,7 @@ static HEXADECIMAL_DIGITS: [char; 16] = [
 /// ``!#$%()*+,-./:;=?@_~`` are kept. Each other byte is written as `%` with two upper-case hexadecimal digits.
 ///
 /// If memory is refused, the string holds its old text and a beginning of the escaped URL.
+#[inline(always)]
 pub fn escape_href(out: &mut String, url: &str) -> Result<(), AllocError>
     ensures { Writes out.old out.new result (escaped_href url.now) }
 {

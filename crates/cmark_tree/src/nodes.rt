@@ -16,6 +16,8 @@ pub struct Nodes<T> {
     links: Links,
     // Items and links have room for this many nodes, so that one comparison shows whether the next node needs memory.
     room: usize,
+    // A full vector makes room for this many nodes, if it is more than `NODES_AT_ONCE`.
+    at_once: usize,
     ghost even: { (length (links_of links) ≡ length items.items)
         × ((length items.items ≤ room) × ((room ≤ vec_capacity items) × (room ≤ links_room links))) },
 }
@@ -27,15 +29,17 @@ impl<T: Drop> Nodes<T> {
     ghost use Rattle.cmark_tree.specs.Arena.{Entry};
     ghost use Rattle.cmark_tree.specs.Nodes.{node_at, node_count, HasNumber, IsGrown, IsChanged, IsMoved, SameNodes, with_next, with_child};
 
+    // No nodes. With the first one there will be room for `capacity` nodes. The first node asks for the memory, since then this function
+    // cannot fail: LLVM moves a new tree from caller to caller only if one of them can.
     pub fn with_capacity(alloc: Global, capacity: usize) -> Result<Nodes<T>, AllocError>
         ensures { IfOk result (λ nodes. node_count nodes ≡ 0) }
     {
-        let items = Vec::with_capacity(alloc, capacity)?;
-        let links = Links::with_capacity(alloc, capacity)?;
+        let links = Links::with_capacity(alloc, 0)?;
         Ok(Nodes {
-            items,
+            items: Vec::new(alloc),
             links,
-            room: capacity,
+            room: 0,
+            at_once: capacity,
         })
     }
 
@@ -52,8 +56,9 @@ impl<T: Drop> Nodes<T> {
         ensures links { links_of self.new.links ≡ links_of self.old.links }
         ensures ok { OnOk result (length self.new.items.items < self.new.room) }
     {
-        self.items.reserve(NODES_AT_ONCE)?;
-        self.links.reserve(NODES_AT_ONCE)?;
+        let more = self.at_once.max(NODES_AT_ONCE);
+        self.items.reserve(more)?;
+        self.links.reserve(more)?;
         self.room = self.items.capacity().min(self.links.room());
         Ok(())
     }

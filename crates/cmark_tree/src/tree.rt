@@ -4,7 +4,7 @@
 //! the focus, those from the focus on, and the nodes above. `Holds tree z` means that the links of the tree form that forest, that no node
 //! is reached twice, and that the path and the focus are those of `z`. Each call is a step of `z`.
 
-ghost use Rattle.std.specs.Prelude.{◌⊎◌, List, [], ◌∷◌, ◌≡◌, ◌<◌, suc, Some, length, IfOk, OnOk, OnErr};
+ghost use Rattle.std.specs.Prelude.{◌⊎◌, List, [], ◌∷◌, ◌++◌, ◌≡◌, ◌<◌, suc, Some, length, IfOk, OnOk, OnErr};
 ghost use Rattle.std.specs.Borrow.{sem};
 ghost use Rattle.std.specs.Slice.Iter.{iter_rest};
 ghost use Rattle.cmark_tree.specs.Lending.{LendsItemAt};
@@ -41,6 +41,10 @@ pub struct Tree<T> {
     pub(crate) cur: usize,
 }
 
+// A full path makes room for this many nodes, so that it grows once, except in deep texts. To make a piece of memory larger takes five times
+// the instructions of asking for it.
+const DEPTH_AT_ONCE: usize = 16;
+
 // The node that a link leads to.
 fn index_of(link: usize) -> Option<TreeIndex>
     ensures { result ≡ index_at link }
@@ -59,6 +63,18 @@ fn link_of(ix: Option<TreeIndex>) -> usize
         Some(ix) => ix.ix,
         None => 0,
     }
+}
+
+// Adds a node to the end of a path.
+fn lengthen(path: &mut Vec<TreeIndex>, last: TreeIndex) -> Result<(), AllocError>
+    ensures ok { OnOk result (path.new.items ≡ path.old.items ++ (last ∷ [])) }
+    ensures err { OnErr result (path.new.items ≡ path.old.items) }
+{
+    if path.len() >= path.capacity() {
+        path.reserve(DEPTH_AT_ONCE)?;
+    }
+    path.push_reserved(last);
+    Ok(())
 }
 
 // The sibling before `last`, in the row of siblings that begins with `head`; 0 if there is none.
@@ -81,7 +97,7 @@ fn sibling_before<T: Drop>(nodes: &Nodes<T>, head: usize, last: usize) -> usize
 }
 
 impl<T: Drop> Tree<T> {
-    /// An empty forest with room for `capacity` nodes. It fails if there is no memory for them.
+    /// An empty forest. With its first node it makes room for at least `capacity` nodes, so that it asks for memory once if it has no more.
     pub fn with_capacity(alloc: Global, capacity: usize) -> Result<Tree<T>, AllocError>
         ensures empty { IfOk result (λ t. Holds t nothing) }
         ensures none { IfOk result (λ t. tree_len t ≡ 0) }
@@ -127,7 +143,7 @@ impl<T: Drop> Tree<T> {
         ensures nodes { KeepsNodes self.old self.new }
         ensures err { OnErr result (IsUnchanged self.old self.new) }
     {
-        self.spine.push(TreeIndex { ix: self.cur })?;
+        lengthen(&mut self.spine, TreeIndex { ix: self.cur })?;
         self.cur = self.nodes.child(self.cur);
         Ok(())
     }

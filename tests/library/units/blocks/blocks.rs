@@ -34,7 +34,7 @@ fn a_text_leaves_its_blocks_and_definitions(rt: HostRuntime) -> Result<(), Fail>
 
 // A tree whose path is a block quote, a list and an item with a prefix of two columns.
 fn item_in_a_quote(alloc: Global) -> Result<Tree<Item>, AllocError> {
-    let mut builder = Builder::new(alloc)?;
+    let mut builder = Builder::new(alloc, 0)?;
     builder.open(0, ItemBody::BlockQuote(None))?;
     builder.open(2, ItemBody::List(ListFlags::empty(), b'-', 0))?;
     builder.open(2, ItemBody::ListItem(2))?;

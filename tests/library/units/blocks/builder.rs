@@ -7,7 +7,7 @@ use std::test::Fail;
 
 #[test]
 fn nodes_are_closed_at_their_ends(rt: HostRuntime) -> Result<(), Fail> {
-    let mut builder = Builder::new(rt.alloc())?;
+    let mut builder = Builder::new(rt.alloc(), 0)?;
     builder.open(0, ItemBody::BlockQuote(None))?;
     builder.open(2, ItemBody::Paragraph)?;
     let text = builder.allocations.allocate_cow(CowStr::Borrowed("a"))?;

@@ -39,7 +39,7 @@ fn is_text(found: Option<Item>, start: usize, end: usize) -> bool {
 
 #[test]
 fn the_last_line_stands_as_it_is_without_the_blanks_after_it(rt: HostRuntime) -> Result<(), Fail> {
-    let mut builder = Builder::new(rt.alloc())?;
+    let mut builder = Builder::new(rt.alloc(), 0)?;
     draw_last_lines(&mut builder, 1, first_line(" a\\* &amp; b \n"))?;
     assert!(rt; is_text(last_item(builder), 1, 12));
     Ok(())
@@ -47,7 +47,7 @@ fn the_last_line_stands_as_it_is_without_the_blanks_after_it(rt: HostRuntime) ->
 
 #[test]
 fn a_line_stands_as_it_is_with_its_line_ending(rt: HostRuntime) -> Result<(), Fail> {
-    let mut builder = Builder::new(rt.alloc())?;
+    let mut builder = Builder::new(rt.alloc(), 0)?;
     draw_lines(&mut builder, 0, first_line("foo  \nbaz"))?;
     assert!(rt; is_text(last_item(builder), 0, 6));
     Ok(())
@@ -55,7 +55,7 @@ fn a_line_stands_as_it_is_with_its_line_ending(rt: HostRuntime) -> Result<(), Fa
 
 #[test]
 fn a_closing_sequence_is_no_text(rt: HostRuntime) -> Result<(), Fail> {
-    let mut builder = Builder::new(rt.alloc())?;
+    let mut builder = Builder::new(rt.alloc(), 0)?;
     draw_heading(&mut builder, first_line("## foo \\# ##  \n"), false)?;
     assert!(rt; is_text(last_item(builder), 3, 9));
     Ok(())
@@ -63,7 +63,7 @@ fn a_closing_sequence_is_no_text(rt: HostRuntime) -> Result<(), Fail> {
 
 #[test]
 fn a_line_of_code_waits(rt: HostRuntime) -> Result<(), Fail> {
-    let mut builder = Builder::new(rt.alloc())?;
+    let mut builder = Builder::new(rt.alloc(), 0)?;
     let waits = draw_code_line(&mut builder, first_line("\tfoo\r\n"), 2, None)?;
     assert!(rt; matches!(waits, Some(Stretch { start: 5, end: 6 })));
     draw_stretch(&mut builder, waits)?;
@@ -73,7 +73,7 @@ fn a_line_of_code_waits(rt: HostRuntime) -> Result<(), Fail> {
 
 #[test]
 fn a_line_of_html_is_a_node(rt: HostRuntime) -> Result<(), Fail> {
-    let mut builder = Builder::new(rt.alloc())?;
+    let mut builder = Builder::new(rt.alloc(), 0)?;
     draw_html_line(&mut builder, first_line("<table>\n"))?;
     assert!(rt;
         matches!(

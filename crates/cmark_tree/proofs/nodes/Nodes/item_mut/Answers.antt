@@ -13,7 +13,7 @@ pub returns : goal.returns
 returns g c = (
   (
     refl,
-    λ w. ap (λ h. record { items = with_item c.args.self.now.items (c.args.ix - 1) w; links = c.args.self.now.links; room = c.args.self.now.room; even = h })
+    λ w. ap (λ h. record { items = with_item c.args.self.now.items (c.args.ix - 1) w; links = c.args.self.now.links; room = c.args.self.now.room; at_once = c.args.self.now.at_once; even = h })
         (×_prop (ℕ_set _ _) (×_prop le_prop (×_prop le_prop le_prop)) _ _),
   ),
   record {

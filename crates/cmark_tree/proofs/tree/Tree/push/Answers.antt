@@ -17,6 +17,6 @@ returns-clause-ok g c z h focus =
     let down = push_down c.args.self.now.nodes c.args.self.now.first c.args.self.now.cur c.child-self.result z.left z.right z.up h.forest focus h.cur_is c.child-self.ensures in
     record {
       forest = down.0;
-      spine_is = c.in_ok-push.ensures.items ∙ ap (λ s. s ++ record { ix = c.args.self.now.cur } ∷ []) h.spine_is ∙ down.1;
+      spine_is = c.in_ok-lengthen.ensures.ok ∙ ap (λ s. s ++ record { ix = c.args.self.now.cur } ∷ []) h.spine_is ∙ down.1;
       cur_is = down.2;
     }
