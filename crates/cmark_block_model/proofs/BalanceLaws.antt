@@ -1,11 +1,11 @@
 -- The events of a document of blocks are balanced.
-use Rattle.std.proofs.Common.{◌≡◌, ◌⊎◌, inl, inr, ⊎_elim, ℕ, zero, suc, List, [], ◌∷◌, ◌++◌, refl, ap, sym, subst}
+use Rattle.std.proofs.Common.{◌≡◌, ◌⊎◌, inl, inr, ⊎_elim, ℕ, zero, suc, List, [], ◌∷◌, ◌++◌, refl, ap, sym, subst, arith}
 use Rattle.std.specs.Prelude.{map}
 use Rattle.std.proofs.lemmas.List.{append_assoc, map-append}
 use Rattle.cmark_grammar.specs.Tag.{Tag}
 use Rattle.cmark_grammar.specs.TagEnd.{end_of}
 use Rattle.cmark_grammar.specs.Event.{Event, Start, End, Ranged}
-use Rattle.cmark_grammar.specs.BlockDocument.{BlockKind, Paragraph, TightParagraph, Heading, ThematicBreak, IndentedCode, FencedCode, HtmlBlock, LinkDefinition, MetadataBlock, BlockQuote, BlockList, ListItem, TaskMarker, FootnoteDefinition, DefinitionList, DefinitionListTitle, DefinitionListDefinition, Text, OwnedText, Html, BlockNode, BlockDocument, Nil, Node, Table, TableHead, TableRow, TableCell}
+use Rattle.cmark_grammar.specs.BlockDocument.{BlockKind, BlockNode, BlockDocument, Nil, Node}
 use Rattle.cmark_grammar.specs.BlockReading.{Reads, Around, Inside, Alone, First, read_as, over, node_events, first_event, starts_before, first_in, with_first, block_reading}
 use Rattle.cmark_block_model.specs.Balance.{IsSingle, Balanced, Nothing, Single, Element}
 
@@ -25,30 +25,7 @@ IsFit (First event) = IsSingle event
 IsFit _ = Unit {0}
 
 pub fit : (kind : BlockKind) → IsFit (read_as kind)
-fit Paragraph = tt
-fit TightParagraph = tt
-fit (Heading level attributes) = tt
-fit ThematicBreak = tt
-fit IndentedCode = tt
-fit (FencedCode info) = tt
-fit HtmlBlock = tt
-fit (LinkDefinition reference) = tt
-fit (MetadataBlock kind) = tt
-fit (Table alignments) = tt
-fit TableHead = tt
-fit TableRow = tt
-fit TableCell = tt
-fit (BlockQuote alert) = tt
-fit (FootnoteDefinition label) = tt
-fit (DefinitionList tight) = tt
-fit DefinitionListTitle = tt
-fit DefinitionListDefinition = tt
-fit (BlockList number tight) = tt
-fit ListItem = tt
-fit (TaskMarker is_checked) = tt
-fit (Text bytes) = tt
-fit (OwnedText bytes) = tt
-fit (Html bytes) = tt
+fit kind = grind arith
 
 node-balanced : (reads : Reads) (node : BlockNode) (inside : List Ranged) → IsFit reads → Balanced (events inside) → Balanced (events (node_events reads node inside))
 node-balanced (Around tag) node inside fits b =

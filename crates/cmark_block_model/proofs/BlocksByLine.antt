@@ -1,22 +1,20 @@
 -- The blocks found line by line are the same.
-use Rattle.std.proofs.Common.{◌≡◌, ℕ, zero, suc, Bool, true, false, ◌&&◌, List, [], ◌∷◌, ◌++◌, length, refl, sym, ap, ◌∙◌, append_assoc, append-nil, Option, Some, None, true≢false}
+use Rattle.std.proofs.Common.{◌≡◌, ℕ, zero, suc, Bool, true, false, ◌&&◌, List, [], ◌∷◌, ◌++◌, length, refl, sym, ap, ◌∙◌, append_assoc, append-nil, Option, Some, None, true≢false, arith, rules}
 use Rattle.std.specs.Prelude.{if◌then◌else◌, nat_le}
 use Rattle.cmark_grammar.specs.Options.{Options}
 use Rattle.cmark_grammar.specs.Places.{Place, Apart, AfterLazy, allows_lazy}
 use Rattle.cmark_grammar.specs.Alignment.{Alignment}
-use Rattle.cmark_grammar.specs.TableRows.{table_head}
 use Rattle.cmark_grammar.specs.Rows.{Row, rows, shown, show_as, words_of, is_blank_line, indent_of}
-use Rattle.cmark_grammar.specs.Leaves.{Fence, Continuation, GoesOn, Closes, Waits, Stops, count_more, counted, underlines, is_thematic_break, is_atx_heading, run, fence_of, code_continuation, fence_continuation, closes_fence}
-use Rattle.cmark_grammar.specs.Footnotes.{footnotes_in}
-use Rattle.cmark_grammar.specs.HtmlBlocks.{html_kind, holds_end, html_continuation}
-use Rattle.cmark_grammar.specs.LinkDefinitions.{Defined, definition_in, bytes_over}
-use Rattle.cmark_grammar.specs.Metadata.{metadata_kind, metadata_continuation, holds_metadata, ends_metadata}
+use Rattle.cmark_grammar.specs.Leaves.{Fence, Continuation, GoesOn, Closes, Waits, Stops, count_more, counted, code_continuation, fence_continuation}
+use Rattle.cmark_grammar.specs.HtmlBlocks.{holds_end, html_continuation}
+use Rattle.cmark_grammar.specs.LinkDefinitions.{Defined}
+use Rattle.cmark_grammar.specs.Metadata.{metadata_kind, metadata_continuation}
 use Rattle.cmark_grammar.specs.MetadataBlockKind.{MetadataBlockKind}
-use Rattle.cmark_grammar.specs.Containers.{Container, is_alert, enter, keeps, strip, is_bare_start, bare_after, container_of}
-use Rattle.cmark_grammar.specs.Openings.{Leaf, ThematicBreak, AtxHeading, IndentedCode, FencedCode, HtmlBlock, LinkDefinition, MetadataBlock, Opening, Blank, Nests, Takes, Plain, or_else, nests_if, fenced_if, metadata_begun, html_if, break_if, heading_if, text_lines, defined_if, definition_of, leaf_of, whole_opens, opens, opens_at, texts, lazily, Table, table_if, text_of, begins_no_link}
-use Rattle.cmark_grammar.specs.Blocks.{Blocks, Nil, BlankLine, Paragraph, SetextHeading, LeafBlock, ContainerBlock, join, place_in, after_leaf}
-use Rattle.cmark_block_model.specs.BlocksModel.{Open, Between as IsBetween, AfterTag as IsAfterTag, InParagraph as IsInParagraph, InLeaf as IsInLeaf, InContainer as IsInContainer, close, takes_lazy, within, inside_begun, begin_as, begin_in, begin_at, begin, place_after, underline_or, goes_on_or, kept_or, feed, feed_all, blocks}
-use Rattle.cmark_block_model.specs.BlocksByLine.{Verbatim, Indented, Fenced, HtmlLines, Metadata, leaf_in, continuation_in, continuation_if, OpenLines, Between, AfterTag, InParagraph, InLeaf, InVerbatim, InContainer, blank_lines, close_lines, lines_take_lazy, html_begun, leaf_begun, lines_inside_begun, lines_begin_as, lines_underline_or, lines_go_on_or, lines_kept_or, verbatim_line, lines_begin_in, lines_begin_at, lines_begin, lines_feed, lines_feed_all, blocks_by_line}
+use Rattle.cmark_grammar.specs.Containers.{Container, enter, keeps, strip, is_bare_start, bare_after, container_of}
+use Rattle.cmark_grammar.specs.Openings.{Leaf, ThematicBreak, AtxHeading, IndentedCode, FencedCode, HtmlBlock, LinkDefinition, MetadataBlock, Opening, Blank, Takes, Plain, or_else, nests_if, fenced_if, metadata_begun, html_if, break_if, heading_if, defined_if, leaf_of, whole_opens, opens, opens_at, lazily, Table, table_if, text_of}
+use Rattle.cmark_grammar.specs.Blocks.{Blocks, Nil, BlankLine, LeafBlock, ContainerBlock, join, place_in, after_leaf}
+use Rattle.cmark_block_model.specs.BlocksModel.{Open, Between as IsBetween, AfterTag as IsAfterTag, InParagraph as IsInParagraph, InLeaf as IsInLeaf, InContainer as IsInContainer, close, takes_lazy, within, inside_begun, begin_as, begin_in, begin_at, begin, place_after, kept_or, feed, feed_all, blocks}
+use Rattle.cmark_block_model.specs.BlocksByLine.{Verbatim, leaf_in, continuation_in, continuation_if, OpenLines, Between, AfterTag, InParagraph, InLeaf, InVerbatim, InContainer, blank_lines, close_lines, lines_take_lazy, html_begun, leaf_begun, lines_inside_begun, lines_begin_as, lines_kept_or, verbatim_line, lines_begin_in, lines_begin_at, lines_begin, lines_feed, lines_feed_all, blocks_by_line}
 use Rattle.cmark_block_model.proofs.BlocksSound.{join_assoc, join-Nil, within_row, bare_push}
 use Rattle.cmark_block_model.proofs.BlockLaws.{no_metadata, strip_lazy, at-either, blank-at}
 
@@ -36,22 +34,14 @@ seen (InVerbatim closed verbatim first had waiting) ahead = waited closed (leaf_
 seen (InContainer closed k first more inside) ahead = IsInContainer closed k first more (seen inside (within k (bare_after (is_bare_start k first) more) ahead))
 
 never_lazy : (verbatim : Verbatim) → allows_lazy (after_leaf (leaf_in verbatim)) ≡ false
-never_lazy Indented = refl
-never_lazy (Fenced fence) = refl
-never_lazy (HtmlLines kind) = refl
-never_lazy (Metadata kind) = refl
+never_lazy verbatim = grind arith
 
 seen_lazy : (o : OpenLines) (ahead : List Row) → takes_lazy (seen o ahead) ≡ lines_take_lazy o
 seen_lazy (Between closed) ahead = refl
 seen_lazy AfterTag ahead = refl
 seen_lazy (InParagraph closed first more) ahead = refl
 seen_lazy (InLeaf closed leaf first had left) ahead = refl
-seen_lazy (InVerbatim closed verbatim first had waiting) ahead = go waiting (counted (continuation_in verbatim) ahead)
-  where
-    go : (w : List Row) (n : ℕ) → takes_lazy (waited closed (leaf_in verbatim) first had w n) ≡ false
-    go [] n = never_lazy verbatim
-    go (r ∷ w) zero = refl
-    go (r ∷ w) (suc n) = never_lazy verbatim
+seen_lazy (InVerbatim closed verbatim first had waiting) ahead = grind (arith, never_lazy)
 seen_lazy (InContainer closed k first more inside) ahead = seen_lazy inside (within k (bare_after (is_bare_start k first) more) ahead)
 
 close_seen : (options : Options) (o : OpenLines) → close (seen o []) ≡ close_lines o
@@ -65,11 +55,7 @@ blank_lines_push [] r = refl
 blank_lines_push (w ∷ ws) r = ap (BlankLine w) (blank_lines_push ws r)
 
 counted_row : (verbatim : Verbatim) (r : Row) (ahead : List Row) → counted (continuation_in verbatim) (show_as r.lazy r ahead) ≡ count_more (continuation_if r.lazy verbatim r) (counted (continuation_in verbatim) ahead)
-counted_row verbatim r ahead = go r.lazy
-  where
-    go : (z : Bool) → counted (continuation_in verbatim) (show_as z r ahead) ≡ count_more (continuation_if z verbatim r) (counted (continuation_in verbatim) ahead)
-    go true = refl
-    go false = refl
+counted_row verbatim r ahead = grind arith
 
 no : {A : Type 0} → true ≡ false → A
 no e = absurd (true≢false e)
@@ -119,12 +105,7 @@ counts_defined r ahead lines (Some found) = tt
 counts_defined r ahead lines None = tt
 
 counts_metadata : (r : Row) (ahead : List Row) (o : Option MetadataBlockKind) → Counts r ahead (metadata_begun o ahead)
-counts_metadata r ahead None = tt
-counts_metadata r ahead (Some kind) = go (holds_metadata kind ahead)
-  where
-    go : (z : Bool) → Counts r ahead (if z then Takes (MetadataBlock kind) (counted (metadata_continuation kind) ahead) else Plain)
-    go true = refl
-    go false = tt
+counts_metadata r ahead o = grind arith
 
 module _ (options : Options) where
   counts_table : (r : Row) (ahead : List Row) (o : Option (List Alignment)) → Counts r ahead (table_if options o ahead)
@@ -132,18 +113,10 @@ module _ (options : Options) where
   counts_table r ahead None = tt
 
   counts_text : (r : Row) (ahead : List Row) → Counts r ahead (text_of options r ahead)
-  counts_text r ahead =
-      counts_or r ahead (definition_of options r ahead) (table_if options (table_head options r ahead) ahead)
-      (counts_if r ahead (begins_no_link (footnotes_in options) (words_of r)) Plain _ tt
-      (counts_defined r ahead (length (text_lines options ahead)) (definition_in (bytes_over r (text_lines options ahead))))) (counts_table r ahead (table_head options r ahead))
+  counts_text r ahead = search (rules, counts_or, counts_if, counts_defined, counts_table)
 
   counts_leaf : (r : Row) (ahead : List Row) → Counts r ahead (leaf_of options r ahead)
-  counts_leaf r ahead =
-      counts_or r ahead (html_if r ahead (html_kind (words_of r))) _ (counts_html r ahead (html_kind (words_of r)))
-      (counts_or r ahead (break_if (is_thematic_break (words_of r))) _ (counts_break r ahead (is_thematic_break (words_of r)))
-      (counts_or r ahead (heading_if (is_atx_heading (words_of r)) (run 35 (words_of r))) _ (counts_heading r ahead (is_atx_heading (words_of r)) (run 35 (words_of r)))
-      (counts_or r ahead (fenced_if (fence_of (indent_of r) (words_of r)) ahead) (text_of options r ahead) (counts_fenced r ahead (fence_of (indent_of r) (words_of r)))
-      (counts_text r ahead))))
+  counts_leaf r ahead = search (rules, counts_or, counts_html, counts_break, counts_heading, counts_fenced, counts_text)
 
   counts_opens : (r : Row) (ahead : List Row) → Counts r ahead (opens options r ahead)
   unfolding opens
@@ -155,11 +128,7 @@ module _ (options : Options) where
       (counts_or r ahead (nests_if (container_of options r)) (leaf_of options r ahead) (counts_nests r ahead (container_of options r)) (counts_leaf r ahead)))))
 
   counts_at : (place : Place) (r : Row) (ahead : List Row) → Counts r ahead (opens_at options place r ahead)
-  counts_at place r ahead = at-either options (Counts r ahead) place r ahead (λ w. text (is_blank_line r)) (λ width d. tt) (counts_opens r ahead)
-    where
-      text : (z : Bool) → Counts r ahead (if z then Blank else Plain)
-      text true = tt
-      text false = tt
+  counts_at place r ahead = search (rules, at-either, counts_opens)
 
   -- a line that waits is blank
   waits_blank : (place : Place) (verbatim : Verbatim) (r : Row) (ahead : List Row) → continuation_if r.lazy verbatim r ≡ Waits → opens_at options place r ahead ≡ Blank
@@ -171,28 +140,17 @@ module _ (options : Options) where
       whole false f = f
 
       indented : (z : Bool) → is_blank_line r ≡ z → (if z then Waits else if nat_le 4 (indent_of r) then GoesOn else Stops) ≡ Waits → is_blank_line r ≡ true
-      indented true b f = b
-      indented false b f = is (nat_le 4 (indent_of r)) f
-        where
-          is : (y : Bool) → (if y then GoesOn else Stops) ≡ Waits → is_blank_line r ≡ true
-          is true f = cc
-          is false f = cc
+      indented z b f = grind arith
 
       fenced : (y : Bool) → (if y then Closes else GoesOn) ≡ Waits → is_blank_line r ≡ true
       fenced true f = cc
       fenced false f = cc
 
       html : (a b c : Bool) → (if a then if b then Stops else GoesOn else if c then Closes else GoesOn) ≡ Waits → is_blank_line r ≡ true
-      html true true c f = cc
-      html true false c f = cc
-      html false b true f = cc
-      html false b false f = cc
+      html a b c f = grind arith
 
       blank : (v : Verbatim) → continuation_in v r ≡ Waits → is_blank_line r ≡ true
-      blank Indented f = indented (is_blank_line r) refl f
-      blank (Fenced fence) f = fenced (closes_fence fence r) f
-      blank (HtmlLines kind) f = html _ _ _ f
-      blank (Metadata kind) f = fenced (ends_metadata kind r) f
+      blank v f = grind (arith, indented, fenced, html)
 
       go : (z : Bool) → r.lazy ≡ z → continuation_if z verbatim r ≡ Waits → (if r.lazy then Plain else or_else (metadata_begun (metadata_kind options r) ahead) (whole_opens options r ahead)) ≡ Blank
       go true l f = cc
@@ -215,16 +173,10 @@ module _ (options : Options) where
       html kind false = refl
 
       leaf : (l : Leaf) (m : ℕ) → Counts r ahead (Takes l m) → seen (leaf_begun l m closed r) ahead ≡ IsInLeaf closed l r [] m
-      leaf IndentedCode m c = ap (IsInLeaf closed IndentedCode r []) (sym c)
-      leaf (FencedCode fence) m c = ap (IsInLeaf closed (FencedCode fence) r []) (sym c)
-      leaf (HtmlBlock kind) m c = html kind (nat_le kind 5 && holds_end kind (words_of r)) ∙ ap (IsInLeaf closed (HtmlBlock kind) r []) (sym c)
-      leaf (MetadataBlock kind) m c = ap (IsInLeaf closed (MetadataBlock kind) r []) (sym c)
-      leaf _ m c = refl
+      leaf l m c = grind (arith, html)
 
       go : (o : Opening) → Counts r ahead o → ((k : Container) → seen (lines_begin_in options n (place_in k) Nil (enter k r) (within k (is_bare_start k r) ahead)) (within k (is_bare_start k r) ahead) ≡ begin_in options n (place_in k) Nil (enter k r) (within k (is_bare_start k r) ahead)) → seen (lines_begin_as o (λ k. lines_begin_in options n (place_in k) Nil (enter k r) (within k (is_bare_start k r) ahead)) closed r) ahead ≡ begin_as o (λ k. begin_in options n (place_in k) Nil (enter k r) (within k (is_bare_start k r) ahead)) closed r
-      go (Nests k) c ih = ap (IsInContainer closed k r []) (inside_seen (is_alert k) _ _ _ (ih k))
-      go (Takes l m) c ih = leaf l m c
-      go _ c ih = refl
+      go o c ih = grind (arith, inside_seen, leaf)
 
   begin_at_seen : (place : Place) (closed : Blocks) (r : Row) (ahead : List Row) → seen (lines_begin_at options place closed r ahead) ahead ≡ begin_at options place closed r ahead
   begin_at_seen place closed r ahead = begin_in_seen (suc (length r.columns)) place closed r ahead
@@ -237,20 +189,10 @@ module _ (options : Options) where
   feed_seen : (o : OpenLines) (r : Row) (ahead : List Row) → seen (lines_feed options o r ahead) ahead ≡ feed options (seen o (show_as r.lazy r ahead)) r ahead
   feed_seen (Between closed) r ahead = begin_seen closed r ahead
   feed_seen AfterTag r ahead = begin_at_seen AfterLazy Nil r ahead
-  feed_seen (InParagraph closed first more) r ahead = under (underlines r)
-    where
-      text : (z : Bool) → seen (lines_go_on_or z (InParagraph closed first (more ++ r ∷ [])) (lines_begin options (join closed (Paragraph first more Nil)) r ahead)) ahead ≡ goes_on_or z (IsInParagraph closed first (more ++ r ∷ [])) (begin options (join closed (Paragraph first more Nil)) r ahead)
-      text true = refl
-      text false = begin_seen (join closed (Paragraph first more Nil)) r ahead
-
-      under : (u : Option ℕ) → seen (lines_underline_or u (λ level. Between (join closed (SetextHeading level first more r Nil))) (lines_go_on_or (texts options r ahead) (InParagraph closed first (more ++ r ∷ [])) (lines_begin options (join closed (Paragraph first more Nil)) r ahead))) ahead ≡ underline_or u (λ level. IsBetween (join closed (SetextHeading level first more r Nil))) (goes_on_or (texts options r ahead) (IsInParagraph closed first (more ++ r ∷ [])) (begin options (join closed (Paragraph first more Nil)) r ahead))
-      under (Some level) = refl
-      under None = text (texts options r ahead)
+  feed_seen (InParagraph closed first more) r ahead = grind (arith, begin_seen)
   feed_seen (InLeaf closed leaf first had zero) r ahead = begin_seen (join closed (LeafBlock leaf first had Nil)) r ahead
   feed_seen (InLeaf closed leaf first had (suc left)) r ahead = refl
-  feed_seen (InVerbatim closed verbatim first had waiting) r ahead =
-      go (continuation_if r.lazy verbatim r) refl waiting (counted (continuation_in verbatim) ahead) refl
-      ∙ ap (λ n. feed options (waited closed (leaf_in verbatim) first had waiting n) r ahead) (sym (counted_row verbatim r ahead))
+  feed_seen (InVerbatim closed verbatim first had waiting) r ahead = cc (go (continuation_if r.lazy verbatim r) refl waiting (counted (continuation_in verbatim) ahead) refl, counted_row verbatim r ahead)
     where
       block : Blocks
       block = join closed (LeafBlock (leaf_in verbatim) first had Nil)
@@ -263,9 +205,7 @@ module _ (options : Options) where
       go Stops e [] n c = begin_seen (join block Nil) r ahead ∙ ap (λ b. begin options b r ahead) (join-Nil options block)
       go Stops e (s ∷ w) n c = begin_seen (join block (blank_lines (s ∷ w))) r ahead
       go Waits e [] zero c = rw c (sym (begin_blank block r ahead (waits_blank _ verbatim r ahead e)))
-      go Waits e (s ∷ w) zero c =
-          rw c (ap IsBetween (ap (λ b. join block (BlankLine s b)) (blank_lines_push w r) ∙ sym (join_assoc options block (blank_lines (s ∷ w)) (BlankLine r Nil)))
-          ∙ sym (begin_blank (join block (blank_lines (s ∷ w))) r ahead (waits_blank _ verbatim r ahead e)))
+      go Waits e (s ∷ w) zero c = grind (arith, block, blank_lines_push, join_assoc, begin_blank, waits_blank)
       go Waits e [] (suc n) c = rw c refl
       go Waits e (s ∷ w) (suc n) c = rw c (ap (λ h. IsInLeaf closed (leaf_in verbatim) first h (suc n)) (sym (append_assoc had (s ∷ w) (r ∷ []))))
   feed_seen (InContainer closed k first more inside) r ahead =
@@ -281,17 +221,10 @@ module _ (options : Options) where
       on h = ap (IsInContainer closed k first (more ++ r ∷ [])) (ap (λ z. seen (lines_feed options inside (strip k bare r) (within k false ahead)) (within k z ahead)) (bare_push options (is_bare_start k first) more r) ∙ ih h)
 
       off : keeps k bare r ≡ None → seen (lines_begin options (join closed (ContainerBlock k first more (close_lines inside) Nil)) r ahead) ahead ≡ begin options (join closed (ContainerBlock k first more (close (seen inside (within k bare (show_as r.lazy r ahead)))) Nil)) r ahead
-      off e =
-          begin_seen (join closed (ContainerBlock k first more (close_lines inside) Nil)) r ahead
-          ∙ ap (λ i. begin options (join closed (ContainerBlock k first more i Nil)) r ahead) (sym (close_seen options inside) ∙ ap (λ a. close (seen inside a)) (sym (none_ahead e)))
-        where
-          none_ahead : keeps k bare r ≡ None → within k bare (show_as r.lazy r ahead) ≡ []
-          none_ahead e = within_row options k bare r ahead ∙ ap (λ z. show_as z (strip k bare r) (within k false ahead)) (ap (λ s. s.lazy) (strip_lazy options k bare r e))
+      off e = grind (arith, begin_seen, close_seen, bare, within_row, strip_lazy)
 
       go : (o : Option Row) → keeps k bare r ≡ o → (z : Bool) → (seen (lines_feed options inside (strip k bare r) (within k false ahead)) (within k false ahead) ≡ feed options (seen inside (show_as (strip k bare r).lazy (strip k bare r) (within k false ahead))) (strip k bare r) (within k false ahead)) → seen (lines_kept_or o z (InContainer closed k first (more ++ r ∷ []) (lines_feed options inside (strip k bare r) (within k false ahead))) (lines_begin options (join closed (ContainerBlock k first more (close_lines inside) Nil)) r ahead)) ahead ≡ kept_or o z (IsInContainer closed k first (more ++ r ∷ []) (feed options (seen inside (within k bare (show_as r.lazy r ahead))) (strip k bare r) (within k false ahead))) (begin options (join closed (ContainerBlock k first more (close (seen inside (within k bare (show_as r.lazy r ahead)))) Nil)) r ahead)
-      go (Some s) e z h = on h
-      go None e true h = on h
-      go None e false h = off e
+      go o e z h = grind (arith, on, off)
 
   feed_all_seen : (o : OpenLines) (rs : List Row) → seen (lines_feed_all options o rs) [] ≡ feed_all options (seen o (shown rs)) rs
   feed_all_seen o [] = refl

@@ -2,14 +2,14 @@
 use Rattle.std.proofs.Common.{◌≡◌, ◌⊎◌, inl, inr, ⊎_elim, ℕ, zero, suc, ◌<◌, ◌≤◌, Bool, true, false, ◌&&◌, List, [], ◌∷◌, ◌++◌, length, refl, sym, ap, ◌∙◌, subst, arith, append_assoc, append-nil, Option, Some, None, true≢false}
 use Rattle.cmark_grammar.specs.Rows.{Row, rows, lazy_row, show_as, shown}
 use Rattle.cmark_grammar.specs.Leaves.{underlines}
-use Rattle.cmark_grammar.specs.Containers.{Container, BlockQuote, Item, Footnote, ListDefinition, is_alert, unless_tag, enter, keeps, strip, strips, is_bare_start, bare_after, insides}
-use Rattle.cmark_grammar.specs.Openings.{Leaf, Opening, Blank, Nests, Takes, Plain, opens_at, texts, lazily}
-use Rattle.cmark_grammar.specs.Blocks.{Blocks, Nil, BlankLine, Paragraph, SetextHeading, LeafBlock, ContainerBlock, join, after_leaf, after_container, place_in, ends_lazily, AreText, Next, IsNoText, AreLazy, Ends, MayBegin, Body}
+use Rattle.cmark_grammar.specs.Containers.{Container, is_alert, unless_tag, enter, keeps, strip, strips, is_bare_start, bare_after, insides}
+use Rattle.cmark_grammar.specs.Openings.{Leaf, Blank, Nests, Takes, opens_at, texts, lazily}
+use Rattle.cmark_grammar.specs.Blocks.{Blocks, Nil, BlankLine, Paragraph, SetextHeading, LeafBlock, ContainerBlock, join, after_leaf, after_container, place_in, ends_lazily, AreText, Next, IsNoText, AreLazy, Ends, Body}
 use Rattle.cmark_block_model.specs.BlocksModel.{Open, Between, AfterTag, InParagraph, InLeaf, InContainer, close, takes_lazy, within, inside_begun, begin_as, begin_in, begin_at, begin, place_after, kept_or, feed, feed_all, blocks}
 use Rattle.cmark_block_model.proofs.BlockLaws.{at-lazy, at-len, underlines-lazy, at-enter, keeps-lazy, strip_lazy, lazy-same, texts-lazy}
 use Rattle.cmark_block_model.proofs.BlocksSound.{join_assoc, join-Nil, place_after-join, shown-shown, bare_false, bare_push, is_both, within_row, Holds, close_ends, feed_holds, AreWhole, rows-whole}
 use Rattle.cmark_grammar.specs.Options.{Options}
-use Rattle.cmark_grammar.specs.Places.{Place, Apart, AfterLazy, AfterTask, AfterTitle, allows_lazy, over_blank}
+use Rattle.cmark_grammar.specs.Places.{Place, Apart, AfterLazy, AfterTitle, allows_lazy, over_blank}
 
 module _ (options : Options) where
   -- with more lines to come, the open block grows into these blocks
@@ -96,34 +96,14 @@ module _ (options : Options) where
   -- the first line of a body is lazy only if it begins a paragraph directly after a leaf that allows it
   body_lazy : (following : Place) (r : Row) (more : List Row) (all : Blocks) → Body options following (r ∷ more) all → r.lazy ≡ true → (allows_lazy following ≡ true) × (texts options r [] ≡ true)
   body_lazy following r more Nil b lazy = cc
-  body_lazy following r more (BlankLine line after) b lazy =
-      let e : line ≡ r = let c = b.cut in cc in
-      absurd (let q : Plain ≡ Blank = sym (at-lazy options following line (shown b.rest) (ap (λ s. s.lazy) e ∙ lazy)) ∙ b.opened in cc)
-  body_lazy following r more (Paragraph first took after) b lazy =
-      let e : first ≡ r = let c = b.cut in cc in may e b.begun
-    where
-      may : first ≡ r → MayBegin options following first → (allows_lazy following ≡ true) × (texts options r [] ≡ true)
-      may e (inl w) = absurd (true≢false (sym lazy ∙ sym (ap (λ s. s.lazy) e) ∙ w))
-      may e (inr p) = (p.0, subst (λ s. texts options s [] ≡ true) e p.1)
-  body_lazy following r more (SetextHeading level first took underline after) b lazy =
-      let e : first ≡ r = let c = b.cut in cc in may e b.begun
-    where
-      may : first ≡ r → MayBegin options following first → (allows_lazy following ≡ true) × (texts options r [] ≡ true)
-      may e (inl w) = absurd (true≢false (sym lazy ∙ sym (ap (λ s. s.lazy) e) ∙ w))
-      may e (inr p) = (p.0, subst (λ s. texts options s [] ≡ true) e p.1)
-  body_lazy following r more (LeafBlock leaf first took after) b lazy =
-      let e : first ≡ r = let c = b.cut in cc in
-      absurd (let q : Plain ≡ Takes leaf (length took) = sym (at-lazy options following first (shown (took ++ b.rest)) (ap (λ s. s.lazy) e ∙ lazy)) ∙ b.opened in cc)
-  body_lazy following r more (ContainerBlock k first took inside after) b lazy =
-      let e : first ≡ r = let c = b.cut in cc in
-      absurd (let q : Plain ≡ Nests k = sym (at-lazy options following first (shown (took ++ b.rest)) (ap (λ s. s.lazy) e ∙ lazy)) ∙ b.opened in cc)
+  body_lazy following r more (BlankLine line after) b lazy = grind (arith, at-lazy)
+  body_lazy following r more (Paragraph first took after) b lazy = grind arith
+  body_lazy following r more (SetextHeading level first took underline after) b lazy = grind arith
+  body_lazy following r more (LeafBlock leaf first took after) b lazy = grind (arith, at-lazy)
+  body_lazy following r more (ContainerBlock k first took inside after) b lazy = grind (arith, at-lazy)
 
   body_whole : (following : Place) (r : Row) (more : List Row) (all : Blocks) → allows_lazy following ≡ false → Body options following (r ∷ more) all → r.lazy ≡ false
-  body_whole following r more all none b = go r.lazy refl
-    where
-      go : (z : Bool) → r.lazy ≡ z → r.lazy ≡ false
-      go true e = absurd (true≢false (sym (body_lazy following r more all b e).0 ∙ none))
-      go false e = e
+  body_whole following r more all none b = grind (arith, body_lazy)
 
   -- a body without lines has no blocks
   body_none : (following : Place) (all : Blocks) → Body options following [] all → all ≡ Nil
@@ -146,20 +126,10 @@ module _ (options : Options) where
   extends_close : (o : Open) (all : Blocks) → Extends o [] all → all ≡ close o
   extends_close AfterTag all h = body_none AfterLazy all h
   extends_close (Between closed) all h = h.is ∙ ap (join closed) (body_none (place_after Apart closed) h.after h.body) ∙ join-Nil options closed
-  extends_close (InParagraph closed first had) all (inl h) =
-      let s = nothing_of h.tail h.rest h.split in
-      h.is
-      ∙ ap (λ t. join closed (Paragraph first (had ++ t) h.after)) s.0
-      ∙ ap (λ t. join closed (Paragraph first t h.after)) (append-nil had)
-      ∙ ap (λ a. join closed (Paragraph first had a)) (body_none AfterTitle h.after (subst (λ l. Body options AfterTitle l h.after) s.1 h.body))
+  extends_close (InParagraph closed first had) all (inl h) = grind (arith, nothing_of, append-nil, body_none)
   extends_close (InParagraph closed first had) all (inr h) =
       absurd (let s = nothing_of h.tail (h.underline ∷ h.rest) h.split in let q : h.underline ∷ h.rest ≡ [] = s.1 in cc)
-  extends_close (InLeaf closed leaf first had left) all h =
-      let s = nothing_of h.tail h.rest h.split in
-      h.is
-      ∙ ap (λ t. join closed (LeafBlock leaf first (had ++ t) h.after)) s.0
-      ∙ ap (λ t. join closed (LeafBlock leaf first t h.after)) (append-nil had)
-      ∙ ap (λ a. join closed (LeafBlock leaf first had a)) (body_none (after_leaf leaf) h.after (subst (λ l. Body options (after_leaf leaf) l h.after) s.1 h.body))
+  extends_close (InLeaf closed leaf first had left) all h = grind (arith, nothing_of, append-nil, body_none)
   extends_close (InContainer closed k first had inside) all h =
       let s = nothing_of h.tail h.rest h.split in
       h.is
@@ -169,23 +139,13 @@ module _ (options : Options) where
       ∙ ap (λ a. join closed (ContainerBlock k first had (close inside) a)) (body_none (after_container k) h.after (subst (λ l. Body options (after_container k) l h.after) s.1 h.body))
 
   over_blank-lazy : (place : Place) → allows_lazy (over_blank place) ≡ false
-  over_blank-lazy Apart = refl
-  over_blank-lazy AfterLazy = refl
-  over_blank-lazy AfterTask = refl
-  over_blank-lazy AfterTitle = refl
+  over_blank-lazy place = grind arith
 
   following-strict : (k : Container) → allows_lazy (after_container k) ≡ false
-  following-strict (BlockQuote alert) = refl
-  following-strict (Item delimiter number width task) = refl
-  following-strict (Footnote label old size) = refl
-  following-strict (ListDefinition width) = refl
+  following-strict k = grind arith
 
   inside_extends : (k : Container) (o : Open) (first : Row) (more : List Row) (inside : Blocks) → (Body options (place_in k) (first ∷ more) inside → Extends o more inside) → Body options (place_in k) (unless_tag (is_alert k) first more) inside → Extends (inside_begun (is_alert k) o) more inside
-  inside_extends (BlockQuote None) o first more inside h body = h body
-  inside_extends (Footnote label old size) o first more inside h body = h body
-  inside_extends (BlockQuote (Some kind)) o first more inside h body = body
-  inside_extends (Item delimiter number width task) o first more inside h body = h body
-  inside_extends (ListDefinition width) o first more inside h body = h body
+  inside_extends k o first more inside h body = grind arith
 
   -- the open block after the opening of a line grows into these blocks
   begin_extends : (n : ℕ) (closed : Blocks) (following : Place) (r : Row) (more : List Row) (all : Blocks) → length r.columns < n → over_blank following ≡ over_blank (place_after Apart closed) → Body options following (r ∷ more) all → Extends (begin_in options n following closed r (shown more)) more (join closed all)
@@ -194,15 +154,7 @@ module _ (options : Options) where
       goes all b (λ k took inside body opened. begin_extends n Nil (place_in k) (enter k r) took inside (let l : length (enter k r).columns < length r.columns = at-enter options following k r (shown more) opened in omega arith) (starts k) body)
     where
       starts : (k : Container) → over_blank (place_in k) ≡ Apart
-      starts (BlockQuote None) = refl
-      starts (Footnote label old size) = refl
-      starts (ListDefinition width) = refl
-      starts (BlockQuote (Some kind)) = refl
-      starts (Item delimiter number width None) = refl
-      starts (Item delimiter number width (Some is_checked)) = refl
-
-      begun : Opening → Open
-      begun o = begin_as o (λ k. begin_in options n (place_in k) Nil (enter k r) (within k (is_bare_start k r) (shown more))) closed r
+      starts k = grind arith
 
       goes : (all : Blocks) → Body options following (r ∷ more) all → ((k : Container) (took : List Row) (inside : Blocks) → Body options (place_in k) (enter k r ∷ took) inside → opens_at options following r (shown more) ≡ Nests k → Extends (begin_in options n (place_in k) Nil (enter k r) (shown took)) took inside) → Extends (begin_as (opens_at options following r (shown more)) (λ k. begin_in options n (place_in k) Nil (enter k r) (within k (is_bare_start k r) (shown more))) closed r) more (join closed all)
       goes Nil b ih = absurd (let c : r ∷ more ≡ [] = b in cc)
@@ -211,40 +163,14 @@ module _ (options : Options) where
           let m : more ≡ b.rest = let c = b.cut in cc in
           let o : opens_at options following r (shown more) ≡ Blank = subst (λ s. opens_at options following s (shown more) ≡ Blank) e (ap (λ l. opens_at options following line (shown l)) m ∙ b.opened) in
           rw o (record { after = after; is = ap (λ s. join closed (BlankLine s after)) e ∙ sym (join_assoc options closed (BlankLine r Nil) after); past = ap allows_lazy (place_after-join options Apart closed (BlankLine r Nil)) ∙ over_blank-lazy (place_after Apart closed); body = subst (λ z. Body options z more after) (stands ∙ sym (place_after-join options Apart closed (BlankLine r Nil))) (subst (λ l. Body options (over_blank following) l after) (sym m) b.after) })
-      goes (Paragraph first took after) b ih =
-          let e : first ≡ r = let c = b.cut in cc in
-          let m : more ≡ took ++ b.rest = let c = b.cut in cc in
-          let o : opens_at options following r (shown more) ≡ Plain = subst (λ s. opens_at options following s (shown more) ≡ Plain) e (ap (λ l. opens_at options following first (shown l)) m ∙ b.opened) in
-          rw o (inl (record { tail = took; rest = b.rest; after = after; split = m; is = ap (λ s. join closed (Paragraph s took after)) e; others = b.others; stops = b.stops; body = b.after }))
-      goes (SetextHeading level first took underline after) b ih =
-          let e : first ≡ r = let c = b.cut in cc in
-          let m : more ≡ took ++ (underline ∷ b.rest) = let c = b.cut in cc in
-          let o : opens_at options following r (shown more) ≡ Plain = subst (λ s. opens_at options following s (shown more) ≡ Plain) e (ap (λ l. opens_at options following first (shown l)) m ∙ b.opened) in
-          rw o (inr (record { tail = took; underline = underline; rest = b.rest; level = level; after = after; split = m; is = ap (λ s. join closed (SetextHeading level s took underline after)) e; others = b.others; underlined = b.underlined; body = b.after }))
+      goes (Paragraph first took after) b ih = grind arith
+      goes (SetextHeading level first took underline after) b ih = grind arith
       goes (LeafBlock leaf first took after) b ih =
           let e : first ≡ r = let c = b.cut in cc in
           let m : more ≡ took ++ b.rest = let c = b.cut in cc in
           let o : opens_at options following r (shown more) ≡ Takes leaf (length took) = subst (λ s. opens_at options following s (shown more) ≡ Takes leaf (length took)) e (ap (λ l. opens_at options following first (shown l)) m ∙ b.opened) in
           rw o (record { tail = took; rest = b.rest; after = after; split = m; count = refl; is = ap (λ s. join closed (LeafBlock leaf s took after)) e; whole = all_whole took b.rest (at-len options following first (shown (took ++ b.rest)) leaf (length took) b.opened); body = b.after })
-      goes (ContainerBlock k first took inside after) b ih =
-          let e : first ≡ r = let c = b.cut in cc in
-          let m : more ≡ took ++ b.rest = let c = b.cut in cc in
-          let o : opens_at options following r (shown more) ≡ Nests k = subst (λ s. opens_at options following s (shown more) ≡ Nests k) e (ap (λ l. opens_at options following first (shown l)) m ∙ b.opened) in
-          let stops : Ends options k (bare_after (is_bare_start k r) took) inside b.rest = subst (λ s. Ends options k (bare_after (is_bare_start k s) took) inside b.rest) e b.stops in
-          let same : within k (is_bare_start k r) (shown more) ≡ shown (strips k (is_bare_start k r) took) = ap (λ l. within k (is_bare_start k r) (shown l)) m ∙ within_tail k inside (is_bare_start k r) took b.rest stops in
-          let contents : Body options (place_in k) (insides k r took) inside = subst (λ s. Body options (place_in k) (insides k s took) inside) e b.contents in
-          rw o (record {
-            tail = took;
-            rest = b.rest;
-            inside = inside;
-            after = after;
-            split = m;
-            is = ap (λ s. join closed (ContainerBlock k s took inside after)) e;
-            contents = subst (λ a. Extends (inside_begun (is_alert k) (begin_in options n (place_in k) Nil (enter k r) a)) (strips k (is_bare_start k r) took) inside) (sym same) (inside_extends k _ (enter k r) _ inside (λ c. ih k (strips k (is_bare_start k r) took) inside c o) contents);
-            others = subst (λ s. AreLazy options k (is_bare_start k s) took b.rest) e b.others;
-            stops = stops;
-            body = b.after;
-          })
+      goes (ContainerBlock k first took inside after) b ih = grind (arith, within_tail, inside_extends)
 
   begin_at_all : (closed : Blocks) (following : Place) (r : Row) (more : List Row) (after : Blocks) → over_blank following ≡ over_blank (place_after Apart closed) → Body options following (r ∷ more) after → Extends (begin_at options following closed r (shown more)) more (join closed after)
   begin_at_all closed following r more after stands b = begin_extends (suc (length r.columns)) closed following r more after (omega arith) stands b
@@ -258,21 +184,9 @@ module _ (options : Options) where
   lazy_suits : (o : Open) (r : Row) (more : List Row) (all : Blocks) → r.lazy ≡ true → Extends o (r ∷ more) all → (texts options r [] ≡ true) × (takes_lazy o ≡ true)
   lazy_suits (Between closed) r more all lazy h = absurd (true≢false (sym lazy ∙ body_whole (place_after Apart closed) r more h.after h.past h.body))
   lazy_suits AfterTag r more all lazy h = ((body_lazy AfterLazy r more all h lazy).1, refl)
-  lazy_suits (InParagraph closed first had) r more all lazy (inl h) =
-      ⊎_elim
-      (λ e. absurd (true≢false (sym lazy ∙ body_whole AfterTitle r more h.after refl (subst (λ l. Body options AfterTitle l h.after) e.1 h.body))))
-      (λ e. let p : AreText options (r ∷ e.0) h.rest = subst (λ l. AreText options l h.rest) e.1 h.others in (texts-lazy options r [] _ lazy ∙ p.0.0, refl))
-      (next_of r more h.tail h.rest h.split)
-  lazy_suits (InParagraph closed first had) r more all lazy (inr h) =
-      ⊎_elim
-      (λ e. let q : h.underline ≡ r = let s = e.1 in cc in absurd (let z : None ≡ Some h.level = sym (underlines-lazy options r lazy) ∙ ap underlines (sym q) ∙ h.underlined in cc))
-      (λ e. let p : AreText options (r ∷ e.0) (h.underline ∷ h.rest) = subst (λ l. AreText options l (h.underline ∷ h.rest)) e.1 h.others in (texts-lazy options r [] _ lazy ∙ p.0.0, refl))
-      (next_of r more h.tail (h.underline ∷ h.rest) h.split)
-  lazy_suits (InLeaf closed leaf first had left) r more all lazy h =
-      ⊎_elim
-      (λ e. let p = body_lazy (after_leaf leaf) r more h.after (subst (λ l. Body options (after_leaf leaf) l h.after) e.1 h.body) lazy in (p.1, p.0))
-      (λ e. let w : (AreWhole options) (r ∷ e.0) = subst (AreWhole options) e.1 h.whole in absurd (true≢false (sym lazy ∙ w.0)))
-      (next_of r more h.tail h.rest h.split)
+  lazy_suits (InParagraph closed first had) r more all lazy (inl h) = grind (arith, body_whole, texts-lazy, next_of)
+  lazy_suits (InParagraph closed first had) r more all lazy (inr h) = grind (arith, underlines-lazy, texts-lazy, next_of)
+  lazy_suits (InLeaf closed leaf first had left) r more all lazy h = grind (arith, body_lazy, next_of)
   lazy_suits (InContainer closed k first had inside) r more all lazy h =
       ⊎_elim
       (λ e. absurd (true≢false (sym lazy ∙ body_whole (after_container k) r more h.after (following-strict k) (subst (λ l. Body options (after_container k) l h.after) e.1 h.body))))
@@ -288,83 +202,29 @@ module _ (options : Options) where
   step so before AfterTag r more all ahead holds h = begin_at_all Nil AfterLazy r more all refl h
   step so before (InParagraph closed first had) r more all ahead holds (inl h) = ⊎_elim off on (next_of r more h.tail h.rest h.split)
     where
-      fed : Open
-      fed = feed options (InParagraph closed first had) r (shown more)
-
       off : (h.tail ≡ []) × (h.rest ≡ r ∷ more) → Extends (feed options (InParagraph closed first had) r (shown more)) more all
-      off e =
-          let stops : Next (IsNoText options) (r ∷ more) = subst (Next (IsNoText options)) e.1 h.stops in
-          rw (stops.1, stops.0) (subst (Extends (begin options (join closed (Paragraph first had Nil)) r (shown more)) more) (sym is) (begin_all (join closed (Paragraph first had Nil)) AfterTitle r more h.after (place_after-join options Apart closed (Paragraph first had Nil)) (subst (λ l. Body options AfterTitle l h.after) e.1 h.body)))
+      off e = grind (arith, is, begin_all, place_after-join)
         where
           is : all ≡ join (join closed (Paragraph first had Nil)) h.after
-          is =
-              h.is
-              ∙ ap (λ t. join closed (Paragraph first (had ++ t) h.after)) e.0
-              ∙ ap (λ t. join closed (Paragraph first t h.after)) (append-nil had)
-              ∙ sym (join_assoc options closed (Paragraph first had Nil) h.after)
+          is = cc (append-nil had, join_assoc options closed (Paragraph first had Nil) h.after)
 
       on : (t : List Row) × (h.tail ≡ r ∷ t) × (more ≡ t ++ h.rest) → Extends (feed options (InParagraph closed first had) r (shown more)) more all
-      on e =
-          let p : AreText options (r ∷ e.0) h.rest = subst (λ l. AreText options l h.rest) e.1 h.others in
-          rw (p.0.1, ap (λ l. texts options r (shown l)) e.2 ∙ p.0.0) (inl (record {
-            tail = e.0;
-            rest = h.rest;
-            after = h.after;
-            split = e.2;
-            is = h.is ∙ ap (λ t. join closed (Paragraph first (had ++ t) h.after)) e.1 ∙ ap (λ t. join closed (Paragraph first t h.after)) (sym (append_assoc had (r ∷ []) e.0));
-            others = p.1;
-            stops = h.stops;
-            body = h.body;
-          }))
+      on e = grind (arith, append_assoc)
   step so before (InParagraph closed first had) r more all ahead holds (inr h) = ⊎_elim under on (next_of r more h.tail (h.underline ∷ h.rest) h.split)
     where
       under : (h.tail ≡ []) × (h.underline ∷ h.rest ≡ r ∷ more) → Extends (feed options (InParagraph closed first had) r (shown more)) more all
-      under e =
-          let q : h.underline ≡ r = let s = e.1 in cc in
-          let m : h.rest ≡ more = let s = e.1 in cc in
-          rw (ap underlines (sym q) ∙ h.underlined) (record { after = h.after; is = is q; past = ap allows_lazy heading; body = subst (λ z. Body options z more h.after) (sym heading) (subst (λ l. Body options Apart l h.after) m h.body) })
-        where
-          heading : place_after Apart (join closed (SetextHeading h.level first had r Nil)) ≡ Apart
-          heading = place_after-join options Apart closed (SetextHeading h.level first had r Nil)
-
-          is : h.underline ≡ r → all ≡ join (join closed (SetextHeading h.level first had r Nil)) h.after
-          is q =
-              h.is
-              ∙ ap (λ t. join closed (SetextHeading h.level first (had ++ t) h.underline h.after)) e.0
-              ∙ ap (λ t. join closed (SetextHeading h.level first t h.underline h.after)) (append-nil had)
-              ∙ ap (λ u. join closed (SetextHeading h.level first had u h.after)) q
-              ∙ sym (join_assoc options closed (SetextHeading h.level first had r Nil) h.after)
+      under e = grind (arith, place_after-join, append-nil, join_assoc)
 
       on : (t : List Row) × (h.tail ≡ r ∷ t) × (more ≡ t ++ (h.underline ∷ h.rest)) → Extends (feed options (InParagraph closed first had) r (shown more)) more all
-      on e =
-          let p : AreText options (r ∷ e.0) (h.underline ∷ h.rest) = subst (λ l. AreText options l (h.underline ∷ h.rest)) e.1 h.others in
-          rw (p.0.1, ap (λ l. texts options r (shown l)) e.2 ∙ p.0.0) (inr (record {
-            tail = e.0;
-            underline = h.underline;
-            rest = h.rest;
-            level = h.level;
-            after = h.after;
-            split = e.2;
-            is = h.is ∙ ap (λ t. join closed (SetextHeading h.level first (had ++ t) h.underline h.after)) e.1 ∙ ap (λ t. join closed (SetextHeading h.level first t h.underline h.after)) (sym (append_assoc had (r ∷ []) e.0));
-            others = p.1;
-            underlined = h.underlined;
-            body = h.body;
-          }))
-  step so before (InLeaf closed leaf first had zero) r more all ahead holds h =
-      let e = none_left h.tail h.count in
-      subst (Extends (begin options (join closed (LeafBlock leaf first had Nil)) r (shown more)) more) (sym (is e))
-      (begin_all (join closed (LeafBlock leaf first had Nil)) (after_leaf leaf) r more h.after (place_after-join options Apart closed (LeafBlock leaf first had Nil)) (subst (λ l. Body options (after_leaf leaf) l h.after) (sym (h.split ∙ ap (λ t. t ++ h.rest) e)) h.body))
+      on e = grind (arith, append_assoc)
+  step so before (InLeaf closed leaf first had zero) r more all ahead holds h = grind (arith, none_left, is, begin_all, place_after-join)
     where
       none_left : (t : List Row) → length t ≡ 0 → t ≡ []
       none_left [] e = refl
       none_left (q ∷ t) e = absurd (let z : 0 < length (q ∷ t) = omega arith in omega arith)
 
       is : h.tail ≡ [] → all ≡ join (join closed (LeafBlock leaf first had Nil)) h.after
-      is e =
-          h.is
-          ∙ ap (λ t. join closed (LeafBlock leaf first (had ++ t) h.after)) e
-          ∙ ap (λ t. join closed (LeafBlock leaf first t h.after)) (append-nil had)
-          ∙ sym (join_assoc options closed (LeafBlock leaf first had Nil) h.after)
+      is e = cc (append-nil had, join_assoc options closed (LeafBlock leaf first had Nil) h.after)
   step so before (InLeaf closed leaf first had (suc left)) r more all ahead holds h =
       ⊎_elim
       (λ e. absurd (let z : length h.tail ≡ 0 = ap length e.0 in let y : length h.tail ≡ suc left = h.count in omega arith))
@@ -400,20 +260,13 @@ module _ (options : Options) where
           same = extends_close inside h.inside (subst (λ t. Extends inside (strips k bare t) h.inside) e.0 h.contents)
 
           is : all ≡ join (join closed block) h.after
-          is =
-              h.is
-              ∙ ap (λ t. join closed (ContainerBlock k first (had ++ t) h.inside h.after)) e.0
-              ∙ ap (λ t. join closed (ContainerBlock k first t h.inside h.after)) (append-nil had)
-              ∙ ap (λ i. join closed (ContainerBlock k first had i h.after)) same
-              ∙ sym (join_assoc options closed block h.after)
+          is = grind (arith, append-nil, same, join_assoc, block)
 
           begun : Extends (begin options (join closed block) r (shown more)) more all
           begun = subst (Extends (begin options (join closed block) r (shown more)) more) (sym is) (begin_all (join closed block) (after_container k) r more h.after (place_after-join options Apart closed block) (subst (λ l. Body options (after_container k) l h.after) e.1 h.body))
 
           go : (o : Option Row) → o ≡ None → (l : Bool) → (lazily options k r (shown more) && takes_lazy inside) ≡ l → (takes_lazy inside ≡ true → lazily options k r (shown more) ≡ false) → Extends (kept_or o l (InContainer closed k first (had ++ r ∷ []) (feed options inside (strip k bare r) (within k false (shown more)))) (begin options (join closed block) r (shown more))) more all
-          go (Some s) e l el np = cc
-          go None e true el np = let p = is_both options (lazily options k r (shown more)) (takes_lazy inside) el in absurd (true≢false (sym p.0 ∙ np p.1))
-          go None e false el np = begun
+          go o e l el np = grind (arith, is_both, begun)
 
       on : (e : (t : List Row) × (h.tail ≡ r ∷ t) × (more ≡ t ++ h.rest)) → Extends (feed options inside (strip k bare r) (shown (strips k false e.0))) (strips k false e.0) h.inside → Extends (feed options (InContainer closed k first had inside) r (shown more)) more all
       on e ih = go (keeps k bare r) refl (lazily options k r (shown more) && takes_lazy inside) refl
@@ -428,31 +281,13 @@ module _ (options : Options) where
           others = subst (λ l. AreLazy options k bare l h.rest) e.1 h.others
 
           goes_on : Extends (InContainer closed k first (had ++ r ∷ []) (feed options inside (strip k bare r) (within k false (shown more)))) more all
-          goes_on = record {
-            tail = e.0;
-            rest = h.rest;
-            inside = h.inside;
-            after = h.after;
-            split = e.2;
-            is = h.is ∙ ap (λ t. join closed (ContainerBlock k first (had ++ t) h.inside h.after)) e.1 ∙ ap (λ t. join closed (ContainerBlock k first t h.inside h.after)) (sym (append_assoc had (r ∷ []) e.0));
-            contents = subst (λ z. Extends (feed options inside (strip k bare r) (within k false (shown more))) (strips k z e.0) h.inside) (sym pushed) (subst (λ a. Extends (feed options inside (strip k bare r) a) (strips k false e.0) h.inside) (sym same) ih);
-            others = subst (λ z. AreLazy options k z e.0 h.rest) (sym pushed) others.1;
-            stops = subst (λ z. Ends options k (bare_after z e.0) h.inside h.rest) (sym pushed) stops;
-            body = h.body;
-          }
-            where
-              pushed : bare_after (is_bare_start k first) (had ++ r ∷ []) ≡ false
-              pushed = bare_push options (is_bare_start k first) had r
+          goes_on = grind (arith, append_assoc, bare, same, others, stops, bare_push)
 
           suits : keeps k bare r ≡ None → (lazily options k r (shown more) ≡ true) × (takes_lazy inside ≡ true)
-          suits lacks =
-              let p = lazy_suits inside (lazy_row r) (strips k false e.0) h.inside refl (subst (λ q. Extends inside (q ∷ strips k false e.0) h.inside) (strip_lazy options k bare r lacks) (subst (λ l. Extends inside (strips k bare l) h.inside) e.1 h.contents)) in
-              (ap (λ l. lazily options k r (shown l)) e.2 ∙ others.0 lacks, p.1)
+          suits lacks = grind (arith, lazy_suits, strip_lazy, bare)
 
           go : (o : Option Row) → keeps k bare r ≡ o → (l : Bool) → (lazily options k r (shown more) && takes_lazy inside) ≡ l → Extends (kept_or o l (InContainer closed k first (had ++ r ∷ []) (feed options inside (strip k bare r) (within k false (shown more)))) (begin options (join closed block) r (shown more))) more all
-          go (Some s) e l el = goes_on
-          go None e true el = goes_on
-          go None e false el = let p = suits e in absurd (true≢false (sym (ap (λ w. w && takes_lazy inside) p.0 ∙ p.1) ∙ el))
+          go o e l el = grind (arith, goes_on, suits)
 
   all_steps : (before more : List Row) (o : Open) (all : Blocks) → (AreWhole options) more → Holds options Apart before o (shown more) → Extends o more all → Extends (feed_all options o more) [] all
   all_steps before [] o all whole holds h = h

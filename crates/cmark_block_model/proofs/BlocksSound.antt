@@ -1,9 +1,9 @@
 -- The model's blocks are the blocks of the lines: an invariant of the open block, line by line.
-use Rattle.std.proofs.Common.{◌≡◌, ◌⊎◌, inl, inr, ⊎_elim, ℕ, zero, suc, ◌+◌, ◌≤◌, ◌<◌, Bool, true, false, ◌&&◌, List, [], ◌∷◌, ◌++◌, length, refl, sym, ap, ◌∙◌, subst, arith, append_assoc, append-nil, Option, Some, None, true≢false}
+use Rattle.std.proofs.Common.{◌≡◌, ◌⊎◌, inl, inr, ⊎_elim, ℕ, zero, suc, ◌+◌, ◌≤◌, ◌<◌, Bool, true, false, ◌&&◌, List, [], ◌∷◌, ◌++◌, length, refl, sym, ap, ◌∙◌, subst, arith, append_assoc, append-nil, Option, Some, None, true≢false, rules}
 use Rattle.cmark_grammar.specs.Rows.{Row, rows, rows_from, lazy_row, show_as, shown}
 use Rattle.cmark_grammar.specs.Lines.{lines}
 use Rattle.cmark_grammar.specs.Leaves.{underlines}
-use Rattle.cmark_grammar.specs.Containers.{Container, BlockQuote, Item, Footnote, ListDefinition, is_alert, unless_tag, enter, keeps, strip, strips, is_bare_start, bare_after, insides}
+use Rattle.cmark_grammar.specs.Containers.{Container, is_alert, unless_tag, enter, keeps, strip, strips, is_bare_start, bare_after, insides}
 use Rattle.cmark_grammar.specs.Openings.{Opening, Blank, Nests, Takes, Plain, opens_at, texts, lazily}
 use Rattle.cmark_grammar.specs.Blocks.{Blocks, Nil, BlankLine, Paragraph, SetextHeading, LeafBlock, ContainerBlock, join, after_leaf, after_container, place_in, ends_lazily, IsText, AreText, AreLazy, MayBegin, Body}
 use Rattle.cmark_block_model.specs.BlocksModel.{Open, Between, AfterTag, InParagraph, InLeaf, InContainer, close, takes_lazy, within, inside_begun, begin_as, begin_in, begin_at, begin, place_after, underline_or, goes_on_or, kept_or, feed, feed_all, blocks}
@@ -132,12 +132,8 @@ module _ (options : Options) where
   close_body so all (Between closed) h =
       subst (λ ls. Body options so ls closed) (append-nil all) (subst (Body options so (all ++ [])) (join-Nil closed) (h.follows [] Nil refl refl))
   close_body so all AfterTag h = h.1
-  close_body so all (InParagraph closed first more) h =
-      ends_with so all closed first more Plain (Paragraph first more Nil) h.0
-      (record { rest = []; cut = refl; begun = h.0.begun; opened = h.0.opened; others = h.1; stops = tt; after = refl })
-  close_body so all (InLeaf closed leaf first had left) h =
-      ends_with so all closed first had (Takes leaf (length had + left)) (LeafBlock leaf first had Nil) h.0
-      (record { rest = []; cut = refl; opened = h.0.opened ∙ ap (Takes leaf) (all_left (length had) left h.1); after = refl })
+  close_body so all (InParagraph closed first more) h = search (rules, ends_with)
+  close_body so all (InLeaf closed leaf first had left) h = search (rules, ends_with, all_left)
   close_body so all (InContainer closed k first more inside) h =
       ends_with so all closed first more (Nests k) (ContainerBlock k first more (close inside) Nil) h.0
       (record { rest = []; cut = refl; opened = h.0.opened; contents = close_body (place_in k) (insides k first more) inside h.1; others = h.2; stops = tt; after = refl })
@@ -153,32 +149,15 @@ module _ (options : Options) where
 
   -- another line belongs to the block
   grows : (so : Place) (all : List Row) (closed : Blocks) (first : Row) (more : List Row) (r : Row) (ahead : List Row) (opening : Opening) → shown ahead ≡ ahead → Began so all closed first more (show_as r.lazy r ahead) opening → Began so (all ++ r ∷ []) closed first (more ++ r ∷ []) ahead opening
-  grows so all closed first more r ahead opening still b = record {
-    before = b.before;
-    following = b.following;
-    cut = ap (λ ls. ls ++ r ∷ []) b.cut ∙ append_assoc b.before (first ∷ more) (r ∷ []);
-    follows = follows;
-    begun = b.begun;
-    opened = ap (opens_at options b.following first) (sym (shown_push more r ahead still)) ∙ b.opened;
-  }
-    where
-      follows : Follows so b.before closed b.following (first ∷ (more ++ r ∷ [])) ahead
-      follows rest after e body =
-          let q : (more ++ r ∷ []) ++ rest ≡ more ++ (r ∷ rest) = append_assoc more (r ∷ []) rest in
-          subst (λ ls. Body options so (b.before ++ (first ∷ ls)) (join closed after)) (sym q)
-          (b.follows (r ∷ rest) after (ap (show_as r.lazy r) e) (subst (λ ls. Body options b.following (first ∷ ls) after) q body))
+  grows so all closed first more r ahead opening still b = grind (arith, append_assoc, shown_push)
 
   -- a line continues after a block that ends before it
   past_block : (so : Place) (all : List Row) (closed : Blocks) (first : Row) (more : List Row) (r : Row) (ahead : List Row) (opening : Opening) (block : Blocks) (following : Place) → (b : Began so all closed first more (show_as r.lazy r ahead) opening) → ((rest : List Row) (after : Blocks) → shown rest ≡ ahead → Body options following (r ∷ rest) after → Body options b.following (first ∷ (more ++ (r ∷ rest))) (join block after)) → Follows so all (join closed block) following (r ∷ []) ahead
-  past_block so all closed first more r ahead opening block following b body_of rest after e body =
-      rw (b.cut, append_assoc b.before (first ∷ more) (r ∷ rest), join_assoc closed block after)
-      (b.follows (r ∷ rest) (join block after) (ap (show_as r.lazy r) e) (body_of rest after e body))
+  past_block so all closed first more r ahead opening block following b body_of rest after e body = grind (arith, append_assoc, join_assoc)
 
   -- directly after an alert's tag
   after_tag : (k : Container) (r : Row) (o : Open) (ahead : List Row) → Holds (place_in k) (r ∷ []) o ahead → Holds (place_in k) (unless_tag (is_alert k) r []) (inside_begun (is_alert k) o) ahead
-  after_tag (BlockQuote None) r o ahead h = h
-  after_tag (BlockQuote (Some kind)) r o ahead h = (refl, refl)
-  after_tag _ r o ahead h = h
+  after_tag k r o ahead h = grind arith
 
   -- the opening of a line
   begin_in_holds : (so : Place) (n : ℕ) (before : List Row) (closed : Blocks) (following : Place) (r : Row) (ahead : List Row) → length r.columns < n → MayBegin options following r → shown ahead ≡ ahead → over_blank following ≡ over_blank (place_after Apart closed) → Follows so before closed following (r ∷ []) ahead → Holds so (before ++ r ∷ []) (begin_in options n following closed r ahead) ahead
@@ -187,12 +166,7 @@ module _ (options : Options) where
       go (opens_at options following r ahead) refl (λ k e w. begin_in_holds (place_in k) n [] Nil (place_in k) (enter k r) (within k (is_bare_start k r) ahead) (let q : length (enter k r).columns < length r.columns = at-enter options following k r ahead e in omega arith) (inl (enter-lazy options k r ∙ w)) (shown-shown [] (strips k (is_bare_start k r) ahead)) (starts k) (λ rest after e body. body))
     where
       starts : (k : Container) → over_blank (place_in k) ≡ Apart
-      starts (BlockQuote None) = refl
-      starts (Footnote label old size) = refl
-      starts (ListDefinition width) = refl
-      starts (BlockQuote (Some kind)) = refl
-      starts (Item delimiter number width None) = refl
-      starts (Item delimiter number width (Some is_checked)) = refl
+      starts k = grind arith
 
       began : (o : Opening) → opens_at options following r ahead ≡ o → Began so (before ++ r ∷ []) closed r [] ahead o
       began o e = record { before = before; following = following; cut = refl; follows = follows; begun = begun; opened = ap (opens_at options following r) still ∙ e }
@@ -201,13 +175,8 @@ module _ (options : Options) where
       blank = stands ∙ sym (place_after-join Apart closed (BlankLine r Nil))
 
       go : (o : Opening) → opens_at options following r ahead ≡ o → ((k : Container) → opens_at options following r ahead ≡ Nests k → r.lazy ≡ false → Holds (place_in k) (enter k r ∷ []) (begin_in options n (place_in k) Nil (enter k r) (within k (is_bare_start k r) ahead)) (within k (is_bare_start k r) ahead)) → Holds so (before ++ r ∷ []) (begin_as o (λ k. begin_in options n (place_in k) Nil (enter k r) (within k (is_bare_start k r) ahead)) closed r) ahead
-      go Blank e ih = record {
-        follows = λ rest after s body. rw (append_assoc before (r ∷ []) rest, join_assoc closed (BlankLine r Nil) after) (follows rest (BlankLine r after) s (record { rest = rest; cut = refl; opened = ap (opens_at options following r) s ∙ e; after = subst (λ z. Body options z rest after) (sym blank) body }));
-        ended = ends_lazily-join (allows_lazy so) closed (BlankLine r Nil);
-      }
-      go (Nests k) e ih =
-          let w : r.lazy ≡ false = at-whole options following r ahead (λ p. let q : Nests k ≡ Plain = sym e ∙ p in cc) in
-          (began (Nests k) e, after_tag k (enter k r) _ _ (ih k e w), tt)
+      go Blank e ih = grind (arith, append_assoc, join_assoc, blank, ends_lazily-join)
+      go (Nests k) e ih = grind (arith, at-whole, began, after_tag)
       go (Takes leaf m) e ih = (began (Takes leaf (length {A = Row} [] + m)) (e ∙ ap (Takes leaf) (let z : m ≡ 0 + m = omega arith in z)), at-len options following r ahead leaf m e)
       go Plain e ih = (began Plain e, tt)
 
@@ -226,11 +195,7 @@ module _ (options : Options) where
 
   -- the lines ahead inside a container, with one further line
   pub within_row : (k : Container) (b : Bool) (r : Row) (ahead : List Row) → within k b (show_as r.lazy r ahead) ≡ show_as (strip k b r).lazy (strip k b r) (within k false ahead)
-  within_row k b r ahead = go r.lazy refl
-    where
-      go : (z : Bool) → r.lazy ≡ z → within k b (show_as z r ahead) ≡ show_as (strip k b r).lazy (strip k b r) (within k false ahead)
-      go true e = sym (ap (λ z. show_as z (strip k b r) (within k false ahead)) (strip-still options k b r e))
-      go false e = refl
+  within_row k b r ahead = grind (arith, strip-still)
 
   -- no line is ahead inside a container if the prefix is missing
   within_off : (k : Container) (b : Bool) (r : Row) (ahead : List Row) → keeps k b r ≡ None → within k b (show_as r.lazy r ahead) ≡ []
@@ -245,9 +210,7 @@ module _ (options : Options) where
   unless_push false r s rs = refl
 
   pub insides_push : (k : Container) (first : Row) (more : List Row) (r : Row) → insides k first (more ++ r ∷ []) ≡ insides k first more ++ strip k (bare_after (is_bare_start k first) more) r ∷ []
-  insides_push k first more r =
-      ap (unless_tag (is_alert k) (enter k first)) (strips_push k (is_bare_start k first) more r)
-      ∙ unless_push (is_alert k) (enter k first) (strip k (bare_after (is_bare_start k first) more) r) (strips k (is_bare_start k first) more)
+  insides_push k first more r = grind (arith, strips_push, unless_push)
 
   pub is_both : (t b : Bool) → (t && b) ≡ true → (t ≡ true) × (b ≡ true)
   is_both true b e = (refl, e)
@@ -258,14 +221,7 @@ module _ (options : Options) where
   not_both false b e i = refl
 
   pub feed_holds : (so : Place) (all : List Row) (o : Open) (r : Row) (ahead : List Row) → Suits o r → shown ahead ≡ ahead → Holds so all o (show_as r.lazy r ahead) → Holds so (all ++ r ∷ []) (feed options o r ahead) ahead
-  feed_holds so all (Between closed) r ahead suits still h = begin_holds so all closed (place_after Apart closed) r ahead (inl (whole suits)) still refl follows
-    where
-      whole : Suits (Between closed) r → r.lazy ≡ false
-      whole (inl w) = w
-      whole (inr p) = absurd (true≢false (sym p.1))
-
-      follows : Follows so all closed (place_after Apart closed) (r ∷ []) ahead
-      follows rest after e body = h.follows (r ∷ rest) after (ap (show_as r.lazy r) e) body
+  feed_holds so all (Between closed) r ahead suits still h = grind (arith, begin_holds)
   feed_holds so all AfterTag r ahead suits still h =
       subst (λ ls. Holds so (ls ++ r ∷ []) (begin_at options AfterLazy Nil r ahead) ahead) (sym h.1)
       (begin_at_holds so [] Nil AfterLazy r ahead (begun suits) still refl (λ rest after e body. subst (λ z. Body options z (r ∷ rest) after) (sym h.0) body))
@@ -301,13 +257,7 @@ module _ (options : Options) where
 
       under : (u : Option ℕ) → underlines r ≡ u → Holds so (all ++ r ∷ []) (underline_or u (λ level. Between (join closed (SetextHeading level first more r Nil))) (goes_on_or (texts options r ahead) (InParagraph closed first (more ++ r ∷ [])) (begin options (join closed (Paragraph first more Nil)) r ahead))) ahead
       under None e = text e (texts options r ahead) refl
-      under (Some level) e = record { follows = follows; ended = ends_lazily-join (allows_lazy so) closed (SetextHeading level first more r Nil) }
-        where
-          follows : Follows so (all ++ r ∷ []) (join closed (SetextHeading level first more r Nil)) (place_after Apart (join closed (SetextHeading level first more r Nil))) [] ahead
-          follows rest after s body =
-              rw (h.0.cut, append_assoc (h.0.before ++ (first ∷ more)) (r ∷ []) rest, append_assoc h.0.before (first ∷ more) (r ∷ rest), join_assoc closed (SetextHeading level first more r Nil) after)
-              (h.0.follows (r ∷ rest) (SetextHeading level first more r after) (ap (show_as r.lazy r) s)
-              (record { rest = rest; cut = refl; begun = h.0.begun; opened = opened rest s; others = others rest s; underlined = e; after = subst (λ z. Body options z rest after) (place_after-join Apart closed (SetextHeading level first more r Nil)) body }))
+      under (Some level) e = grind (arith, ends_lazily-join, append_assoc, join_assoc, opened, others, place_after-join)
   feed_holds so all (InLeaf closed leaf first had zero) r ahead suits still h =
       begin_holds so all (join closed (LeafBlock leaf first had Nil)) (after_leaf leaf) r ahead (begun suits) still (place_after-join Apart closed (LeafBlock leaf first had Nil))
       (past_block so all closed first had r ahead (Takes leaf (length had + 0)) (LeafBlock leaf first had Nil) (after_leaf leaf) h.0 (λ rest after s body. record {
@@ -341,12 +291,7 @@ module _ (options : Options) where
       block = ContainerBlock k first more (close inside) Nil
 
       whole : keeps k bare r ≡ None → (takes_lazy inside ≡ true → lazily options k r ahead ≡ false) → Suits (InContainer closed k first more inside) r → r.lazy ≡ false
-      whole nq np (inl w) = w
-      whole nq np (inr p) = by r.lazy refl
-        where
-          by : (z : Bool) → r.lazy ≡ z → r.lazy ≡ false
-          by false e = e
-          by true e = absurd (true≢false (sym (texts-lazily options k r ahead e p.0) ∙ np p.1))
+      whole nq np h = grind (arith, texts-lazily)
 
       off : keeps k bare r ≡ None → (takes_lazy inside ≡ true → lazily options k r ahead ≡ false) → Holds so (all ++ r ∷ []) (begin options (join closed block) r ahead) ahead
       off nq np =
@@ -362,12 +307,7 @@ module _ (options : Options) where
           }))
 
       on : (keeps k bare r ≡ None → lazily options k r ahead ≡ true) → Holds (place_in k) (insides k first more ++ strip k bare r ∷ []) (feed options inside (strip k bare r) (within k false ahead)) (within k false ahead) → Holds so (all ++ r ∷ []) (InContainer closed k first (more ++ r ∷ []) (feed options inside (strip k bare r) (within k false ahead))) ahead
-      on may i = (
-        grows so all closed first more r ahead (Nests k) still h.0,
-        subst (λ z. Holds (place_in k) (insides k first (more ++ r ∷ [])) (feed options inside (strip k bare r) (within k false ahead)) (within k z ahead)) (sym (bare_push (is_bare_start k first) more r))
-            (subst (λ ls. Holds (place_in k) ls (feed options inside (strip k bare r) (within k false ahead)) (within k false ahead)) (sym (insides_push k first more r)) i),
-        AreLazy-push k (is_bare_start k first) more r ahead still h.2 may,
-      )
+      on may i = search (rules, grows, bare, bare_push, insides_push, AreLazy-push)
 
       -- inside the container the line lacks no prefix, or continues the paragraph
       go : (o : Option Row) → keeps k bare r ≡ o → (l : Bool) → (lazily options k r ahead && takes_lazy inside) ≡ l → (Suits inside (strip k bare r) → Holds (place_in k) (insides k first more ++ strip k bare r ∷ []) (feed options inside (strip k bare r) (within k false ahead)) (within k false ahead)) → Holds so (all ++ r ∷ []) (kept_or o l (InContainer closed k first (more ++ r ∷ []) (feed options inside (strip k bare r) (within k false ahead))) (begin options (join closed block) r ahead)) ahead

@@ -1,8 +1,8 @@
 -- The ranges of a derived document begin and end at character boundaries.
-use Rattle.std.proofs.Common.{◌≡◌, ◌⊎◌, inl, inr, ⊎_elim, ℕ, zero, suc, ◌+◌, ◌-◌, ◌<◌, Bool, true, false, ◌==◌, ◌&&◌, ◌||◌, not, List, [], ◌∷◌, ◌++◌, length, drop, get_or, refl, sym, ap, ◌∙◌, subst, arith, append_assoc, append-nil, Option, Some, None, true≢false, length-append, get_or-append-add}
+use Rattle.std.proofs.Common.{◌≡◌, ◌⊎◌, inl, inr, ⊎_elim, ℕ, zero, suc, ◌+◌, ◌-◌, ◌<◌, Bool, true, false, ◌==◌, ◌&&◌, ◌||◌, List, [], ◌∷◌, ◌++◌, length, drop, get_or, refl, sym, ap, ◌∙◌, subst, arith, append_assoc, append-nil, Option, Some, None, true≢false, length-append, get_or-append-add, rules}
 use Rattle.std.proofs.lemmas.List.Sums.{take_while-cons}
 use Rattle.std.specs.Prelude.{cond, if◌then◌else◌, IsUtf8, IsCharBoundary}
-use Rattle.std.proofs.lemmas.Str.{IsCharBoundary-start, IsCharBoundary-end, IsCharBoundary-before_ascii, IsCharBoundary-after_ascii}
+use Rattle.std.proofs.lemmas.Str.{IsCharBoundary-start, IsCharBoundary-before_ascii, IsCharBoundary-after_ascii}
 use Rattle.cmark_grammar.specs.Characters.{carriage_return, line_feed, tab}
 use Rattle.cmark_grammar.specs.Answers.{Lookup}
 use Rattle.cmark_grammar.specs.Options.{Options}
@@ -10,12 +10,12 @@ use Rattle.cmark_grammar.specs.Places.{Place, Apart, AfterTitle, over_blank}
 use Rattle.cmark_grammar.specs.Lines.{lines, ends_line, onto, content, is_content}
 use Rattle.cmark_grammar.specs.Columns.{Column, expand, tab_columns, to_tab_stop}
 use Rattle.cmark_grammar.specs.Rows.{Row, rows, rows_from, row_at, begin_of, start_of, last_line_end, without}
-use Rattle.cmark_grammar.specs.Containers.{Container, BlockQuote, Item, Footnote, ListDefinition, is_alert, unless_tag, enter, strips, is_bare_start, insides}
+use Rattle.cmark_grammar.specs.Containers.{Container, BlockQuote, Item, Footnote, ListDefinition, enter, insides}
 use Rattle.cmark_grammar.specs.Openings.{Leaf, ThematicBreak as ThematicBreakLeaf, AtxHeading as AtxHeadingLeaf, IndentedCode as IndentedCodeLeaf, FencedCode as FencedCodeLeaf, HtmlBlock as HtmlBlockLeaf, LinkDefinition as LinkDefinitionLeaf, MetadataBlock as MetadataBlockLeaf, Table as TableLeaf, Nests, opens_at}
 use Rattle.cmark_grammar.specs.Blocks.{Blocks, Nil as NoBlocks, BlankLine, Paragraph as ParagraphBlock, SetextHeading, LeafBlock, ContainerBlock, after_leaf, place_in, Body}
 use Rattle.cmark_grammar.specs.Lists.{ListBefore, definition_delimiter, is_title, tight_after, title_tight_after, goes_on}
 use Rattle.cmark_grammar.specs.Tokens.{paragraph_tokens, fenced_lines, lines_before}
-use Rattle.cmark_grammar.specs.BlockDocument.{BlockKind, ListItem, DefinitionList, DefinitionListTitle, DefinitionListDefinition, BlockNode, BlockDocument, Nil, Node, node}
+use Rattle.cmark_grammar.specs.BlockDocument.{BlockKind, ListItem, DefinitionList, DefinitionListTitle, DefinitionListDefinition, BlockNode, BlockDocument, Node, node}
 use Rattle.cmark_grammar.specs.Derivation.{task_then, leaf_then, list_kind, item_then, paragraph_kind, document_of, Derives}
 use Rattle.cmark_block_model.specs.Ranges.{AllAt}
 use Rattle.cmark_grammar.specs.Metadata.{ends_metadata}
@@ -35,9 +35,7 @@ module _ (E : ℕ → Type 0) where
   line_end-edge first (r ∷ more) g gs = line_end-edge r more gs.0 gs.1
 
   item-edged : (joins : Bool) (list : BlockKind) (item : BlockNode) (inside after : BlockDocument) → E item.start → E item.end → AllAt E inside → AllAt E after → AllAt E (item_then joins list item inside after)
-  item-edged false list item inside after s e i a = (s, e, (s, e, i, tt), a)
-  item-edged true list item inside Nil s e i a = (s, e, (s, e, i, tt), tt)
-  item-edged true list item inside (Node others items after) s e i a = (s, a.1, (s, e, i, a.2), a.3)
+  item-edged joins list item inside after s e i a = grind arith
 
   -- a paragraph, as a title or as itself
   title-edged : (is_title : Bool) (list kind other : BlockKind) (start end : ℕ) (inside after following : BlockDocument) → E start → E end → AllAt E inside → AllAt E after → AllAt E following
@@ -65,11 +63,7 @@ module _ (E : ℕ → Type 0) where
       rows (r ∷ rs) b = b.1
 
   insides-good : (k : Container) (first : Row) (more : List Row) → GoodRow E (enter k first) → GoodRows E more → GoodRows E (insides k first more)
-  insides-good k first more g gs = go (is_alert k)
-    where
-      go : (is_tag : Bool) → GoodRows E (unless_tag is_tag (enter k first) (strips k (is_bare_start k first) more))
-      go true = strips-good E k (is_bare_start k first) more gs
-      go false = (g, strips-good E k (is_bare_start k first) more gs)
+  insides-good k first more g gs = grind (arith, strips-good)
 
   begun-good : (options : Options) (following : Place) (width : ℕ) (r : Row) (ahead : List Row) → opens_at options following r ahead ≡ Nests (ListDefinition width) → GoodRow E r → GoodRow E (enter (ListDefinition width) r)
   begun-good options following width r ahead e g =
@@ -174,20 +168,11 @@ end-ascii b bs e = ⊎_elim (λ x. is-ascii b 10 (omega arith) x) (λ x. is-asci
 
 pub lines-ended : (bs : List ℕ) → AreEnded (lines bs) × (joined (lines bs) ≡ bs)
 lines-ended [] = (tt, refl)
-lines-ended (b ∷ bs) = go (ends_line b bs) refl (lines-ended bs)
-  where
-    go : (z : Bool) → ends_line b bs ≡ z → AreEnded (lines bs) × (joined (lines bs) ≡ bs) → AreEnded (if z then (b ∷ []) ∷ lines bs else onto b (lines bs)) × (joined (if z then (b ∷ []) ∷ lines bs else onto b (lines bs)) ≡ b ∷ bs)
-    go true e h = ((inr (end-ascii b bs e), h.0), ap (λ t. b ∷ t) h.1)
-    go false e h = (onto-ended b (lines bs) h.0, onto-joined b (lines bs) ∙ ap (λ t. b ∷ t) h.1)
+lines-ended (b ∷ bs) = search (rules, end-ascii, onto-ended, onto-joined, lines-ended bs)
 
 -- a byte that ends the content of a line is ASCII
 content-stop : (b : ℕ) → is_content b ≡ false → b < 128
-content-stop b e = go (b == line_feed) (b == carriage_return) refl refl e
-  where
-    go : (x y : Bool) → (b == line_feed) ≡ x → (b == carriage_return) ≡ y → (not x && not y) ≡ false → b < 128
-    go true y ex ey q = is-ascii b 10 (omega arith) ex
-    go false true ex ey q = is-ascii b 13 (omega arith) ey
-    go false false ex ey q = absurd (true≢false q)
+content-stop b e = grind (arith, is-ascii)
 
 -- after the content of a line comes an ASCII byte, or nothing
 abbrev Stopped : List ℕ → Type 0
@@ -253,23 +238,11 @@ module _ (text : List ℕ) (utf8 : IsUtf8 text) where
   last-edge : (before line after : List ℕ) → text ≡ before ++ (line ++ after) → LastAscii line → IsCharBoundary text (length before + length line)
   last-edge before [] after e a = absurd (let z : ⊥ = a in z)
   last-edge before (b ∷ []) after e a = subst (IsCharBoundary text) (let s : suc (length before) ≡ length before + 1 = omega arith in s) (around before b after e a).1
-  last-edge before (b ∷ (c ∷ line)) after e a =
-      subst (IsCharBoundary text) (ap (λ n. n + length (c ∷ line)) (snoc-len before b) ∙ (let s : suc (length before) + length (c ∷ line) ≡ length before + length (b ∷ (c ∷ line)) = omega arith in s))
-      (last-edge (before ++ b ∷ []) (c ∷ line) after (e ∙ snoc before b ((c ∷ line) ++ after)) a)
+  last-edge before (b ∷ (c ∷ line)) after e a = search (rules, snoc-len, snoc, last-edge (before ++ b ∷ []) (c ∷ line) after (e ∙ snoc before b ((c ∷ line) ++ after)) a)
 
   -- after the end of a line's content comes an ASCII byte, or nothing
   tail-edge : (before tail after : List ℕ) → text ≡ before ++ (tail ++ after) → IsCharBoundary text (length before + length tail) → (tail ≡ []) ⊎ ((b : ℕ) × ((bs : List ℕ) × (tail ≡ b ∷ bs) × (b < 128))) → IsCharBoundary text (length before) × (length tail ≡ 2 → IsCharBoundary text (suc (length before)))
-  tail-edge before tail after e past (inl none) = (
-    subst (IsCharBoundary text) (let n : length tail ≡ 0 = ap length none in let s : length before + length tail ≡ length before = omega (arith, n) in s) past,
-    (λ two. absurd (let n : length tail ≡ 0 = ap length none in omega (arith, n, two))),
-  )
-  tail-edge before tail after e past (inr h) =
-      let b : ℕ = h.0 in
-      let bs : List ℕ = h.1.0 in
-      let is : tail ≡ b ∷ bs = h.1.1 in
-      let lt : b < 128 = h.1.2 in
-      let r = around before b (bs ++ after) (e ∙ ap (λ t. before ++ (t ++ after)) is) lt in
-      (r.0, λ two. r.1)
+  tail-edge before tail after e past h = grind (arith, around)
 
   pub rows-good : (before : List ℕ) (ls : List (List ℕ)) (at : ℕ) → text ≡ before ++ joined ls → length before ≡ at → IsCharBoundary text at → AreEnded ls → GoodRows (IsCharBoundary text) (rows_from at ls)
   rows-good before [] at e l edge ended = tt
@@ -288,9 +261,6 @@ module _ (text : List ℕ) (utf8 : IsUtf8 text) where
       tail : List ℕ
       tail = drop (length (content line)) line
 
-      cut : content line ++ drop (length (content line)) line ≡ line
-      cut = content-cut line
-
       parts : length line ≡ length (content line) + length (drop (length (content line)) line)
       parts = sym (ap length (content-cut line)) ∙ length-append (content line) (drop (length (content line)) line)
 
@@ -307,16 +277,7 @@ module _ (text : List ℕ) (utf8 : IsUtf8 text) where
       lead = length-append before (content line) ∙ ap (λ n. n + length (content line)) l
 
       line_end : IsCharBoundary text (at + length line)
-      line_end = ⊎_elim last more ended.0
-        where
-          last : ls ≡ [] → IsCharBoundary text (at + length line)
-          last none =
-              let n : length text ≡ length before + length (line ++ joined ls) = ap length e ∙ length-append before (line ++ joined ls) in
-              let m : length (line ++ joined ls) ≡ length line = ap (λ t. length (line ++ joined t)) none ∙ ap length (append-nil line) in
-              subst (IsCharBoundary text) (let s : length text ≡ at + length line = omega (arith, n, m, l) in s) (IsCharBoundary-end text)
-
-          more : LastAscii line → IsCharBoundary text (at + length line)
-          more a = subst (IsCharBoundary text) (ap (λ n. n + length line) l) (last-edge before line (joined ls) e a)
+      line_end = grind (arith, length-append, append-nil, last-edge)
 
       stopped : IsCharBoundary text (length (before ++ content line)) × (length (drop (length (content line)) line) ≡ 2 → IsCharBoundary text (suc (length (before ++ content line))))
       stopped =

@@ -1,16 +1,16 @@
 -- What is open closed: the leaf, and the containers.
-use Rattle.std.proofs.Common.{◌≡◌, ℕ, zero, suc, Bool, true, false, List, [], ◌∷◌, ◌++◌, length, take, refl, ap, ◌∙◌, sym, append_assoc, append-nil}
+use Rattle.std.proofs.Common.{◌≡◌, ℕ, zero, suc, Bool, true, false, List, [], ◌∷◌, ◌++◌, length, take, refl, ap, ◌∙◌, sym, append_assoc, append-nil, arith, rules}
 use Rattle.cmark_grammar.specs.Answers.{Lookup}
 use Rattle.cmark_grammar.specs.Options.{Options}
 use Rattle.cmark_grammar.specs.Alignment.{Alignment}
 use Rattle.cmark_grammar.specs.TableTokens.{table_tokens}
-use Rattle.cmark_grammar.specs.Rows.{Row, start_of, begin_of, last_line_end, first_place}
+use Rattle.cmark_grammar.specs.Rows.{Row, start_of, last_line_end, first_place}
 use Rattle.cmark_grammar.specs.Leaves.{closes_fence}
 use Rattle.cmark_grammar.specs.Containers.{is_bare_start, bare_after}
-use Rattle.cmark_grammar.specs.Openings.{Leaf, ThematicBreak, AtxHeading, IndentedCode, FencedCode, HtmlBlock, LinkDefinition, MetadataBlock, Table}
+use Rattle.cmark_grammar.specs.Openings.{Leaf, IndentedCode, FencedCode, MetadataBlock, Table}
 use Rattle.cmark_grammar.specs.Blocks.{Blocks, Nil as NoBlocks, Paragraph, LeafBlock, ContainerBlock, join as join_blocks}
 use Rattle.cmark_block_model.specs.BlocksByLine.{Verbatim, Indented, Fenced, HtmlLines, leaf_in, OpenLines, Between, AfterTag, InParagraph, InLeaf, InVerbatim, InContainer, blank_lines, close_lines, Metadata}
-use Rattle.cmark_grammar.specs.Tokens.{resolved, words_end, stretch_then, stop_at, html_tokens, fenced_lines, code_tokens, code_columns, lines_before}
+use Rattle.cmark_grammar.specs.Tokens.{resolved, words_end, stretch_then, stop_at, fenced_lines, code_tokens, code_columns, lines_before}
 use Rattle.cmark_grammar.specs.BlockDocument as document
 use Rattle.cmark_grammar.specs.BlockDocument.{BlockDocument, BlockKind, Nil, Node, node, join}
 use Rattle.cmark_grammar.specs.Metadata.{ends_metadata}
@@ -32,15 +32,10 @@ before-lines closes (r ∷ rs) h = ap (λ y. stop_at y r (lines_before closes rs
 module _ (text : List ℕ) (options : Options) (lookup : Lookup) where
   blank-replay : (rs : List Row) (l : Level) → l.inner.has_line ≡ true → l.inner.blank ≡ true → replay text options lookup (blank_lines rs) l ≡ l
   blank-replay [] l h b = refl
-  blank-replay (r ∷ rs) l h b =
-      blank-replay rs (blank_level l) refl h ∙ ap (λ z. record l { inner = record l.inner { has_line = true; blank = z } }) (h ∙ sym b)
-      ∙ ap (λ z. record l { inner = record l.inner { has_line = z } }) (sym h)
+  blank-replay (r ∷ rs) l h b = search (rules, blank_level, blank-replay rs (blank_level l) refl h)
 
   blanks-replay : (rs : List Row) (l : Level) → l.inner.has_line ≡ true → l.inner.blank ≡ false → replay text options lookup (blank_lines rs) l ≡ record l { inner = record l.inner { blank = is_some rs } }
-  blanks-replay [] l h b = ap (λ z. record l { inner = record l.inner { blank = z } }) b
-  blanks-replay (r ∷ rs) l h b =
-      blank-replay rs (blank_level l) refl h ∙ ap (λ z. record l { inner = record l.inner { has_line = true; blank = z } }) h
-      ∙ ap (λ z. record l { inner = record l.inner { has_line = z; blank = true } }) (sym h)
+  blanks-replay rs l h b = grind (arith, blank-replay, blank_level)
 
   -- the innermost level, when the leaf is closed
   abbrev pub inner_closed : OpenLines → Level → Level
@@ -70,16 +65,7 @@ module _ (text : List ℕ) (options : Options) (lookup : Lookup) where
 
       go : (leaf : Leaf) → FitsLeaf options leaf first had left ahead n
           → close_leaf text options lookup (leaf_left leaf had left) (pass_with (leaf_open text options lookup leaf first had following q) outer bare (leaf_left leaf had left) n) ≡ pass_with (leaf_level text options lookup leaf first had q) outer bare Closed n
-      go ThematicBreak f = all ThematicBreak
-      go (AtxHeading level) f = all (AtxHeading level)
-      go IndentedCode f = all IndentedCode
-      go (FencedCode fence) f = all (FencedCode fence)
-      go (HtmlBlock kind) f = all (HtmlBlock kind)
-      go (MetadataBlock kind) f = all (MetadataBlock kind)
-      go (LinkDefinition definition) f = all (LinkDefinition definition)
-      go (Table alignments) f =
-          table alignments had
-          ∙ ap (λ m. pass_with (noded (document.Table alignments) (start_of first) m (table_tokens text (length alignments) first had) (begun q)) outer bare Closed n) (sym f.0)
+      go leaf f = grind (arith, all, table, pass_with, begun)
 
   replay-nil : (b : Blocks) (l : Level) → replay text options lookup (join_blocks b NoBlocks) l ≡ replay text options lookup b l
   replay-nil b l = replay-join text options lookup b NoBlocks l
@@ -101,11 +87,7 @@ module _ (text : List ℕ) (options : Options) (lookup : Lookup) where
       ∙ ap (λ t. pass_with (noded (document.FencedCode (resolved lookup fence.info)) (start_of first) n (code_tokens text fence.indented t) (begun c)) outer bare Closed n) (sym (before-lines (closes_fence fence) had f.2))
       ∙ ap (λ m. pass_with (noded (document.FencedCode (resolved lookup fence.info)) (start_of first) m (code_tokens text fence.indented (fenced_lines fence had)) (begun c)) outer bare Closed n) (sym f.1)
       ∙ ap (λ q. pass_with q outer bare Closed n) (sym (ap (λ w. replay text options lookup (join_blocks x (blank_lines w)) l) f.0 ∙ replay-nil x l ∙ replay-join text options lookup closed (LeafBlock (FencedCode fence) first had NoBlocks) l))
-  verbatim-closes (HtmlLines kind) closed first had waiting n l outer bare f =
-      let c = replay text options lookup closed l in
-      let x = join_blocks closed (LeafBlock (HtmlBlock kind) first had NoBlocks) in
-      ap (λ m. pass_with (noded document.HtmlBlock (begin_of first) m (html_tokens text (first ∷ had)) (begun c)) outer bare Closed n) (sym f.1)
-      ∙ ap (λ q. pass_with q outer bare Closed n) (sym (ap (λ w. replay text options lookup (join_blocks x (blank_lines w)) l) f.0 ∙ replay-nil x l ∙ replay-join text options lookup closed (LeafBlock (HtmlBlock kind) first had NoBlocks) l))
+  verbatim-closes (HtmlLines kind) closed first had waiting n l outer bare f = grind (arith, replay, pass_with, begun, replay-nil, replay-join)
   verbatim-closes (Metadata kind) closed first had waiting n l outer bare f =
       let c = replay text options lookup closed l in
       let x = join_blocks closed (LeafBlock (MetadataBlock kind) first had NoBlocks) in
@@ -121,9 +103,7 @@ module _ (text : List ℕ) (options : Options) (lookup : Lookup) where
       ap (λ p. pass_with (noded document.Paragraph (start_of first) p (join (lines_drawn text options lookup (start_of first) first more) (stretch_then text (last_begin (start_of first) first more) (words_end (last_of first more)) Nil)) (paragraph_begun c)) outer bare Closed n) (sym f.1)
       ∙ ap (λ t. pass_with (noded document.Paragraph (start_of first) (last_line_end first more) t (paragraph_begun c)) outer bare Closed n) (sym (drawn-tokens text options lookup (start_of first) first more))
       ∙ ap (λ q. pass_with q outer bare Closed n) (sym (replay-join text options lookup closed (Paragraph first more NoBlocks) l))
-  leaf-closes (InLeaf closed leaf first had left) b n l outer bare f =
-      leaf-left leaf first had (take left []) left [] (replay text options lookup closed l) outer bare n (take-none left) f.3
-      ∙ ap (λ q. pass_with q outer bare Closed n) (sym (replay-join text options lookup closed (LeafBlock leaf first had NoBlocks) l))
+  leaf-closes (InLeaf closed leaf first had left) b n l outer bare f = grind (arith, leaf-left, replay, take-none, pass_with, replay-join)
   leaf-closes (InVerbatim closed verbatim first had waiting) b n l outer bare f = verbatim-closes verbatim closed first had waiting n l outer bare f.1
   leaf-closes (InContainer closed k first more inside) b n l outer bare f =
       leaf-closes inside (bare_after (is_bare_start k first) more) n (entered k first (replay text options lookup closed l)) outer bare f.2

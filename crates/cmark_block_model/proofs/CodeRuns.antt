@@ -1,5 +1,5 @@
 -- Lines of code: pieces that are drawn from left to right are those that are merged from right to left.
-use Rattle.std.proofs.Common.{◌≡◌, ℕ, Bool, true, false, ◌==◌, ◌&&◌, not, List, [], ◌∷◌, ◌++◌, refl, ap, ◌∙◌, sym, append_assoc, append-nil, Option, Some, None, true≢false}
+use Rattle.std.proofs.Common.{◌≡◌, ℕ, Bool, true, false, ◌==◌, ◌&&◌, not, List, [], ◌∷◌, ◌++◌, refl, ap, ◌∙◌, sym, append_assoc, append-nil, Option, Some, None, arith, rules}
 use Rattle.std.specs.Prelude.{if◌then◌else◌}
 use Rattle.cmark_grammar.specs.Rows.{Row}
 use Rattle.cmark_grammar.specs.BlockDocument.{Nil, join}
@@ -20,36 +20,13 @@ merge-apart p (q ∷ ps) e = ap (λ z. if not z && (not q.owned && (p.end == q.s
 
 -- a piece before another piece that it does not touch, and before the pieces merged with that
 apart : (p q : Piece) (ps : List Piece) → q.owned ≡ false → touches p q ≡ false → merge p (merge q ps) ≡ p ∷ merge q ps
-apart p q [] f e = ap (λ z. if z then record { owned = false; bytes = p.bytes ++ q.bytes; start = p.start; end = q.end } ∷ [] else p ∷ q ∷ []) e
-apart p q (x ∷ ps) f e = go (touches q x)
-  where
-    both : Piece
-    both = record { owned = false; bytes = q.bytes ++ x.bytes; start = q.start; end = x.end }
-
-    go : (z : Bool) → merge p (if z then record { owned = false; bytes = q.bytes ++ x.bytes; start = q.start; end = x.end } ∷ ps else q ∷ x ∷ ps) ≡ p ∷ (if z then record { owned = false; bytes = q.bytes ++ x.bytes; start = q.start; end = x.end } ∷ ps else q ∷ x ∷ ps)
-    go true =
-        ap (λ z. if z then record { owned = false; bytes = p.bytes ++ both.bytes; start = p.start; end = both.end } ∷ ps else p ∷ both ∷ ps)
-        (ap (λ o. not p.owned && (not o && (p.end == q.start))) (sym f) ∙ e)
-    go false = ap (λ z. if z then record { owned = false; bytes = p.bytes ++ q.bytes; start = p.start; end = q.end } ∷ x ∷ ps else p ∷ q ∷ x ∷ ps) e
+apart p q ps f e = grind arith
 
 together : (p q : Piece) (ps : List Piece) → q.owned ≡ false → touches p q ≡ true → merge (longer p q) ps ≡ merge p (merge q ps)
-together p q [] f e = sym (ap (λ z. if z then longer p q ∷ [] else p ∷ q ∷ []) e)
-together p q (x ∷ ps) f e =
-    ap (λ o. if not o && (not x.owned && (q.end == x.start)) then longer (longer p q) x ∷ ps else longer p q ∷ x ∷ ps) (sym f) ∙ go (touches q x)
-  where
-    go : (z : Bool) → (if z then longer (longer p q) x ∷ ps else longer p q ∷ x ∷ ps) ≡ merge p (if z then record { owned = false; bytes = q.bytes ++ x.bytes; start = q.start; end = x.end } ∷ ps else q ∷ x ∷ ps)
-    go true =
-        ap (λ b. record { owned = false; bytes = b; start = p.start; end = x.end } ∷ ps) (append_assoc p.bytes q.bytes x.bytes)
-        ∙ sym (ap (λ z. if z then longer p (longer q x) ∷ ps else p ∷ longer q x ∷ ps) (ap (λ o. not p.owned && (not o && (p.end == q.start))) (sym f) ∙ e))
-    go false = sym (ap (λ z. if z then longer p q ∷ x ∷ ps else p ∷ q ∷ x ∷ ps) e)
+together p q ps f e = grind (arith, append_assoc)
 
 touched-plain : (p q : Piece) → touches p q ≡ true → q.owned ≡ false
-touched-plain p q e = go p.owned q.owned e
-  where
-    go : (a b : Bool) → (not a && (not b && (p.end == q.start))) ≡ true → b ≡ false
-    go true b f = absurd (true≢false (sym f))
-    go false true f = absurd (true≢false (sym f))
-    go false false f = refl
+touched-plain p q e = grind arith
 
 -- all pieces, with the later ones
 add-merges : (ps : List Piece) (done : List Piece) (waits : Option Piece) (following : List Piece) → ((add_pieces (run_with done waits) ps).done ++ merge_waits (add_pieces (run_with done waits) ps).waits following) ≡ (done ++ merge_waits waits (merge_all ps following))
@@ -68,10 +45,7 @@ add-merges (q ∷ ps) done (Some p) following = touching (touches p q) refl (λ 
     l = merge_all ps following
 
     go : (z : Bool) → q.owned ≡ z → touches p q ≡ false → ((d : List Piece) (w : Option Piece) → ((add_pieces (run_with d w) ps).done ++ merge_waits (add_pieces (run_with d w) ps).waits following) ≡ (d ++ merge_waits w (merge_all ps following))) → ((add_pieces (put_after z (done ++ p ∷ []) q) ps).done ++ merge_waits (add_pieces (put_after z (done ++ p ∷ []) q) ps).waits following) ≡ (done ++ merge p (merge q (merge_all ps following)))
-    go true e f ih =
-        ih ((done ++ p ∷ []) ++ q ∷ []) None ∙ append_assoc (done ++ p ∷ []) (q ∷ []) l ∙ append_assoc done (p ∷ []) (q ∷ l)
-        ∙ ap (λ x. done ++ x) (sym (ap (merge p) (merge-apart q l e) ∙ ap (λ z. if z then longer p q ∷ l else p ∷ q ∷ l) f))
-    go false e f ih = ih (done ++ p ∷ []) (Some q) ∙ append_assoc done (p ∷ []) (merge q l) ∙ ap (λ x. done ++ x) (sym (apart p q l e f))
+    go z e f ih = grind (arith, append_assoc, l, merge-apart, apart)
 
     touching : (z : Bool) → touches p q ≡ z → ((d : List Piece) (w : Option Piece) → ((add_pieces (run_with d w) ps).done ++ merge_waits (add_pieces (run_with d w) ps).waits following) ≡ (d ++ merge_waits w (merge_all ps following))) → ((add_pieces (touch z done p q) ps).done ++ merge_waits (add_pieces (touch z done p q) ps).waits following) ≡ (done ++ merge p (merge q (merge_all ps following)))
     touching true e ih = ih done (Some (longer p q)) ∙ ap (λ x. done ++ x) (together p q l (touched-plain p q e) e)
@@ -88,10 +62,7 @@ add-front (q ∷ ps) ds es None = go q.owned (λ e w. add-front ps ds e w)
 add-front (q ∷ ps) ds es (Some p) = touching (touches p q) (λ e w. add-front ps ds e w)
   where
     go : (z : Bool) → ((e : List Piece) (w : Option Piece) → add_pieces (run_with (ds ++ e) w) ps ≡ run_with (ds ++ (add_pieces (run_with e w) ps).done) (add_pieces (run_with e w) ps).waits) → add_pieces (put_after z ((ds ++ es) ++ p ∷ []) q) ps ≡ run_with (ds ++ (add_pieces (put_after z (es ++ p ∷ []) q) ps).done) (add_pieces (put_after z (es ++ p ∷ []) q) ps).waits
-    go true ih =
-        ap (λ d. add_pieces (run_with (d ++ q ∷ []) None) ps) (append_assoc ds es (p ∷ [])) ∙ ap (λ d. add_pieces (run_with d None) ps) (append_assoc ds (es ++ p ∷ []) (q ∷ []))
-        ∙ ih ((es ++ p ∷ []) ++ q ∷ []) None
-    go false ih = ap (λ d. add_pieces (run_with d (Some q)) ps) (append_assoc ds es (p ∷ [])) ∙ ih (es ++ p ∷ []) (Some q)
+    go z ih = grind (arith, append_assoc)
 
     touching : (z : Bool) → ((e : List Piece) (w : Option Piece) → add_pieces (run_with (ds ++ e) w) ps ≡ run_with (ds ++ (add_pieces (run_with e w) ps).done) (add_pieces (run_with e w) ps).waits) → add_pieces (touch z (ds ++ es) p q) ps ≡ run_with (ds ++ (add_pieces (touch z es p q) ps).done) (add_pieces (touch z es p q) ps).waits
     touching true ih = ih es (Some (longer p q))
@@ -122,12 +93,7 @@ module _ (text : List ℕ) (most : ℕ) where
 
   -- one line more
   pub run-line : (run : Run) (r : Row) → texts_of (code_run run (r ∷ [])).done ≡ join (texts_of run.done) (texts_of (code_line text most r run.waits).done)
-  run-line run r =
-      let ps = verbatim_line text (code_columns most r) r in
-      ap (λ d. texts_of (add_pieces (run_with d run.waits) ps).done) (sym (append-nil run.done)) ∙ ap (λ x. texts_of x.done) (add-front ps run.done [] run.waits)
-      ∙ texts-append run.done (code_line text most r run.waits).done Nil ∙ sym (texts-join run.done Nil (texts_of (code_line text most r run.waits).done))
+  run-line run r = search (rules, append-nil, add-front, texts-append, texts-join)
 
   pub run-waits : (run : Run) (r : Row) → (code_run run (r ∷ [])).waits ≡ (code_line text most r run.waits).waits
-  run-waits run r =
-      let ps = verbatim_line text (code_columns most r) r in
-      ap (λ d. (add_pieces (run_with d run.waits) ps).waits) (sym (append-nil run.done)) ∙ ap (λ x. x.waits) (add-front ps run.done [] run.waits)
+  run-waits run r = search (rules, append-nil, add-front)

@@ -1,29 +1,28 @@
 -- A document has at most four nodes a byte, the cells aside that are filled in in its tables.
-use Rattle.std.proofs.Common.{◌≡◌, inl, inr, ℕ, zero, suc, ◌+◌, ◌-◌, ◌*◌, ◌≤◌, ◌<◌, Bool, true, false, ◌==◌, List, [], ◌∷◌, ◌++◌, length, drop, take_while, refl, sym, ap, ◌∙◌, subst, arith, Option, Some, None, true≢false, drop-drop, ◌&&◌}
+use Rattle.std.proofs.Common.{◌≡◌, inl, inr, ℕ, zero, suc, ◌+◌, ◌-◌, ◌*◌, ◌≤◌, ◌<◌, Bool, true, false, ◌==◌, List, [], ◌∷◌, ◌++◌, length, drop, take_while, refl, sym, ap, ◌∙◌, subst, arith, Option, Some, None, true≢false, drop-drop, rules}
 use Rattle.std.proofs.lemmas.List.Sums.{take_while-cons}
-use Rattle.std.specs.Prelude.{if◌then◌else◌, cond, nat_lt}
-use Rattle.cmark_grammar.specs.Characters.{tab}
+use Rattle.std.specs.Prelude.{if◌then◌else◌, cond}
 use Rattle.cmark_grammar.specs.Answers.{Lookup}
 use Rattle.cmark_grammar.specs.Options.{Options}
 use Rattle.cmark_grammar.specs.Places.{Place, Apart, AfterTitle, over_blank}
-use Rattle.cmark_grammar.specs.Lines.{lines, ends_line, onto, content}
-use Rattle.cmark_grammar.specs.Columns.{Column, expand, tab_columns, to_tab_stop, indent, without_indent, is_blank, is_blank_byte, drop_end}
-use Rattle.cmark_grammar.specs.Rows.{Row, rows, rows_from, without, place, first_place, begin_of, start_of, last_line_end, is_bare, is_blank_line, words_of}
+use Rattle.cmark_grammar.specs.Lines.{lines, onto, content}
+use Rattle.cmark_grammar.specs.Columns.{Column, expand, tab_columns, to_tab_stop, indent, without_indent, is_blank}
+use Rattle.cmark_grammar.specs.Rows.{Row, rows, rows_from, without, place, first_place, begin_of, start_of, last_line_end, is_bare, is_blank_line}
 use Rattle.cmark_grammar.specs.Leaves.{closes_fence}
 use Rattle.cmark_grammar.specs.Containers.{marker_width, Container, BlockQuote, Item, Footnote, ListDefinition, is_alert, unless_tag, keeps, strip_as, strip, strips, enter, width_of, is_bare_start, insides}
-use Rattle.cmark_grammar.specs.Openings.{Leaf, ThematicBreak as ThematicBreakLeaf, AtxHeading as AtxHeadingLeaf, IndentedCode as IndentedCodeLeaf, FencedCode as FencedCodeLeaf, HtmlBlock as HtmlBlockLeaf, LinkDefinition as LinkDefinitionLeaf, MetadataBlock as MetadataBlockLeaf, Blank, Nests, Takes, Plain, opens_at, Table as TableLeaf}
+use Rattle.cmark_grammar.specs.Openings.{Leaf, AtxHeading as AtxHeadingLeaf, IndentedCode as IndentedCodeLeaf, FencedCode as FencedCodeLeaf, HtmlBlock as HtmlBlockLeaf, MetadataBlock as MetadataBlockLeaf, Blank, Nests, Takes, Plain, opens_at, Table as TableLeaf}
 use Rattle.cmark_grammar.specs.Blocks.{Blocks, Nil as NoBlocks, BlankLine, Paragraph as ParagraphBlock, SetextHeading, LeafBlock, ContainerBlock, MayBegin, Body, after_leaf, place_in}
 use Rattle.cmark_grammar.specs.Lists.{ListBefore, tight_after, goes_on, definition_delimiter, is_title, title_tight_after}
-use Rattle.cmark_grammar.specs.BlockDocument.{ListItem, Text, OwnedText, Html, BlockNode, BlockDocument, Nil, Node, node, BlockKind, DefinitionList, DefinitionListTitle, DefinitionListDefinition, BlockList}
+use Rattle.cmark_grammar.specs.BlockDocument.{ListItem, BlockNode, BlockDocument, Nil, Node, node, BlockKind, DefinitionList, DefinitionListTitle, DefinitionListDefinition}
 use Rattle.cmark_grammar.specs.Derivation.{task_then, leaf_then, item_then, paragraph_kind, document_of, Derives, list_kind}
 use Rattle.cmark_block_model.specs.Ranges.{count_nodes, count_table, count_tables}
-use Rattle.cmark_grammar.specs.Tokens.{Piece, texts_then, line_columns, words_end, stretch_then, stretches, paragraph_tokens, heading_columns, after_hashes, heading_tokens, piece_if, plain_line, left_columns, spaces_if, verbatim_line, touches, merge, merge_all, code_columns, code_pieces, stop_at, fenced_lines, html_then, html_tokens, slice, end_place, lines_before}
+use Rattle.cmark_grammar.specs.Tokens.{Piece, texts_then, line_columns, words_end, stretch_then, stretches, paragraph_tokens, heading_columns, heading_tokens, piece_if, plain_line, spaces_if, verbatim_line, merge, merge_all, code_columns, code_pieces, fenced_lines, html_then, html_tokens, end_place, lines_before}
 use Rattle.cmark_grammar.specs.Metadata.{ends_metadata}
 use Rattle.cmark_block_model.proofs.SetextLaws.{setext-few}
 use Rattle.cmark_block_model.proofs.BlockLaws.{marker-within, at-whole, at-words, at-wide, at-takes, texts-words, IsWide}
 use Rattle.cmark_block_model.proofs.RowPlaces.{Runs, Runs-le, first_place-Runs, drop-Runs, drop-mono, Lies, begin-start, start-Runs, start-content_end, Lies-without, strip-Lies, kept-following, strip-line_end, Along, text-Along, Along-le}
 use Rattle.cmark_block_model.proofs.TokenRanges.{UpTo, end_place-Runs, line-UpTo, heading-UpTo}
-use Rattle.cmark_grammar.specs.TableRows.{count_missing, cells_start, cells_of}
+use Rattle.cmark_grammar.specs.TableRows.{count_missing}
 use Rattle.cmark_grammar.specs.TableTokens.{cells_then, row_tokens}
 use Rattle.cmark_block_model.proofs.TableRanges.{words-places, row_cells-count, filled}
 use Rattle.cmark_block_model.proofs.TableCounts.{LeafFilled, opened-filled}
@@ -47,11 +46,7 @@ tab-tabs at part (suc n) rest t = ((λ e. refl), tab-tabs at (suc part) n rest t
 
 expand-tabs : (column at : ℕ) (bs : List ℕ) → AreTabs (expand column at bs)
 expand-tabs column at [] = tt
-expand-tabs column at (b ∷ bs) = go (b == tab) (expand-tabs (column + to_tab_stop column) (suc at) bs) (expand-tabs (suc column) (suc at) bs)
-  where
-    go : (z : Bool) → AreTabs (expand (column + to_tab_stop column) (suc at) bs) → AreTabs (expand (suc column) (suc at) bs) → AreTabs (if z then tab_columns at 0 (to_tab_stop column) ++ expand (column + to_tab_stop column) (suc at) bs else record { byte = b; at = at; part = 0 } ∷ expand (suc column) (suc at) bs)
-    go true p q = tab-tabs at 0 (to_tab_stop column) (expand (column + to_tab_stop column) (suc at) bs) p
-    go false p q = ((λ e. absurd (true≢false e)), q)
+expand-tabs column at (b ∷ bs) = search (rules, tab-tabs, expand-tabs (column + to_tab_stop column) (suc at) bs, expand-tabs (suc column) (suc at) bs)
 
 abbrev Sits : ℕ → Row → Type 0
 Sits from r = Lies from r × AreTabs r.columns
@@ -85,10 +80,7 @@ strip-sits : (k : Container) (bare : Bool) (from : ℕ) (r : Row) → Sits from 
 strip-sits k bare from r s = (strip-Lies k bare from r s.0, go (keeps k bare r) refl)
   where
     go : (o : Option Row) → keeps k bare r ≡ o → AreTabs (strip_as o r).columns
-    go None e = s.1
-    go (Some t) e =
-        let w = kept-following k bare r t e in
-        subst (λ x. AreTabs x.columns) w.1.1 (drop-tabs w.0 r.columns s.1)
+    go o e = grind (arith, kept-following, drop-tabs)
 
 strips-fed : (k : Container) (bare : Bool) (from : ℕ) (rs : List Row) (to : ℕ) → Fed from rs to → Fed from (strips k bare rs) to
 strips-fed k bare from [] to f = f
@@ -138,28 +130,14 @@ html_then-count [] after = omega arith
 html_then-count (p ∷ ps) after = let ih = html_then-count ps after in omega (arith, ih)
 
 piece_if-count : (text : List ℕ) (start end : ℕ) (ps : List Piece) → length (piece_if text start end ps) ≤ suc (length ps)
-piece_if-count text start end ps = go (nat_lt start end)
-  where
-    go : (z : Bool) → length (if z then record { owned = false; bytes = slice text start end; start = start; end = end } ∷ ps else ps) ≤ suc (length ps)
-    go true = omega arith
-    go false = omega arith
+piece_if-count text start end ps = grind arith
 
 -- a text takes a byte
 stretch-count : (text : List ℕ) (start end to : ℕ) → start ≤ end → end ≤ to → start + length (piece_if text start end []) ≤ to
-stretch-count text start end to some le = go (nat_lt start end) refl
-  where
-    less : (a b : ℕ) → nat_lt a b ≡ true → a < b
-    less a b e = grind (arith)
-
-    go : (z : Bool) → nat_lt start end ≡ z → start + length {A = Piece} (if z then record { owned = false; bytes = slice text start end; start = start; end = end } ∷ [] else []) ≤ to
-    go true e = let l = less start end e in omega (arith, l, le)
-    go false e = omega (arith, some, le)
+stretch-count text start end to some le = grind arith
 
 stretch_then-count : (text : List ℕ) (start end to : ℕ) (after : BlockDocument) → start ≤ end → end ≤ to → start + count_nodes (stretch_then text start end after) ≤ to + count_nodes after
-stretch_then-count text start end to after some le =
-    let p = stretch-count text start end to some le in
-    let t = texts-count (piece_if text start end []) after in
-    omega (arith, p, t)
+stretch_then-count text start end to after some le = grind (arith, stretch-count, texts-count)
 
 words-count : (text : List ℕ) (from : ℕ) (cs : List Column) (content_end : ℕ) (after : BlockDocument) → UpTo from cs content_end → from + count_nodes (stretch_then text from (end_place from cs) after) ≤ content_end + count_nodes after
 words-count text from cs content_end after u =
@@ -197,38 +175,23 @@ stretches-count text from begin r (s ∷ more) h b f =
 
     go : (z : Bool) → begin + count_nodes (stretches text begin s more) ≤ last_line_end s more → begin_of s + count_nodes (stretches text (begin_of s) s more) ≤ last_line_end s more
         → begin + count_nodes (if z then stretches text begin s more else stretch_then text begin r.line_end (stretches text (begin_of s) s more)) ≤ last_line_end s more
-    go true p q = p
-    go false p q =
-        let w = stretch_then-count text begin r.line_end r.line_end (stretches text (begin_of s) s more) (omega (arith, b, c, d)) (omega arith) in
-        omega (arith, w, q, a)
+    go z p q = grind (arith, stretch_then-count, c, d, a)
 
 paragraph-count : (text : List ℕ) (from : ℕ) (r : Row) (more : List Row) → Lies from r → Fed r.line_end more (last_line_end r more) → start_of r + count_nodes (paragraph_tokens text r more) ≤ last_line_end r more
 paragraph-count text from r more h f = stretches-count text from (start_of r) r more h (omega arith) f
 
 plain_line-count : (text : List ℕ) (from : ℕ) (r : Row) → length (plain_line text from r) ≤ 2
-plain_line-count text from r = go (r.line_end - r.content_end == 2)
-  where
-    go : (z : Bool) → length (if z then piece_if text from r.content_end (piece_if text (suc r.content_end) r.line_end []) else piece_if text from r.line_end []) ≤ 2
-    go true = let a = piece_if-count text from r.content_end (piece_if text (suc r.content_end) r.line_end []) in let b = piece_if-count text (suc r.content_end) r.line_end [] in omega (arith, a, b)
-    go false = let a = piece_if-count text from r.line_end [] in omega (arith, a)
+plain_line-count text from r = grind (arith, piece_if-count)
 
 spaces_if-count : (n at : ℕ) (ps : List Piece) → length (spaces_if n at ps) ≤ suc (length ps)
 spaces_if-count zero at ps = omega arith
 spaces_if-count (suc n) at ps = omega arith
 
 verbatim-count : (text : List ℕ) (cs : List Column) (r : Row) → length (verbatim_line text cs r) ≤ 3
-verbatim-count text cs r =
-    let a = plain_line-count text (first_place r.content_end cs) r in
-    let b = spaces_if-count (left_columns cs) (first_place r.content_end cs) (plain_line text (first_place r.content_end cs) r) in
-    omega (arith, a, b)
+verbatim-count text cs r = grind (arith, plain_line-count, spaces_if-count)
 
 merge-count : (p : Piece) (ps : List Piece) → length (merge p ps) ≤ suc (length ps)
-merge-count p [] = omega arith
-merge-count p (q ∷ ps) = go (touches p q)
-  where
-    go : (z : Bool) → length (if z then record { owned = false; bytes = p.bytes ++ q.bytes; start = p.start; end = q.end } ∷ ps else p ∷ q ∷ ps) ≤ suc (suc (length ps))
-    go true = omega arith
-    go false = omega arith
+merge-count p ps = grind arith
 
 merge_all-count : (ps following : List Piece) → length (merge_all ps following) ≤ length ps + length following
 merge_all-count [] following = omega arith
@@ -236,29 +199,15 @@ merge_all-count (p ∷ ps) following = let a = merge-count p (merge_all ps follo
 
 code-count : (text : List ℕ) (most from : ℕ) (rs : List Row) (to : ℕ) → Fed from rs to → length (code_pieces text most rs) + 4 * from ≤ 4 * to
 code-count text most from [] to f = let a : from ≤ to = f in omega (arith, a)
-code-count text most from (r ∷ rs) to f =
-    let a : from < r.line_end = f.0 in
-    let b = verbatim-count text (code_columns most r) r in
-    let c = merge_all-count (verbatim_line text (code_columns most r) r) (code_pieces text most rs) in
-    let ih = code-count text most r.line_end rs to f.2 in
-    omega (arith, a, b, c, ih)
+code-count text most from (r ∷ rs) to f = grind (arith, verbatim-count, merge_all-count, code-count text most r.line_end rs to f.2)
 
 before-fed : (closes : Row → Bool) (from : ℕ) (rs : List Row) (to : ℕ) → Fed from rs to → Fed from (lines_before closes rs) to
 before-fed closes from [] to f = f
-before-fed closes from (r ∷ rs) to f = go (closes r) (before-fed closes r.line_end rs to f.2)
-  where
-    go : (z : Bool) → Fed r.line_end (lines_before closes rs) to → Fed from (stop_at z r (lines_before closes rs)) to
-    go true ih = fed-le from (r ∷ rs) to f
-    go false ih = (f.0, f.1, ih)
+before-fed closes from (r ∷ rs) to f = grind (arith, fed-le, before-fed closes r.line_end rs to f.2)
 
 html-count : (text : List ℕ) (from : ℕ) (rs : List Row) (to : ℕ) → Fed from rs to → count_nodes (html_tokens text rs) + 4 * from ≤ 4 * to
 html-count text from [] to f = let a : from ≤ to = f in omega (arith, a)
-html-count text from (r ∷ rs) to f =
-    let a : from < r.line_end = f.0 in
-    let b = verbatim-count text r.columns r in
-    let c = html_then-count (verbatim_line text r.columns r) (html_tokens text rs) in
-    let ih = html-count text r.line_end rs to f.2 in
-    omega (arith, a, b, c, ih)
+html-count text from (r ∷ rs) to f = grind (arith, verbatim-count, html_then-count, html-count text r.line_end rs to f.2)
 
 heading-count : (text : List ℕ) (attributes : Bool) (level from : ℕ) (r : Row) → Lies from r → start_of r + count_nodes (heading_tokens text attributes level r) ≤ r.content_end
 heading-count text attributes level from r h =
@@ -322,11 +271,7 @@ leaf-count text options lookup from leaf first more after s e f few = go leaf fe
         let d = code-count text fence.indented first.line_end (fenced_lines fence more) (last_line_end first more) (before-fed (closes_fence fence) first.line_end more (last_line_end first more) f) in
         let t = texts-count (code_pieces text fence.indented (fenced_lines fence more)) Nil in
         omega (arith, low, some, high, d, t)
-    go (HtmlBlockLeaf kind) few =
-        let b = verbatim-count text first.columns first in
-        let c = html_then-count (verbatim_line text first.columns first) (html_tokens text more) in
-        let d = html-count text first.line_end more (last_line_end first more) f in
-        omega (arith, low, some, high, b, c, d)
+    go (HtmlBlockLeaf kind) few = grind (arith, verbatim-count, html_then-count, html-count, low, some, high)
     go (MetadataBlockLeaf kind) few =
         let d = code-count text 0 first.line_end (lines_before (ends_metadata kind) more) (last_line_end first more) (before-fed (ends_metadata kind) first.line_end more (last_line_end first more) f) in
         let t = texts-count (code_pieces text 0 (lines_before (ends_metadata kind) more)) Nil in
@@ -341,9 +286,7 @@ leaf-count text options lookup from leaf first more after s e f few = go leaf fe
     go _ few = omega (arith, low, some, high, up)
 
 item-count : (joins : Bool) (list : BlockKind) (item : BlockNode) (inside after : BlockDocument) → count_nodes (item_then joins list item inside after) ≤ 2 + (count_nodes inside + count_nodes after)
-item-count false list item inside after = omega arith
-item-count true list item inside Nil = omega arith
-item-count true list item inside (Node others items after) = omega arith
+item-count joins list item inside after = grind arith
 
 -- the first node is no table
 abbrev NoTableFirst : BlockDocument → Type 0
@@ -351,27 +294,16 @@ NoTableFirst Nil = Unit {0}
 NoTableFirst (Node node inside after) = count_table node.kind ≡ 0
 
 item-tables : (joins : Bool) (list : BlockKind) (item : BlockNode) (inside after : BlockDocument) → count_table list ≡ 0 → count_table item.kind ≡ 0 → (joins ≡ true → NoTableFirst after) → count_tables (item_then joins list item inside after) ≡ count_tables inside + count_tables after
-item-tables false list item inside after l e f = omega (arith, l, e)
-item-tables true list item inside Nil l e f = omega (arith, l, e)
-item-tables true list item inside (Node others items after) l e f = let n : count_table others.kind ≡ 0 = f refl in omega (arith, l, e, n)
+item-tables joins list item inside after l e f = grind arith
 
 list-table : (delimiter : ℕ) (number : Option ℕ) (tight : Bool) → count_table (list_kind delimiter number tight) ≡ 0
-list-table delimiter number tight = go (delimiter == definition_delimiter)
-  where
-    go : (z : Bool) → count_table (if z then DefinitionList tight else BlockList number tight) ≡ 0
-    go true = refl
-    go false = refl
+list-table delimiter number tight = grind arith
 
 -- a paragraph, as a title or as itself: the document after it begins in this list or in none
 title-count : (is_title tight : Bool) (other : BlockKind) (start end : ℕ) (inside after following : BlockDocument) → count_table other ≡ 0 → (is_title ≡ true → NoTableFirst after) → (from most : ℕ)
     → from + count_nodes after ≤ most + 262144 * count_tables after → from + count_nodes following ≤ most + 262144 * count_tables following → (d : BlockDocument) → d ≡ (if is_title then item_then true (DefinitionList tight) (node DefinitionListTitle start end) inside after else Node (node other start end) inside following)
     → from + count_nodes d ≤ 2 + (count_nodes inside + most) + 262144 * count_tables d
-title-count true tight other start end inside after following k f from most a b d is =
-    let n = item-count true (DefinitionList tight) (node DefinitionListTitle start end) inside after in
-    let t = item-tables true (DefinitionList tight) (node DefinitionListTitle start end) inside after refl refl f in
-    subst (λ x. from + count_nodes x ≤ 2 + (count_nodes inside + most) + 262144 * count_tables x) (sym is) (omega (arith, n, t, a))
-title-count false tight other start end inside after following k f from most a b d is =
-    subst (λ x. from + count_nodes x ≤ 2 + (count_nodes inside + most) + 262144 * count_tables x) (sym is) (omega (arith, k, b))
+title-count is_title tight other start end inside after following k f from most a b d is = grind (arith, item-count, item-tables)
 
 title-tables : (is_title tight : Bool) (other : BlockKind) (start end : ℕ) (inside after following : BlockDocument) → count_table other ≡ 0 → (is_title ≡ true → NoTableFirst after) → (most : ℕ) → count_tables after ≤ most → count_tables following ≤ most
     → count_tables (if is_title then item_then true (DefinitionList tight) (node DefinitionListTitle start end) inside after else Node (node other start end) inside following) ≤ count_tables inside + most
@@ -381,19 +313,11 @@ title-tables false tight other start end inside after following k f most a b = o
 -- texts contain no table
 texts-tables : (ps : List Piece) (after : BlockDocument) → count_tables (texts_then ps after) ≡ count_tables after
 texts-tables [] after = refl
-texts-tables (p ∷ ps) after = let k = kind p.owned in let ih = texts-tables ps after in omega (arith, k, ih)
-  where
-    kind : (z : Bool) → count_table (if z then OwnedText p.bytes else Text p.bytes) ≡ 0
-    kind true = refl
-    kind false = refl
+texts-tables (p ∷ ps) after = grind (arith, texts-tables ps after)
 
 html_then-tables : (ps : List Piece) (after : BlockDocument) → count_tables (html_then ps after) ≡ count_tables after
 html_then-tables [] after = refl
-html_then-tables (p ∷ ps) after = let k = kind p.owned in let ih = html_then-tables ps after in omega (arith, k, ih)
-  where
-    kind : (z : Bool) → count_table (if z then OwnedText p.bytes else Html p.bytes) ≡ 0
-    kind true = refl
-    kind false = refl
+html_then-tables (p ∷ ps) after = grind (arith, html_then-tables ps after)
 
 html-tables : (text : List ℕ) (rs : List Row) → count_tables (html_tokens text rs) ≡ 0
 html-tables text [] = refl
@@ -404,49 +328,22 @@ stretch-tables text start end after = texts-tables (piece_if text start end []) 
 
 stretches-tables : (text : List ℕ) (begin : ℕ) (r : Row) (more : List Row) → count_tables (stretches text begin r more) ≡ 0
 stretches-tables text begin r [] = stretch-tables text begin (words_end r) Nil
-stretches-tables text begin r (s ∷ more) = go (begin_of s == r.line_end) (stretches-tables text begin s more) (stretches-tables text (begin_of s) s more)
-  where
-    go : (z : Bool) → count_tables (stretches text begin s more) ≡ 0 → count_tables (stretches text (begin_of s) s more) ≡ 0 → count_tables (if z then stretches text begin s more else stretch_then text begin r.line_end (stretches text (begin_of s) s more)) ≡ 0
-    go true p q = p
-    go false p q = stretch-tables text begin r.line_end (stretches text (begin_of s) s more) ∙ q
+stretches-tables text begin r (s ∷ more) = search (rules, stretch-tables, stretches-tables text begin s more, stretches-tables text (begin_of s) s more)
 
 cells-tables : (text : List ℕ) (columns at line_end : ℕ) (cells : List (List ℕ)) → count_tables (cells_then text columns at line_end cells) ≡ 0
 cells-tables text zero at line_end cells = refl
 cells-tables text (suc columns) at line_end [] = let ih = cells-tables text columns at line_end [] in omega (arith, ih)
-cells-tables text (suc columns) at line_end (cell ∷ cells) =
-    let c = stretch-tables text (at + length (take_while is_blank_byte cell)) (at + length (drop_end is_blank_byte cell)) Nil in
-    let ih = cells-tables text columns (suc (at + length cell)) line_end cells in
-    omega (arith, c, ih)
+cells-tables text (suc columns) at line_end (cell ∷ cells) = search (rules, stretch-tables, cells-tables text columns (suc (at + length cell)) line_end cells)
 
 rows-tables : (text : List ℕ) (columns : ℕ) (rs : List Row) → count_tables (row_tokens text columns rs) ≡ 0
 rows-tables text columns [] = refl
-rows-tables text columns (r ∷ rs) =
-    let c = cells-tables text columns (cells_start r) r.line_end (cells_of (words_of r)) in
-    let ih = rows-tables text columns rs in
-    omega (arith, c, ih)
+rows-tables text columns (r ∷ rs) = grind (arith, cells-tables, rows-tables text columns rs)
 
 leaf-tables : (text : List ℕ) (options : Options) (lookup : Lookup) (leaf : Leaf) (first : Row) (more : List Row) (after : BlockDocument) → count_tables (leaf_then text options lookup leaf first more after) ≡ is_table leaf + count_tables after
-leaf-tables text options lookup (AtxHeadingLeaf level) first more after =
-    let c = stretch-tables text (first_place first.content_end (after_hashes level first)) (end_place (first_place first.content_end (after_hashes level first)) (heading_columns options.heading_attributes level first)) Nil in omega (arith, c)
-leaf-tables text options lookup IndentedCodeLeaf first more after = let c = texts-tables (code_pieces text 4 (first ∷ more)) Nil in omega (arith, c)
-leaf-tables text options lookup (FencedCodeLeaf fence) first more after = let c = texts-tables (code_pieces text fence.indented (fenced_lines fence more)) Nil in omega (arith, c)
-leaf-tables text options lookup (HtmlBlockLeaf kind) first more after = let c = html-tables text (first ∷ more) in omega (arith, c)
-leaf-tables text options lookup (MetadataBlockLeaf kind) first more after = let c = texts-tables (code_pieces text 0 (lines_before (ends_metadata kind) more)) Nil in omega (arith, c)
-leaf-tables text options lookup (TableLeaf alignments) first more after =
-    let c = cells-tables text (length alignments) (cells_start first) first.line_end (cells_of (words_of first)) in
-    let d = rows-tables text (length alignments) (drop 1 more) in
-    omega (arith, c, d)
-leaf-tables text options lookup _ first more after = omega arith
+leaf-tables text options lookup leaf first more after = grind (arith, stretch-tables, texts-tables, html-tables, cells-tables, rows-tables)
 
 is_table-few : (leaf : Leaf) → is_table leaf ≤ 1
-is_table-few ThematicBreakLeaf = omega arith
-is_table-few (AtxHeadingLeaf level) = omega arith
-is_table-few IndentedCodeLeaf = omega arith
-is_table-few (FencedCodeLeaf fence) = omega arith
-is_table-few (HtmlBlockLeaf kind) = omega arith
-is_table-few (LinkDefinitionLeaf definition) = omega arith
-is_table-few (MetadataBlockLeaf kind) = omega arith
-is_table-few (TableLeaf alignments) = omega arith
+is_table-few leaf = grind arith
 
 module _ (text : List ℕ) (options : Options) (lookup : Lookup) where
   begun-words : (following : Place) (r : Row) (ahead : List Row) → MayBegin options following r → opens_at options following r ahead ≡ Plain → is_blank_line r ≡ false
@@ -493,34 +390,17 @@ module _ (text : List ℕ) (options : Options) (lookup : Lookup) where
   paragraph-table false = refl
 
   item-first : (joins : Bool) (list : BlockKind) (item : BlockNode) (inside d : BlockDocument) → count_table list ≡ 0 → NoTableFirst (item_then joins list item inside d)
-  item-first false list item inside d l = l
-  item-first true list item inside Nil l = l
-  item-first true list item inside (Node others items rest) l = l
+  item-first joins list item inside d l = grind arith
 
   -- a list that continues is not a table
   list-first : (direct : Bool) (before : Option ListBefore) (delimiter : ℕ) (b : Blocks) → goes_on delimiter b ≡ true → NoTableFirst (document_of text options lookup direct before b)
   list-first direct before delimiter NoBlocks e = tt
   list-first direct before delimiter (BlankLine line after) e = list-first direct before delimiter after e
-  list-first direct before delimiter (ParagraphBlock first more after) e =
-      go (is_title after) (both (definition_delimiter == delimiter) (is_title after) e) (document_of text options lookup direct (Some (record { delimiter = definition_delimiter; tight = title_tight_after before after })) after)
-    where
-      both : (a b : Bool) → (a && b) ≡ true → b ≡ true
-      both true b q = q
-      both false b q = absurd (true≢false (sym q))
-
-      go : (z : Bool) → z ≡ true → (d : BlockDocument) → NoTableFirst (if z then item_then true (DefinitionList (title_tight_after before after)) (node DefinitionListTitle (start_of first) (last_line_end first more)) (paragraph_tokens text first more) d
-          else Node (node (paragraph_kind direct) (start_of first) (last_line_end first more)) (paragraph_tokens text first more) (document_of text options lookup direct None after))
-      go true q Nil = refl
-      go true q (Node others items rest) = refl
-      go false q d = absurd (true≢false (sym q))
+  list-first direct before delimiter (ParagraphBlock first more after) e = grind arith
   list-first direct before delimiter (ContainerBlock (BlockQuote alert) first more inside after) e = absurd (true≢false (sym e))
   list-first direct before delimiter (ContainerBlock (Footnote label old size) first more inside after) e = absurd (true≢false (sym e))
-  list-first direct before delimiter (ContainerBlock (Item m number width task) first more inside after) e =
-      item-first (goes_on m after) (list_kind m number (tight_after before m inside after)) (node ListItem (begin_of first) (last_line_end first more)) _
-      (document_of text options lookup direct (Some (record { delimiter = m; tight = tight_after before m inside after })) after) (list-table m number (tight_after before m inside after))
-  list-first direct before delimiter (ContainerBlock (ListDefinition width) first more inside after) e =
-      item-first (goes_on definition_delimiter after) (DefinitionList (tight_after before definition_delimiter inside after)) (node DefinitionListDefinition (begin_of first) (last_line_end first more)) _
-      (document_of text options lookup direct (Some (record { delimiter = definition_delimiter; tight = tight_after before definition_delimiter inside after })) after) refl
+  list-first direct before delimiter (ContainerBlock (Item m number width task) first more inside after) e = grind (arith, item-first, list-table)
+  list-first direct before delimiter (ContainerBlock (ListDefinition width) first more inside after) e = grind (arith, item-first)
   list-first direct before delimiter _ e = absurd (true≢false (sym e))
 
   pub document-count : (direct : Bool) (before : Option ListBefore) (following : Place) (from : ℕ) (all : List Row) (b : Blocks) (to : ℕ) → Body options following all b → FedAfter from all to → 4 * from + count_nodes (document_of text options lookup direct before b) ≤ 4 * to + 262144 * count_tables (document_of text options lookup direct before b)
@@ -698,11 +578,7 @@ onto-full b (l ∷ ls) f = (omega arith, f.1)
 
 pub lines-full : (bs : List ℕ) → Full (lines bs)
 lines-full [] = tt
-lines-full (b ∷ bs) = go (ends_line b bs) (lines-full bs)
-  where
-    go : (z : Bool) → Full (lines bs) → Full (if z then (b ∷ []) ∷ lines bs else onto b (lines bs))
-    go true f = (omega arith, f)
-    go false f = onto-full b (lines bs) f
+lines-full (b ∷ bs) = grind (arith, onto-full, lines-full bs)
 
 pub rows-fed : (at : ℕ) (ls : List (List ℕ)) (to : ℕ) → Full ls → Along at (rows_from at ls) to → Fed at (rows_from at ls) to
 rows-fed at [] to f a = a

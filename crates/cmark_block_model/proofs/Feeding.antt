@@ -1,5 +1,5 @@
 -- Another line after the open block of the innermost container.
-use Rattle.std.proofs.Common.{◌≡◌, ℕ, zero, suc, ◌-◌, Bool, true, false, ◌==◌, List, [], ◌∷◌, ◌++◌, length, take, refl, ap, ◌∙◌, sym, append_assoc, append-nil, Option, Some, None, arith}
+use Rattle.std.proofs.Common.{◌≡◌, ℕ, zero, suc, ◌-◌, Bool, true, false, ◌==◌, List, [], ◌∷◌, ◌++◌, length, take, refl, ap, ◌∙◌, sym, append_assoc, append-nil, Option, Some, None, arith, rules}
 use Rattle.std.specs.Prelude.{if◌then◌else◌}
 use Rattle.cmark_grammar.specs.Answers.{Lookup}
 use Rattle.cmark_grammar.specs.SetextAttributes.{content_of, without_braces, setext_attributes}
@@ -15,8 +15,8 @@ use Rattle.cmark_block_model.specs.BlocksByLine.{Between, InParagraph, InLeaf, l
 use Rattle.cmark_grammar.specs.Tokens.{stretch_then, paragraph_tokens}
 use Rattle.cmark_grammar.specs.BlockDocument as document
 use Rattle.cmark_grammar.specs.BlockDocument.{BlockDocument, Nil, Node, node, join}
-use Rattle.cmark_block_model.specs.OpenBlocks.{OpenContainer, OpenLeaf, Closed, InParagraph as InParagraphLeaf, InDefinition, InTable, Pass}
-use Rattle.cmark_block_model.specs.BlockPass.{ahead_in, begin, close_leaf, leaf_closed, leaf_fed, underlined_or, heading_made, kept_lines, paragraph_line, table_row}
+use Rattle.cmark_block_model.specs.OpenBlocks.{OpenContainer, OpenLeaf, Closed, InParagraph as InParagraphLeaf, InTable, Pass}
+use Rattle.cmark_block_model.specs.BlockPass.{ahead_in, begin, close_leaf, leaf_closed, leaf_fed, underlined_or, heading_made, kept_lines, paragraph_line}
 use Rattle.cmark_block_model.proofs.Replay.{Level, begun, paragraph_begun, untitled, level_opened, level_drawn, leaf_level, replay, replay-join}
 use Rattle.cmark_block_model.proofs.Mirror.{whole, kept_before, kept_push, attributes-kept, braces-kept, whole-same, last_of, last_push, last_begin, begin_push, pass_with, cells_left, left-push, table_leaf, leaf_left, is_looked_up, lines_left, row-taken, no-row, FitsLeaf, Fits, lines_drawn, drawn-tokens, one_more, drawn-push, paragraph_open, paragraph_leaf, rows-push, table_open, leaf_open, inner_at, leaf_at, pass_at}
 use Rattle.cmark_block_model.proofs.Closing.{noded, leaf-closes, leaf-left}
@@ -92,9 +92,7 @@ module _ (text : List ℕ) (options : Options) (lookup : Lookup) where
           ∙ ap (λ t. pass_with (untitled (noded text options lookup (document.Heading level (setext_attributes on content)) (start_of first) r.line_end t (paragraph_begun c))) outer false Closed n) (braces-kept text on first more tokens)
           ∙ ap (λ q. pass_with q outer false Closed n) (sym (replay-join text options lookup closed (SetextHeading level first more r NoBlocks) l))
           ∙ end outer (replay text options lookup (join_blocks closed (SetextHeading level first more r NoBlocks)) l) Closed
-      go None =
-          ap (λ x. if texts options r x then paragraph_line text options lookup (kept_before options.heading_attributes first more) from (whole (last_of first more)) r p else begin text options lookup r next (leaf_closed text options lookup p)) a
-          ∙ text-goes (texts options r ahead)
+      go None = grind (arith, kept_before, from, whole, last_of, p, text-goes)
 
   -- a table continues with a row
   table-goes : (alignments : List Alignment) (first : Row) (had : List Row) (left : ℕ) (r : Row) (next ahead : List Row) (q : Level) (outer : List OpenContainer) (n : ℕ) → suc left ≡ lines_left options (length alignments) had (r ∷ ahead)
@@ -138,12 +136,7 @@ module _ (text : List ℕ) (options : Options) (lookup : Lookup) where
       table : (alignments : List Alignment) (rs : List Row) (q : Level) → 0 ≡ lines_left options (length alignments) rs (r ∷ ahead)
           → leaf_fed text options lookup (table_leaf (length alignments) rs) r next (pass_with q outer false (table_leaf (length alignments) rs) n)
           ≡ begin text options lookup r next (close_leaf text options lookup (table_leaf (length alignments) rs) (pass_with q outer false (table_leaf (length alignments) rs) n))
-      table alignments [] q none = absurd (omega (arith, none))
-      table alignments (delimiter ∷ rows) q none =
-          let columns = length alignments in
-          let cells = cells_left columns most_filled rows in
-          let p = pass_with q outer false (InTable columns cells true) n in
-          ap (λ z. if z then table_row text options lookup columns cells r p else begin text options lookup r next (leaf_closed text options lookup p)) (no-row options columns cells r ahead none)
+      table alignments rs q none = grind (arith, cells_left, pass_with, no-row)
 
       done : (leaf : Leaf) → FitsLeaf options leaf first had zero (r ∷ ahead) n → (q : Level) → Done leaf q
       done (Table alignments) f q = table alignments had q f.1
@@ -159,10 +152,6 @@ module _ (text : List ℕ) (options : Options) (lookup : Lookup) where
       go : (leaf : Leaf) → (is_looked_up leaf ≡ false → suc left ≡ 0) → FitsLeaf options leaf first had (suc left) (r ∷ ahead) n
           → leaf_fed text options lookup (leaf_left leaf had (suc left)) r next (pass_with (leaf_open text options lookup leaf first had (take (suc left) (r ∷ ahead)) (replay text options lookup closed l)) outer false (leaf_left leaf had (suc left)) n)
           ≡ pass_with (leaf_open text options lookup leaf first (had ++ r ∷ []) (take left ahead) (replay text options lookup closed l)) (outer ++ []) false (leaf_left leaf (had ++ r ∷ []) left) n
-      go (LinkDefinition definition) h f =
-          ap (λ x. pass_with (leaf_level text options lookup (LinkDefinition definition) first x (replay text options lookup closed l)) outer false (InDefinition left) n) (sym (append_assoc had (r ∷ []) (take left ahead)))
-          ∙ end (leaf_level text options lookup (LinkDefinition definition) first ((had ++ r ∷ []) ++ take left ahead) (replay text options lookup closed l)) (InDefinition left)
-      go (Table alignments) h f =
-          table-goes alignments first had left r next ahead (replay text options lookup closed l) outer n f.1
-          ∙ end (table_open text options lookup alignments first (had ++ r ∷ []) (replay text options lookup closed l)) (table_leaf (length alignments) (had ++ r ∷ []))
+      go (LinkDefinition definition) h f = search (rules, pass_with, leaf_level, replay, append_assoc, end)
+      go (Table alignments) h f = search (rules, table-goes, replay, end, table_open, table_leaf)
       go _ h f = none (h refl)

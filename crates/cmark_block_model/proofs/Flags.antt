@@ -180,9 +180,7 @@ module _ (text : List ℕ) (options : Options) (lookup : Lookup) where
 
       same : (z : Bool) (o : OpenList) (d : Drawing) (blank p : Bool) (rs : Noted) → (o.delimiter == delimiter) ≡ z → (replay text options lookup after (left_by (Item delimiter number width task) (item_if z delimiter number (begin_of first) o (level_of (InList o) d blank p rs)).inner (last_line_end first more)
           (replay text options lookup inside (record (level_drawn (marked task width first document.Nil) (level_opened (begin_of first) document.ListItem (item_if z delimiter number (begin_of first) o (level_of (InList o) d blank p rs)))) { inner = no_siblings })))).inner.parted ≡ (p || ((blank && not z) || parted (ItemWith delimiter) (ends_blank true false inside) after))
-      same true o d blank p rs e =
-          one (longer o blank) d p rs ∙ ap (λ m. p || parted (ItemWith m) (ends_blank true false inside) after) (same-delimiter o.delimiter delimiter e)
-          ∙ ap (λ z. p || (z || parted (ItemWith delimiter) (ends_blank true false inside) after)) (sym (and-false blank))
+      same true o d blank p rs e = cc (one (longer o blank) d p rs, same-delimiter o.delimiter delimiter e, and-false blank)
       same false o d blank p rs e = one (fresh delimiter number (begin_of first)) (opened (begin_of first) (list_kind delimiter number false) (list_closed (Some o) d)) (p || blank) rs ∙ or-and p blank _
 
       at : (s : Stand) (d : Drawing) (blank p : Bool) (rs : Noted) → (replay text options lookup (ContainerBlock (Item delimiter number width task) first more inside after) (level_of s d blank p rs)).inner.parted ≡ (p || parted (before_of s) blank (ContainerBlock (Item delimiter number width task) first more inside after))

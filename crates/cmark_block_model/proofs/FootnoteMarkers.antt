@@ -1,8 +1,8 @@
 -- The marker of a footnote definition ends with its colon.
-use Rattle.std.proofs.Common.{◌≡◌, ℕ, zero, suc, ◌<◌, Bool, true, false, ◌==◌, List, [], ◌∷◌, length, drop, refl, ap, ◌∙◌, subst, arith, Option, Some, None}
+use Rattle.std.proofs.Common.{◌≡◌, ℕ, zero, suc, ◌<◌, Bool, false, List, [], ◌∷◌, length, drop, arith, Option, Some, None}
 use Rattle.std.specs.Prelude.{if◌then◌else◌}
-use Rattle.cmark_grammar.specs.LinkDefinitions.{Parsed, put, escapes_next, is_label, label_if, up_to}
-use Rattle.cmark_grammar.specs.Footnotes.{colon_after, label_then_colon, after_caret, footnote_in}
+use Rattle.cmark_grammar.specs.LinkDefinitions.{Parsed, put, escapes_next, label_if, up_to}
+use Rattle.cmark_grammar.specs.Footnotes.{colon_after, label_then_colon, footnote_in}
 
 pub up-to-following : (closer refused : ℕ) (over_lines escaped : Bool) (bs : List ℕ) (f : Parsed) → up_to escaped closer refused over_lines bs ≡ Some f → drop (suc (length f.bytes)) bs ≡ f.following
 up-to-following closer refused over_lines escaped [] f e = absurd (let q : None ≡ Some f = e in cc)
@@ -11,52 +11,17 @@ up-to-following closer refused over_lines escaped (b ∷ bs) f e =
   where
     go : (x y : Bool) (o : Option Parsed) → ((g : Parsed) → o ≡ Some g → drop (suc (length g.bytes)) bs ≡ g.following)
         → (if x then Some (record { bytes = []; following = bs }) else if y then None else put b o) ≡ Some f → drop (suc (length f.bytes)) (b ∷ bs) ≡ f.following
-    go true y o ih q = let p : record { bytes = []; following = bs } ≡ f = cc in subst (λ (g : Parsed). drop (suc (length g.bytes)) (b ∷ bs) ≡ g.following) p refl
-    go false true o ih q = absurd (let z : None ≡ Some f = q in cc)
-    go false false None ih q = absurd (let z : None ≡ Some f = q in cc)
-    go false false (Some g) ih q =
-        let p : record { bytes = b ∷ g.bytes; following = g.following } ≡ f = cc in
-        subst (λ (k : Parsed). drop (suc (length k.bytes)) (b ∷ bs) ≡ k.following) p (ih g refl)
+    go x y o ih q = grind arith
 
 colon-is : (label bs : List ℕ) (found : Parsed) → colon_after label bs ≡ Some found → (label ≡ found.bytes) × (bs ≡ 58 ∷ found.following)
-colon-is label [] found e = absurd (let q : None ≡ Some found = e in cc)
-colon-is label (b ∷ bs) found e = go (b == 58) refl e
-  where
-    same : (b : ℕ) → (b == 58) ≡ true → b ≡ 58
-    same b q = grind (arith)
-
-    go : (z : Bool) → (b == 58) ≡ z → (if z then Some (record { bytes = label; following = bs }) else None) ≡ Some found → (label ≡ found.bytes) × (b ∷ bs ≡ 58 ∷ found.following)
-    go true eb q =
-        let p : record { bytes = label; following = bs } ≡ found = cc in
-        (ap (λ (f : Parsed). f.bytes) p, ap (λ x. x ∷ bs) (same b eb) ∙ ap (λ (f : Parsed). 58 ∷ f.following) p)
-    go false eb q = absurd (let z : None ≡ Some found = q in cc)
+colon-is label bs found e = grind arith
 
 label-colon : (bs : List ℕ) (o : Option Parsed) (found : Parsed) → up_to false 93 91 false bs ≡ o → label_then_colon (label_if o) ≡ Some found → drop (suc (length found.bytes)) bs ≡ 58 ∷ found.following
-label-colon bs None found eo e = absurd (let q : None ≡ Some found = e in cc)
-label-colon bs (Some f) found eo e = go (is_label f.bytes) e
-  where
-    go : (z : Bool) → label_then_colon (if z then Some f else None) ≡ Some found → drop (suc (length found.bytes)) bs ≡ 58 ∷ found.following
-    go false q = absurd (let z : None ≡ Some found = q in cc)
-    go true q =
-        let p = colon-is f.bytes f.following found q in
-        subst (λ l. drop (suc (length l)) bs ≡ 58 ∷ found.following) p.0 (up-to-following 93 91 false false bs f eo ∙ p.1)
+label-colon bs o found eo e = grind (arith, colon-is, up-to-following)
 
 -- after `[^`, the label and `]` comes the colon, and then the rest
 pub colon-at : (bs : List ℕ) (found : Parsed) → footnote_in bs ≡ Some found → drop (suc (suc (suc (length found.bytes)))) bs ≡ 58 ∷ found.following
-colon-at [] found e = absurd (let q : None ≡ Some found = e in cc)
-colon-at (b ∷ bs) found e = outer (b == 91) e
-  where
-    inner : (cs : List ℕ) → after_caret cs ≡ Some found → drop (suc (suc (length found.bytes))) cs ≡ 58 ∷ found.following
-    inner [] q = absurd (let z : None ≡ Some found = q in cc)
-    inner (c ∷ cs) q = go (c == 94) q
-      where
-        go : (z : Bool) → (if z then label_then_colon (label_if (up_to false 93 91 false cs)) else None) ≡ Some found → drop (suc (suc (length found.bytes))) (c ∷ cs) ≡ 58 ∷ found.following
-        go true p = label-colon cs (up_to false 93 91 false cs) found refl p
-        go false p = absurd (let z : None ≡ Some found = p in cc)
-
-    outer : (z : Bool) → (if z then after_caret bs else None) ≡ Some found → drop (suc (suc (suc (length found.bytes)))) (b ∷ bs) ≡ 58 ∷ found.following
-    outer true q = inner bs q
-    outer false q = absurd (let z : None ≡ Some found = q in cc)
+colon-at bs found e = grind (arith, label-colon)
 
 -- the byte at this place is ASCII, if there is one
 abbrev pub IsAsciiAt : ℕ → List ℕ → Type 0

@@ -1,7 +1,6 @@
 -- Properties of the first elements of a list.
-use Rattle.std.proofs.Common.{◌≡◌, ℕ, zero, suc, ◌+◌, ◌≤◌, ◌<◌, Bool, true, false, List, [], ◌∷◌, length, drop, take_while, refl, sym, subst, arith}
+use Rattle.std.proofs.Common.{◌≡◌, ℕ, zero, suc, ◌+◌, ◌≤◌, ◌<◌, Bool, true, List, [], ◌∷◌, length, drop, take_while, subst, arith}
 use Rattle.std.proofs.lemmas.List.Sums.{take_while-cons}
-use Rattle.std.specs.Prelude.{cond}
 
 -- a property of the first `n` elements, as far as there are any
 abbrev pub Front : {X : Type 0} → (X → Type 0) → ℕ → List X → Type 0
@@ -22,11 +21,7 @@ front-add Q (suc m) n (x ∷ xs) f g = subst (λ k. Front Q k (x ∷ xs)) (let z
 
 pub prefix-front : {X : Type 0} (p : X → Bool) (Q : X → Type 0) → ((x : X) → p x ≡ true → Q x) → (xs : List X) → Front Q (length (take_while p xs)) xs
 prefix-front p Q holds [] = tt
-prefix-front p Q holds (x ∷ xs) = subst (λ l. Front Q (length l) (x ∷ xs)) (sym (take_while-cons p x xs)) (go (p x) refl (prefix-front p Q holds xs))
-  where
-    go : (z : Bool) → p x ≡ z → Front Q (length (take_while p xs)) xs → Front Q (length (cond z (x ∷ take_while p xs) [])) (x ∷ xs)
-    go true e ih = (holds x e, ih)
-    go false e ih = tt
+prefix-front p Q holds (x ∷ xs) = grind (arith, take_while-cons, prefix-front p Q holds xs)
 
 abbrev pub IsAsciiByte : ℕ → Type 0
 IsAsciiByte b = b < 128

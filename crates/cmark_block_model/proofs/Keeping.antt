@@ -1,19 +1,14 @@
 -- The invariant of the open blocks is kept, line by line.
-use Rattle.std.proofs.Common.{◌≡◌, ℕ, zero, suc, ◌≤◌, ◌&&◌, Bool, true, false, List, [], ◌∷◌, ◌++◌, length, refl, ap, ◌∙◌, sym, subst, Option, Some, None, arith, true≢false}
-use Rattle.std.specs.Prelude.{if◌then◌else◌}
+use Rattle.std.proofs.Common.{◌≡◌, ℕ, zero, suc, ◌≤◌, ◌&&◌, Bool, true, false, List, [], ◌∷◌, ◌++◌, length, refl, ap, ◌∙◌, sym, subst, Option, Some, None, arith, true≢false, rules}
 use Rattle.cmark_grammar.specs.Answers.{Lookup}
 use Rattle.cmark_grammar.specs.Options.{Options}
 use Rattle.cmark_grammar.specs.Places.{AfterLazy}
 use Rattle.cmark_grammar.specs.Rows.{Row, lazy_row, show_as}
-use Rattle.cmark_grammar.specs.Leaves.{Continuation, GoesOn, Closes, Waits, Stops, underlines, code_continuation, closes_fence}
-use Rattle.cmark_grammar.specs.HtmlBlocks.{html_continuation}
 use Rattle.cmark_grammar.specs.Containers.{Container, keeps, strip, is_bare_start, bare_after}
-use Rattle.cmark_grammar.specs.Openings.{Leaf, Table, texts, lazily, count_rows}
-use Rattle.cmark_grammar.specs.TableRows.{most_filled}
-use Rattle.cmark_grammar.specs.Blocks.{Blocks, Nil as NoBlocks, Paragraph, SetextHeading, LeafBlock, ContainerBlock, join as join_blocks}
+use Rattle.cmark_grammar.specs.Openings.{Leaf, lazily}
+use Rattle.cmark_grammar.specs.Blocks.{Blocks, Nil as NoBlocks, LeafBlock, ContainerBlock, join as join_blocks}
 use Rattle.cmark_block_model.specs.BlocksModel.{within}
-use Rattle.cmark_block_model.specs.BlocksByLine.{Verbatim, Indented, Fenced, HtmlLines, continuation_in, continuation_if, OpenLines, Between, AfterTag, InParagraph, InLeaf, InVerbatim, InContainer, close_lines, lines_take_lazy, lines_underline_or, lines_go_on_or, lines_kept_or, verbatim_line, lines_begin, lines_feed, Metadata}
-use Rattle.cmark_grammar.specs.Metadata.{ends_metadata}
+use Rattle.cmark_block_model.specs.BlocksByLine.{Verbatim, continuation_in, continuation_if, OpenLines, Between, AfterTag, InParagraph, InLeaf, InVerbatim, InContainer, close_lines, lines_take_lazy, lines_kept_or, verbatim_line, lines_begin, lines_feed}
 use Rattle.cmark_block_model.proofs.BlockLaws.{strip_lazy, strip_whole}
 use Rattle.cmark_block_model.proofs.BlocksSound.{bare_push, is_both}
 use Rattle.cmark_block_model.proofs.RowPlaces.{strip-line_end}
@@ -52,50 +47,16 @@ module _ (text : List ℕ) (options : Options) (lookup : Lookup) where
 
   verbatim-fits : (v : Verbatim) (closed : Blocks) (first : Row) (had waiting : List Row) (r : Row) (ahead : List Row) (b : Bool) (n : ℕ) → r.lazy ≡ false → FitsVerbatim v first had waiting n
       → Fits options false (verbatim_line (continuation_in v r) closed v first had waiting r (lines_begin options (close_lines (InVerbatim closed v first had waiting)) r ahead)) ahead r.line_end
-  verbatim-fits Indented closed first had waiting r ahead b n e f = go (code_continuation r)
-    where
-      go : (z : Continuation) → Fits options false (verbatim_line z closed Indented first had waiting r (lines_begin options (close_lines (InVerbatim closed Indented first had waiting)) r ahead)) ahead r.line_end
-      go GoesOn = (refl, tt)
-      go Closes = (refl, omega arith, λ never. refl, tt)
-      go Waits = (refl, tt)
-      go Stops = starts-fit text options lookup (close_lines (InVerbatim closed Indented first had waiting)) r ahead e
-  verbatim-fits (Fenced fence) closed first had waiting r ahead b n e f = go (closes_fence fence r) refl
-    where
-      go : (z : Bool) → closes_fence fence r ≡ z → Fits options false (verbatim_line (if z then Closes else GoesOn) closed (Fenced fence) first had waiting r (lines_begin options (close_lines (InVerbatim closed (Fenced fence) first had waiting)) r ahead)) ahead r.line_end
-      go true q = (refl, omega arith, λ never. refl, tt)
-      go false q = (refl, (refl, line_end_push first (had ++ waiting) r, subst (AreBefore (closes_fence fence)) (sym (had-more text options lookup had waiting r f.0)) (before-push (closes_fence fence) had r f.2 q)))
-  verbatim-fits (HtmlLines kind) closed first had waiting r ahead b n e f = go (html_continuation kind r) refl
-    where
-      go : (z : Continuation) → html_continuation kind r ≡ z → Fits options false (verbatim_line z closed (HtmlLines kind) first had waiting r (lines_begin options (close_lines (InVerbatim closed (HtmlLines kind) first had waiting)) r ahead)) ahead r.line_end
-      go GoesOn q = (refl, (refl, line_end_push first (had ++ waiting) r))
-      go Closes q = (refl, omega arith, λ never. refl, tt)
-      go Waits q = absurd (never-waits text options lookup kind r q)
-      go Stops q = starts-fit text options lookup (close_lines (InVerbatim closed (HtmlLines kind) first had waiting)) r ahead e
-  verbatim-fits (Metadata kind) closed first had waiting r ahead b n e f = go (ends_metadata kind r) refl
-    where
-      go : (z : Bool) → ends_metadata kind r ≡ z → Fits options false (verbatim_line (if z then Closes else GoesOn) closed (Metadata kind) first had waiting r (lines_begin options (close_lines (InVerbatim closed (Metadata kind) first had waiting)) r ahead)) ahead r.line_end
-      go true q = (refl, omega arith, λ never. refl, tt)
-      go false q = (refl, (refl, line_end_push first (had ++ waiting) r, subst (AreBefore (ends_metadata kind)) (sym (had-more text options lookup had waiting r f.0)) (before-push (ends_metadata kind) had r f.2 q)))
+  verbatim-fits v closed first had waiting r ahead b n e f = search (rules, starts-fit, line_end_push, had-more, before-push, never-waits)
 
   -- a line of a leaf leaves one line fewer to come
   leaf-fits : (leaf : Leaf) (first : Row) (had : List Row) (left : ℕ) (r : Row) (ahead : List Row) (n : ℕ) → FitsLeaf options leaf first had (suc left) (r ∷ ahead) n → FitsLeaf options leaf first (had ++ r ∷ []) left ahead r.line_end
-  leaf-fits (Table alignments) first [] left r ahead n f = (refl, omega (arith, f.1))
-  leaf-fits (Table alignments) first (delimiter ∷ rows) left r ahead n f = (
-    line_end_push first (delimiter ∷ rows) r,
-    (row-taken options (length alignments) (cells_left (length alignments) most_filled rows) left r ahead f.1).1
-        ∙ ap (λ k. count_rows options (length alignments) k ahead) (sym (left-push (length alignments) most_filled rows r)),
-  )
-  leaf-fits _ first had left r ahead n f = tt
+  leaf-fits leaf first had left r ahead n f = grind (arith, line_end_push, row-taken, cells_left, left-push)
 
   pub feed-fits : (o : OpenLines) (b : Bool) (r : Row) (ahead : List Row) (n : ℕ) → r.lazy ≡ false → Fits options b o (r ∷ ahead) n → Fits options false (lines_feed options o r ahead) ahead r.line_end
   feed-fits (Between closed) b r ahead n e f = starts-fit text options lookup closed r ahead e
   feed-fits AfterTag b r ahead n e f = starts-fit-at text options lookup AfterLazy NoBlocks r ahead e
-  feed-fits (InParagraph closed first more) b r ahead n e f = go (underlines r) (texts options r ahead)
-    where
-      go : (u : Option ℕ) (z : Bool) → Fits options false (lines_underline_or u (λ level. Between (join_blocks closed (SetextHeading level first more r NoBlocks))) (lines_go_on_or z (InParagraph closed first (more ++ r ∷ [])) (lines_begin options (join_blocks closed (Paragraph first more NoBlocks)) r ahead))) ahead r.line_end
-      go (Some level) z = tt
-      go None true = (refl, line_end_push first more r)
-      go None false = starts-fit text options lookup (join_blocks closed (Paragraph first more NoBlocks)) r ahead e
+  feed-fits (InParagraph closed first more) b r ahead n e f = grind (arith, line_end_push, starts-fit)
   feed-fits (InLeaf closed leaf first had zero) b r ahead n e f = starts-fit text options lookup (join_blocks closed (LeafBlock leaf first had NoBlocks)) r ahead e
   feed-fits (InLeaf closed leaf first had (suc left)) b r ahead n e f =
       let le : suc left ≤ suc (length ahead) = f.1 in (refl, omega (arith, le), λ z. let q : suc left ≡ 0 = f.2 z in absurd (omega (arith, q)), leaf-fits leaf first had left r ahead n f.3)

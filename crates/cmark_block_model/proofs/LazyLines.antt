@@ -1,14 +1,14 @@
 -- A lazy line continues the open paragraph, or begins one after a definition.
-use Rattle.std.proofs.Common.{◌≡◌, ℕ, zero, suc, ◌≤◌, ◌&&◌, Bool, true, false, List, [], ◌∷◌, ◌++◌, length, refl, ap, ◌∙◌, sym, append_assoc, append-nil, None, arith, true≢false}
+use Rattle.std.proofs.Common.{◌≡◌, ℕ, zero, suc, ◌≤◌, Bool, true, false, List, [], ◌∷◌, ◌++◌, length, refl, ap, ◌∙◌, sym, append_assoc, append-nil, arith, true≢false}
 use Rattle.cmark_grammar.specs.Answers.{Lookup}
 use Rattle.cmark_grammar.specs.Options.{Options}
 use Rattle.cmark_grammar.specs.Rows.{Row, start_of, lazy_row}
-use Rattle.cmark_grammar.specs.Containers.{Container, enter, strip, is_bare_start, bare_after}
-use Rattle.cmark_grammar.specs.Openings.{Leaf, ThematicBreak, AtxHeading, IndentedCode, FencedCode, HtmlBlock, LinkDefinition, texts, lazily, MetadataBlock, Table}
-use Rattle.cmark_grammar.specs.Blocks.{Blocks, Nil as NoBlocks, Paragraph, SetextHeading, LeafBlock, ContainerBlock, join as join_blocks, after_leaf, place_in}
+use Rattle.cmark_grammar.specs.Containers.{Container, enter, is_bare_start, bare_after}
+use Rattle.cmark_grammar.specs.Openings.{Leaf, ThematicBreak, AtxHeading, IndentedCode, FencedCode, HtmlBlock, LinkDefinition, lazily, MetadataBlock, Table}
+use Rattle.cmark_grammar.specs.Blocks.{Blocks, Nil as NoBlocks, LeafBlock, join as join_blocks, after_leaf, place_in}
 use Rattle.cmark_grammar.specs.Places.{Place, Apart, AfterLazy, allows_lazy}
 use Rattle.cmark_block_model.specs.BlocksModel.{within, place_after}
-use Rattle.cmark_block_model.specs.BlocksByLine.{OpenLines, Between, AfterTag, InParagraph, InLeaf, InVerbatim, InContainer, close_lines, lines_take_lazy, lines_underline_or, lines_go_on_or, lines_kept_or, lines_begin_as, lines_begin_in, lines_begin_at, lines_begin, lines_feed}
+use Rattle.cmark_block_model.specs.BlocksByLine.{OpenLines, Between, AfterTag, InParagraph, InLeaf, InVerbatim, InContainer, lines_take_lazy, lines_begin_as, lines_begin_in, lines_begin_at, lines_begin, lines_feed}
 use Rattle.cmark_block_model.proofs.BlockLaws.{at-lazy, underlines-lazy, keeps-lazy, strip_lazy, lazily-texts, texts-lazily}
 use Rattle.cmark_block_model.proofs.BlocksSound.{bare_push}
 use Rattle.cmark_block_model.specs.OpenBlocks.{OpenContainer, InParagraph as InParagraphLeaf}
@@ -30,22 +30,11 @@ module _ (options : Options) where
   lazy-begins b r ahead = lazy-begins-at (place_after Apart b) b r ahead
 
   pub lazy-paragraph : (closed : Blocks) (first : Row) (more : List Row) (r : Row) (ahead x : List Row) (j : Container) → lazily options j r x ≡ true → lines_feed options (InParagraph closed first more) (lazy_row r) ahead ≡ InParagraph closed first (more ++ lazy_row r ∷ [])
-  lazy-paragraph closed first more r ahead x j e =
-      let other = lines_begin options (join_blocks closed (Paragraph first more NoBlocks)) (lazy_row r) ahead in
-      ap (λ u. lines_underline_or u (λ level. Between (join_blocks closed (SetextHeading level first more (lazy_row r) NoBlocks))) (lines_go_on_or (texts options (lazy_row r) ahead) (InParagraph closed first (more ++ lazy_row r ∷ [])) other)) (underlines-lazy options (lazy_row r) refl)
-      ∙ ap (λ z. lines_go_on_or z (InParagraph closed first (more ++ lazy_row r ∷ [])) other) (lazily-texts options j r x ahead e)
+  lazy-paragraph closed first more r ahead x j e = cc (underlines-lazy options (lazy_row r) refl, lazily-texts options j r x ahead e)
 
   pub lazy-container : (closed : Blocks) (k : Container) (first : Row) (more : List Row) (inside : OpenLines) (r : Row) (ahead x : List Row) (j : Container) → lazily options j r x ≡ true → lines_take_lazy inside ≡ true
       → lines_feed options (InContainer closed k first more inside) (lazy_row r) ahead ≡ InContainer closed k first (more ++ lazy_row r ∷ []) (lines_feed options inside (lazy_row r) (within k false ahead))
-  lazy-container closed k first more inside r ahead x j e t =
-      let bare = bare_after (is_bare_start k first) more in
-      let on = InContainer closed k first (more ++ lazy_row r ∷ []) (lines_feed options inside (strip k bare (lazy_row r)) (within k false ahead)) in
-      let off = lines_begin options (join_blocks closed (ContainerBlock k first more (close_lines inside) NoBlocks)) (lazy_row r) ahead in
-      let none = keeps-lazy options k bare (lazy_row r) refl in
-      ap (λ o. lines_kept_or o (lazily options k (lazy_row r) ahead && lines_take_lazy inside) on off) none
-      ∙ ap (λ z. lines_kept_or None (z && lines_take_lazy inside) on off) (lazily-still j k r x ahead e)
-      ∙ ap (λ z. lines_kept_or None z on off) t
-      ∙ ap (λ s. InContainer closed k first (more ++ lazy_row r ∷ []) (lines_feed options inside s (within k false ahead))) (strip_lazy options k bare (lazy_row r) none)
+  lazy-container closed k first more inside r ahead x j e t = grind (arith, keeps-lazy, lazily-still, strip_lazy)
 
 module _ (text : List ℕ) (options : Options) (lookup : Lookup) where
   -- a container continues

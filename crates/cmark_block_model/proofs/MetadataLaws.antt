@@ -1,26 +1,22 @@
 -- Metadata blocks are outside of all containers: a line in a container has lost a column, is held, lacks a prefix, or has no column left.
-use Rattle.std.proofs.Common.{◌≡◌, ◌⊎◌, inl, inr, ⊎_elim, ℕ, zero, suc, ◌+◌, ◌≤◌, ◌<◌, Bool, true, false, ◌==◌, ◌&&◌, ◌||◌, not, List, [], ◌∷◌, ◌++◌, length, drop, refl, sym, ap, ◌∙◌, subst, Option, Some, None, arith, ne_eqb, true≢false}
+use Rattle.std.proofs.Common.{◌≡◌, ◌⊎◌, inl, inr, ℕ, zero, suc, ◌+◌, ◌≤◌, ◌<◌, Bool, true, false, ◌==◌, ◌||◌, List, [], ◌∷◌, ◌++◌, length, drop, refl, sym, subst, Option, Some, None, arith, ne_eqb, rules}
 use Rattle.std.specs.Prelude.{if◌then◌else◌, nat_le}
 use Rattle.cmark_grammar.specs.Characters.{tab}
 use Rattle.cmark_grammar.specs.Options.{Options}
 use Rattle.cmark_grammar.specs.Places.{Place, Apart, AfterTitle, over_blank}
 use Rattle.cmark_grammar.specs.Alignment.{Alignment}
 use Rattle.cmark_grammar.specs.Lines.{lines, content}
-use Rattle.cmark_grammar.specs.Columns.{Column, expand, tab_columns, to_tab_stop, bytes_of}
-use Rattle.cmark_grammar.specs.Rows.{Row, rows, rows_from, without, hold, place, first_place, begin_of, is_blank_line, is_whole_line, indent_of, words_of, shown}
-use Rattle.cmark_grammar.specs.Leaves.{Fence, counted, is_thematic_break, is_atx_heading, run, fence_of, code_continuation}
-use Rattle.cmark_grammar.specs.HtmlBlocks.{html_kind}
-use Rattle.cmark_grammar.specs.LinkDefinitions.{Defined, definition_in, bytes_over}
-use Rattle.cmark_grammar.specs.Footnotes.{footnotes_in}
-use Rattle.cmark_grammar.specs.TableRows.{table_head}
-use Rattle.cmark_grammar.specs.MetadataBlockKind.{MetadataBlockKind}
-use Rattle.cmark_grammar.specs.Metadata.{metadata_of, metadata_if, metadata_kind}
-use Rattle.cmark_grammar.specs.Containers.{Container, BlockQuote, Item, Footnote, ListDefinition, is_block_quote, block_quote_width, marker_width, width_of, enter, keep_as, keeps, strip_as, strip, strips, is_alert, is_bare_start, unless_tag, insides, container_of}
-use Rattle.cmark_grammar.specs.Openings.{IndentedCode, Opening, Blank, Nests, Takes, Plain, or_else, nests_if, fenced_if, html_if, break_if, heading_if, defined_if, table_if, metadata_begun, begins_no_link, text_lines, definition_of, text_of, leaf_of, whole_opens, opens, opens_at}
+use Rattle.cmark_grammar.specs.Columns.{Column, expand, tab_columns, to_tab_stop}
+use Rattle.cmark_grammar.specs.Rows.{Row, rows, rows_from, without, place, first_place, begin_of, is_blank_line, indent_of, shown}
+use Rattle.cmark_grammar.specs.Leaves.{Fence}
+use Rattle.cmark_grammar.specs.LinkDefinitions.{Defined}
+use Rattle.cmark_grammar.specs.Metadata.{metadata_kind}
+use Rattle.cmark_grammar.specs.Containers.{Container, BlockQuote, Item, Footnote, ListDefinition, is_block_quote, block_quote_width, marker_width, width_of, enter, keep_as, keeps, strip_as, strip, strips, is_alert, is_bare_start, unless_tag, insides}
+use Rattle.cmark_grammar.specs.Openings.{Opening, Nests, Takes, or_else, nests_if, fenced_if, html_if, break_if, heading_if, defined_if, table_if, text_of, leaf_of, opens, opens_at}
 use Rattle.cmark_grammar.specs.Blocks.{Blocks, Nil, BlankLine, Paragraph, SetextHeading, LeafBlock, ContainerBlock, Body, after_leaf, after_container, place_in}
 use Rattle.cmark_block_model.specs.MetadataPlaces.{is_metadata, HasNoMetadata, HasMetadataOutside}
 use Rattle.cmark_block_model.proofs.RowPlaces.{Runs, drop-Runs, expand-Runs, first_place-Runs, kept-following}
-use Rattle.cmark_block_model.proofs.BlockLaws.{IsWide, at-wide, at-either, marker-within}
+use Rattle.cmark_block_model.proofs.BlockLaws.{at-wide, at-either, marker-within}
 
 -- no column is of a byte before this place
 abbrev Following : ℕ → List Column → Type 0
@@ -96,11 +92,7 @@ HasPrefix (ListDefinition width) = 0 < width
 HasPrefix _ = Unit {0}
 
 wide-inside : (width : ℕ) (r s : Row) → 0 < width → IsLine r → (if is_blank_line r || nat_le width (indent_of r) then Some (without width r) else None) ≡ Some s → IsInside s
-wide-inside width r s lt h e = go _ e
-  where
-    go : (z : Bool) → (if z then Some (without width r) else None) ≡ Some s → IsInside s
-    go true q = let p : without width r ≡ s = cc in subst IsInside p (without-inside width r lt h)
-    go false q = absurd (let p : None ≡ Some s = q in cc)
+wide-inside width r s lt h e = grind (arith, without-inside)
 
 keep_as-inside : (k : Container) (r s : Row) → HasPrefix k → IsLine r → keep_as k r ≡ Some s → IsInside s
 keep_as-inside (BlockQuote alert) r s w h e = go (is_block_quote r) e
@@ -108,29 +100,17 @@ keep_as-inside (BlockQuote alert) r s w h e = go (is_block_quote r) e
     go : (z : Bool) → (if z then Some (without (block_quote_width r) r) else None) ≡ Some s → IsInside s
     go true q = let p : without (block_quote_width r) r ≡ s = cc in subst IsInside p (without-inside (block_quote_width r) r (omega arith) h)
     go false q = absurd (let p : None ≡ Some s = q in cc)
-keep_as-inside (Footnote label true size) r s w h e = go _ e
-  where
-    go : (z : Bool) → (if z then None else Some (hold r)) ≡ Some s → IsInside s
-    go true q = absurd (let p : None ≡ Some s = q in cc)
-    go false q = let p : hold r ≡ s = cc in subst IsInside p (inr (inl refl))
+keep_as-inside (Footnote label true size) r s w h e = grind arith
 keep_as-inside (Footnote label false size) r s w h e = wide-inside 4 r s (omega arith) h e
 keep_as-inside (Item delimiter number width task) r s w h e = wide-inside width r s w h e
 keep_as-inside (ListDefinition width) r s w h e = wide-inside width r s w h e
 
 keeps-inside : (k : Container) (bare : Bool) (r s : Row) → HasPrefix k → IsLine r → keeps k bare r ≡ Some s → IsInside s
 unfolding keeps
-keeps-inside k bare r s w h e = go _ e
-  where
-    go : (z : Bool) → (if z then None else keep_as k r) ≡ Some s → IsInside s
-    go true q = absurd (let p : None ≡ Some s = q in cc)
-    go false q = keep_as-inside k r s w h q
+keeps-inside k bare r s w h e = grind (arith, keep_as-inside)
 
 strip-inside : (k : Container) (bare : Bool) (r : Row) → HasPrefix k → IsLine r → IsInside (strip k bare r)
-strip-inside k bare r w h = go (keeps k bare r) refl
-  where
-    go : (o : Option Row) → keeps k bare r ≡ o → IsInside (strip_as o r)
-    go None e = inl refl
-    go (Some s) e = keeps-inside k bare r s w h e
+strip-inside k bare r w h = grind (arith, keeps-inside)
 
 strip-line : (k : Container) (bare : Bool) (r : Row) → IsLine r → IsLine (strip k bare r)
 strip-line k bare r h = go (keeps k bare r) refl
@@ -171,9 +151,7 @@ IsOther (Takes leaf n) = is_metadata leaf ≡ false
 IsOther _ = Unit {0}
 
 other_or : (x y : Opening) → IsOther x → IsOther y → IsOther (or_else x y)
-other_or (Takes leaf n) y p q = p
-other_or Plain y p q = q
-other_or _ y p q = tt
+other_or x y p q = grind arith
 
 other_if : (b : Bool) (x y : Opening) → IsOther x → IsOther y → IsOther (if b then x else y)
 other_if true x y p q = p
@@ -209,77 +187,28 @@ module _ (options : Options) where
   other_table None ahead = tt
 
   other_text : (r : Row) (ahead : List Row) → IsOther (text_of options r ahead)
-  other_text r ahead =
-      other_or (definition_of options r ahead) (table_if options (table_head options r ahead) ahead)
-      (other_if (begins_no_link (footnotes_in options) (words_of r)) Plain _ tt (other_defined (length (text_lines options ahead)) (definition_in (bytes_over r (text_lines options ahead)))))
-      (other_table (table_head options r ahead) ahead)
+  other_text r ahead = grind (arith, other_or, other_if, other_defined, other_table)
 
   other_leaf : (r : Row) (ahead : List Row) → IsOther (leaf_of options r ahead)
-  other_leaf r ahead =
-      other_or (html_if r ahead (html_kind (words_of r))) _ (other_html r ahead (html_kind (words_of r)))
-      (other_or (break_if (is_thematic_break (words_of r))) _ (other_break (is_thematic_break (words_of r)))
-      (other_or (heading_if (is_atx_heading (words_of r)) (run 35 (words_of r))) _ (other_heading (is_atx_heading (words_of r)) (run 35 (words_of r)))
-      (other_or (fenced_if (fence_of (indent_of r) (words_of r)) ahead) (text_of options r ahead) (other_fenced (fence_of (indent_of r) (words_of r)) ahead)
-      (other_text r ahead))))
+  other_leaf r ahead = grind (arith, other_or, other_html, other_break, other_heading, other_fenced, other_text)
 
   -- a line in a container begins no metadata block
   no-kind : (r : Row) → (r.held ≡ true) ⊎ ((r.columns ≡ []) ⊎ (r.at < begin_of r)) → metadata_kind options r ≡ None
-  no-kind r inside = ⊎_elim held (λ i. ⊎_elim bare further i) inside
-    where
-      test : (z : Bool) → Option MetadataBlockKind
-      test z = if z then metadata_if options (metadata_of (bytes_of r.columns)) else None
-
-      off : (z : Bool) → (z && false) ≡ false
-      off true = refl
-      off false = refl
-
-      held : r.held ≡ true → metadata_kind options r ≡ None
-      held e = ap (λ h. test ((begin_of r == r.at) && not h)) e ∙ ap test (off (begin_of r == r.at))
-
-      bare : r.columns ≡ [] → metadata_kind options r ≡ None
-      bare e = ap (λ cs. if is_whole_line r then metadata_if options (metadata_of (bytes_of cs)) else None) e ∙ none (is_whole_line r)
-        where
-          none : (z : Bool) → (if z then metadata_if options (metadata_of (bytes_of [])) else None) ≡ None
-          none true = refl
-          none false = refl
-
-      further : r.at < begin_of r → metadata_kind options r ≡ None
-      further lt = ap (λ z. test (z && not r.held)) (ne_eqb (begin_of r) r.at (omega (arith, lt)))
+  no-kind r inside = grind (arith, ne_eqb)
 
   other_opens : (r : Row) (ahead : List Row) → IsInside r → IsOther (opens options r ahead)
   unfolding opens
-  other_opens r ahead inside = go r.lazy refl inside
-    where
-      whole : IsOther (whole_opens options r ahead)
-      whole =
-          other_if (is_blank_line r) Blank _ tt
-          (other_if (nat_le 4 (indent_of r)) (Takes IndentedCode (counted code_continuation ahead)) _ refl
-          (other_or (nests_if (container_of options r)) (leaf_of options r ahead) (other_nests (container_of options r)) (other_leaf r ahead)))
-
-      go : (z : Bool) → r.lazy ≡ z → IsInside r → IsOther (if z then Plain else or_else (metadata_begun (metadata_kind options r) ahead) (whole_opens options r ahead))
-      go true e i = tt
-      go false e i =
-          subst (λ o. IsOther (or_else (metadata_begun o ahead) (whole_opens options r ahead)))
-          (sym (⊎_elim (λ l. absurd (true≢false (sym l ∙ e))) (λ j. no-kind r j) i)) whole
+  other_opens r ahead inside = grind (arith, other_if, other_or, other_nests, other_leaf, no-kind)
 
   other_at : (place : Place) (r : Row) (ahead : List Row) → IsInside r → IsOther (opens_at options place r ahead)
-  other_at place r ahead inside = at-either options IsOther place r ahead (λ whole. text (is_blank_line r)) (λ width d. tt) (other_opens r ahead inside)
-    where
-      text : (z : Bool) → IsOther (if z then Blank else Plain)
-      text true = tt
-      text false = tt
+  other_at place r ahead inside = search (rules, at-either, other_opens)
 
   wide-prefix : (k : Container) (r : Row) → indent_of r < marker_width k r → HasPrefix k
-  wide-prefix (Item delimiter number width task) r lt = omega (arith, lt)
-  wide-prefix (ListDefinition width) r lt = omega (arith, lt)
-  wide-prefix _ r lt = tt
+  wide-prefix k r lt = grind arith
 
   -- the lines inside a container, of which the first begins it
   contents : (k : Container) (place : Place) (first : Row) (more ahead : List Row) → opens_at options place first ahead ≡ Nests k → IsLine first → Each IsLine more → Each IsLine (insides k first more) × Each IsInside (insides k first more)
-  contents k place first more ahead o h hs =
-      let own : indent_of first < marker_width k first = subst (IsWide options first) o (at-wide options place first ahead) in
-      let within = marker-within options k first in
-      (insides-line k first more h hs, insides-inside k first more (wide-prefix k first own) (omega (arith, own, within)) h hs)
+  contents k place first more ahead o h hs = grind (arith, at-wide, marker-within, insides-line, insides-inside, wide-prefix)
 
   none-inside : (place : Place) (all : List Row) (b : Blocks) → Body options place all b → Each IsLine all → Each IsInside all → HasNoMetadata b
   none-inside place all Nil body h i = tt

@@ -1,5 +1,5 @@
 -- The pass as a function of the open blocks of the model: each field by the open lines and the lines ahead.
-use Rattle.std.proofs.Common.{◌≡◌, ℕ, suc, ◌-◌, ◌≤◌, Bool, true, false, ◌==◌, List, [], ◌∷◌, ◌++◌, length, take, drop, refl, ap, ◌∙◌, sym, arith}
+use Rattle.std.proofs.Common.{◌≡◌, ℕ, suc, ◌-◌, ◌≤◌, Bool, true, false, ◌==◌, List, [], ◌∷◌, ◌++◌, length, take, drop, refl, ap, sym, arith, rules}
 use Rattle.std.specs.Prelude.{if◌then◌else◌}
 use Rattle.cmark_grammar.specs.Options.{Options}
 use Rattle.cmark_grammar.specs.Answers.{Lookup}
@@ -8,7 +8,7 @@ use Rattle.cmark_grammar.specs.Leaves.{closes_fence}
 use Rattle.cmark_grammar.specs.Containers.{Container, is_bare_start, bare_after}
 use Rattle.cmark_grammar.specs.Openings.{Leaf, ThematicBreak, AtxHeading, IndentedCode, FencedCode, HtmlBlock, LinkDefinition, MetadataBlock, Table, count_rows}
 use Rattle.cmark_grammar.specs.Alignment.{Alignment}
-use Rattle.cmark_grammar.specs.TableRows.{count_missing, most_filled, one_more_if}
+use Rattle.cmark_grammar.specs.TableRows.{count_missing, most_filled}
 use Rattle.cmark_grammar.specs.TableTokens.{row_cells, row_tokens, table_tokens}
 use Rattle.cmark_block_model.specs.BlocksModel.{within}
 use Rattle.cmark_block_model.specs.BlocksByLine.{Verbatim, Indented, Fenced, HtmlLines, OpenLines, Between, AfterTag, InParagraph, InLeaf, InVerbatim, InContainer, Metadata}
@@ -51,17 +51,7 @@ last_begin begin first (r ∷ more) = if begin_of r == first.line_end then last_
 pub begin_push : (begin : ℕ) (first : Row) (more : List Row) (r : Row)
     → last_begin begin first (more ++ r ∷ []) ≡ (if begin_of r == (last_of first more).line_end then last_begin begin first more else begin_of r)
 begin_push begin first [] r = refl
-begin_push begin first (s ∷ more) r = go (begin_of s == first.line_end) (begin_push begin s more r) (begin_push (begin_of s) s more r)
-  where
-    touches : Bool
-    touches = begin_of r == (last_of s more).line_end
-
-    go : (z : Bool) → last_begin begin s (more ++ r ∷ []) ≡ (if touches then last_begin begin s more else begin_of r)
-        → last_begin (begin_of s) s (more ++ r ∷ []) ≡ (if touches then last_begin (begin_of s) s more else begin_of r)
-        → (if z then last_begin begin s (more ++ r ∷ []) else last_begin (begin_of s) s (more ++ r ∷ []))
-        ≡ (if touches then (if z then last_begin begin s more else last_begin (begin_of s) s more) else begin_of r)
-    go true p q = p
-    go false p q = q
+begin_push begin first (s ∷ more) r = search (rules, begin_push begin s more r, begin_push (begin_of s) s more r)
 
 -- the lines that a paragraph keeps before its last one
 abbrev pub kept_line : Bool → Row → List Row → List Row
@@ -147,19 +137,10 @@ lines_left options columns (delimiter ∷ rows) ahead = count_rows options colum
 -- if a line is left, the next one is a row; if none is left, it is not
 pub row-taken : (options : Options) (columns cells left : ℕ) (r : Row) (ahead : List Row) → suc left ≡ count_rows options columns cells (r ∷ ahead)
     → (is_row options columns cells r ≡ true) × (left ≡ count_rows options columns (cells - count_missing columns r) ahead)
-row-taken options columns cells left r ahead e = go (is_row options columns cells r) refl e
-  where
-    go : (z : Bool) → is_row options columns cells r ≡ z → suc left ≡ one_more_if z (count_rows options columns (cells - count_missing columns r) ahead)
-        → (is_row options columns cells r ≡ true) × (left ≡ count_rows options columns (cells - count_missing columns r) ahead)
-    go true is q = (is, omega (arith, q))
-    go false is q = absurd (omega (arith, q))
+row-taken options columns cells left r ahead e = grind arith
 
 pub no-row : (options : Options) (columns cells : ℕ) (r : Row) (ahead : List Row) → 0 ≡ count_rows options columns cells (r ∷ ahead) → is_row options columns cells r ≡ false
-no-row options columns cells r ahead e = go (is_row options columns cells r) refl e
-  where
-    go : (z : Bool) → is_row options columns cells r ≡ z → 0 ≡ one_more_if z (count_rows options columns (cells - count_missing columns r) ahead) → is_row options columns cells r ≡ false
-    go true is q = absurd (omega (arith, q))
-    go false is q = is
+no-row options columns cells r ahead e = grind arith
 
 abbrev pub FitsLeaf : Options → Leaf → Row → (had : List Row) → (left : ℕ) → (ahead : List Row) → ℕ → Type 0
 FitsLeaf options (Table alignments) first had left ahead n = (last_line_end first had ≡ n) × (left ≡ lines_left options (length alignments) had ahead)
@@ -182,16 +163,7 @@ module _ (text : List ℕ) (options : Options) (lookup : Lookup) where
 
   pub drawn-tokens : (begin : ℕ) (first : Row) (more : List Row) → stretches text begin first more ≡ join (lines_drawn begin first more) (stretch_then text (last_begin begin first more) (words_end (last_of first more)) Nil)
   drawn-tokens begin first [] = refl
-  drawn-tokens begin first (r ∷ more) = go (begin_of r == first.line_end) (drawn-tokens begin r more) (drawn-tokens (begin_of r) r more)
-    where
-      last : ℕ → BlockDocument
-      last at = stretch_then text at (words_end (last_of r more)) Nil
-
-      go : (z : Bool) → stretches text begin r more ≡ join (lines_drawn begin r more) (last (last_begin begin r more)) → stretches text (begin_of r) r more ≡ join (lines_drawn (begin_of r) r more) (last (last_begin (begin_of r) r more))
-          → (if z then stretches text begin r more else stretch_then text begin first.line_end (stretches text (begin_of r) r more))
-          ≡ join (if z then lines_drawn begin r more else stretch_then text begin first.line_end (lines_drawn (begin_of r) r more)) (last (if z then last_begin begin r more else last_begin (begin_of r) r more))
-      go true p q = p
-      go false p q = ap (stretch_then text begin first.line_end) q ∙ sym (stretch-join text begin first.line_end (lines_drawn (begin_of r) r more) (last (last_begin (begin_of r) r more)))
+  drawn-tokens begin first (r ∷ more) = search (rules, stretch-join, drawn-tokens begin r more, drawn-tokens (begin_of r) r more)
 
   -- the drawing of another line
   abbrev pub one_more : Bool → (begin line_end : ℕ) → BlockDocument → BlockDocument
@@ -200,30 +172,11 @@ module _ (text : List ℕ) (options : Options) (lookup : Lookup) where
   pub drawn-push : (begin : ℕ) (first : Row) (more : List Row) (r : Row)
       → lines_drawn begin first (more ++ r ∷ []) ≡ one_more (begin_of r == (last_of first more).line_end) (last_begin begin first more) (last_of first more).line_end (lines_drawn begin first more)
   drawn-push begin first [] r = refl
-  drawn-push begin first (s ∷ more) r = go (begin_of s == first.line_end) (drawn-push begin s more r) (drawn-push (begin_of s) s more r)
-    where
-      touches : Bool
-      touches = begin_of r == (last_of s more).line_end
-
-      line_end : ℕ
-      line_end = (last_of s more).line_end
-
-      inside : (z : Bool) (at : ℕ) (d : BlockDocument) → stretch_then text begin first.line_end (one_more z at line_end d) ≡ one_more z at line_end (stretch_then text begin first.line_end d)
-      inside true at d = refl
-      inside false at d = sym (stretch-join text begin first.line_end d (stretch_then text at line_end Nil))
-
-      go : (z : Bool) → lines_drawn begin s (more ++ r ∷ []) ≡ one_more touches (last_begin begin s more) line_end (lines_drawn begin s more)
-          → lines_drawn (begin_of s) s (more ++ r ∷ []) ≡ one_more touches (last_begin (begin_of s) s more) line_end (lines_drawn (begin_of s) s more)
-          → (if z then lines_drawn begin s (more ++ r ∷ []) else stretch_then text begin first.line_end (lines_drawn (begin_of s) s (more ++ r ∷ [])))
-          ≡ one_more touches (if z then last_begin begin s more else last_begin (begin_of s) s more) line_end (if z then lines_drawn begin s more else stretch_then text begin first.line_end (lines_drawn (begin_of s) s more))
-      go true p q = p
-      go false p q = ap (stretch_then text begin first.line_end) q ∙ inside touches (last_begin (begin_of s) s more) (lines_drawn (begin_of s) s more)
+  drawn-push begin first (s ∷ more) r = search (rules, stretch-join, drawn-push begin s more r, drawn-push (begin_of s) s more r)
 
   pub html-push : (rs : List Row) (r : Row) → html_tokens text (rs ++ r ∷ []) ≡ join (html_tokens text rs) (html_then (verbatim_line text r.columns r) Nil)
   html-push [] r = refl
-  html-push (s ∷ rs) r =
-      ap (html_then (verbatim_line text s.columns s)) (html-push rs r)
-      ∙ sym (html-join (verbatim_line text s.columns s) (html_tokens text rs) (html_then (verbatim_line text r.columns r) Nil))
+  html-push (s ∷ rs) r = cc (html-push rs r, html-join (verbatim_line text s.columns s) (html_tokens text rs) (html_then (verbatim_line text r.columns r) Nil))
 
   pub rows-push : (columns : ℕ) (rows : List Row) (r : Row) → row_tokens text columns (rows ++ r ∷ []) ≡ join (row_tokens text columns rows) (row_tokens text columns (r ∷ []))
   rows-push columns [] r = refl

@@ -1,15 +1,15 @@
 -- The place of a line after closed blocks: the siblings and the blocks determine the same place.
-use Rattle.std.proofs.Common.{◌≡◌, ℕ, Bool, true, false, ◌==◌, List, refl, sym, ap, ◌∙◌, subst, Option, Some, None, ◌||◌}
+use Rattle.std.proofs.Common.{◌≡◌, ℕ, Bool, true, false, ◌==◌, List, refl, sym, ap, ◌∙◌, Option, Some, None, arith}
 use Rattle.std.specs.Prelude.{if◌then◌else◌}
 use Rattle.cmark_grammar.specs.Answers.{Lookup}
 use Rattle.cmark_grammar.specs.Options.{Options}
 use Rattle.cmark_grammar.specs.Rows.{last_line_end, begin_of}
 use Rattle.cmark_grammar.specs.Containers.{BlockQuote, Item, Footnote, ListDefinition}
-use Rattle.cmark_grammar.specs.Openings.{Leaf, ThematicBreak, AtxHeading, IndentedCode, FencedCode, HtmlBlock, LinkDefinition, MetadataBlock, Table}
+use Rattle.cmark_grammar.specs.Openings.{Leaf}
 use Rattle.cmark_grammar.specs.Blocks.{Blocks, Nil, BlankLine, Paragraph, SetextHeading, LeafBlock, ContainerBlock, after_leaf}
 use Rattle.cmark_block_model.specs.BlocksModel.{place_after}
 use Rattle.cmark_grammar.specs.Lists.{definition_delimiter}
-use Rattle.cmark_grammar.specs.Places.{Place, Apart, AfterLazy, AfterTask, AfterTitle, is_after_title, over_blank}
+use Rattle.cmark_grammar.specs.Places.{Place, Apart, AfterTitle, is_after_title, over_blank}
 use Rattle.cmark_block_model.specs.OpenBlocks.{OpenList, Title, Siblings}
 use Rattle.cmark_block_model.specs.BlockPass.{definitions_in, list_after, place_with, place_of}
 use Rattle.cmark_block_model.proofs.Flags.{same-delimiter}
@@ -27,28 +27,13 @@ IsTidy (Some t) None = IsColon t.list
 IsTidy (Some t) (Some o) = ⊥
 
 colon-in : (list : Option OpenList) → IsColon (definitions_in list)
-colon-in None = tt
-colon-in (Some o) = go (o.delimiter == definition_delimiter) refl
-  where
-    go : (z : Bool) → (o.delimiter == definition_delimiter) ≡ z → IsColon (if z then Some o else None)
-    go true e = e
-    go false e = tt
+colon-in list = grind arith
 
 over-title : (place : Place) → is_after_title (over_blank place) ≡ is_after_title place
-over-title Apart = refl
-over-title AfterLazy = refl
-over-title AfterTask = refl
-over-title AfterTitle = refl
+over-title place = grind arith
 
 leaf-title : (leaf : Leaf) → is_after_title (after_leaf leaf) ≡ false
-leaf-title ThematicBreak = refl
-leaf-title (AtxHeading level) = refl
-leaf-title IndentedCode = refl
-leaf-title (FencedCode fence) = refl
-leaf-title (HtmlBlock kind) = refl
-leaf-title (LinkDefinition definition) = refl
-leaf-title (MetadataBlock kind) = refl
-leaf-title (Table alignments) = refl
+leaf-title leaf = grind arith
 
 -- the siblings after an item or a definition: they are tidy, and tell whether it was a definition
 abbrev pub Left : Siblings → (following : Bool) → Type 0
@@ -59,31 +44,14 @@ marked-place o true e = ap (λ y. is_after_title (place_with None (if y then Som
 marked-place o false e = ap (λ y. is_after_title (place_with None (if y then Some o else None))) e
 
 item-left : (delimiter : ℕ) (number : Option ℕ) (start : ℕ) (l : Level) (list : Option OpenList) (following : Bool) → IsTidy l.inner.title list → (delimiter == definition_delimiter) ≡ following → Left (item_level delimiter number start l list).inner following
-item-left delimiter number start l None following tidy e = λ parted end. (tt, marked-place _ following e)
-item-left delimiter number start l (Some o) following tidy e = go (o.delimiter == delimiter) refl l.inner.title tidy refl
-  where
-    other : Bool → ℕ → OpenList
-    other parted end = record o { loose = (o.loose || l.inner.blank) || parted; end = end }
-
-    go : (z : Bool) → (o.delimiter == delimiter) ≡ z → (title : Option Title) → IsTidy title (Some o) → l.inner.title ≡ title → Left (item_if z delimiter number start o l).inner following
-    go false f title t is = λ parted end. (tt, marked-place _ following e)
-    go true f (Some x) t is = absurd (let z : ⊥ = t in z)
-    go true f None t is = λ parted end. (
-      subst (λ x. IsTidy x (Some (other parted end))) (sym is) tt,
-      ap (λ x. is_after_title (place_with x (definitions_in (Some (other parted end))))) is ∙ marked-place (other parted end) following (ap (λ m. m == definition_delimiter) (same-delimiter o.delimiter delimiter f) ∙ e),
-    )
+item-left delimiter number start l list following tidy e = grind (arith, marked-place, item_if, same-delimiter)
 
 title-left : (o : Option OpenList) (parted : Bool) (start : ℕ) (l : Level) → IsColon o → Left (title_level o parted start l).inner true
 title-left None parted start l c = λ p end. (tt, refl)
 title-left (Some o) parted start l c = λ p end. (tt, marked-place _ true c)
 
 definition-left : (title : Option Title) (start : ℕ) (l : Level) → l.inner.title ≡ title → IsTidy title l.inner.list → Left (definition_level title start l).inner true
-definition-left None start l is tidy = item-left definition_delimiter None start l l.inner.list true (subst (λ x. IsTidy x l.inner.list) (sym is) tidy) refl
-definition-left (Some t) start l is tidy = title-left t.list t.parted start l (go l.inner.list tidy)
-  where
-    go : (list : Option OpenList) → IsTidy (Some t) list → IsColon t.list
-    go None c = c
-    go (Some o) c = absurd (let z : ⊥ = c in z)
+definition-left title start l is tidy = grind (arith, item-left, title-left)
 
 module _ (text : List ℕ) (options : Options) (lookup : Lookup) where
   pub place-replay : (b : Blocks) (place : Place) (l : Level) → Unmarked b → IsTidy l.inner.title l.inner.list → is_after_title (place_of l.inner) ≡ is_after_title place

@@ -1,6 +1,6 @@
 -- Tokens are neither settled nor left out, and define nothing, neither links nor footnotes.
-use Rattle.std.proofs.Common.{◌≡◌, ℕ, zero, suc, ◌+◌, Bool, true, false, List, [], ◌∷◌, ◌++◌, length, drop, take_while, refl, ap, ◌∙◌}
-use Rattle.std.specs.Prelude.{◌==◌, nat_lt, if◌then◌else◌}
+use Rattle.std.proofs.Common.{◌≡◌, ℕ, zero, suc, ◌+◌, Bool, true, false, List, [], ◌∷◌, ◌++◌, length, drop, take_while, refl, ap, arith, rules}
+use Rattle.std.specs.Prelude.{if◌then◌else◌}
 use Rattle.cmark_grammar.specs.Rows.{Row, first_place, begin_of, start_of, words_of}
 use Rattle.cmark_grammar.specs.Tokens.{Piece, end_place, piece_if, texts_then, words_end, stretch_then, stretches, paragraph_tokens, html_then, html_tokens, text_kind_of, html_kind_of, verbatim_line, after_hashes, heading_columns, heading_tokens, code_pieces, code_tokens}
 use Rattle.cmark_grammar.specs.Columns.{is_blank_byte, drop_end}
@@ -38,12 +38,7 @@ stretch_plain text start end after h = texts_plain (piece_if text start end []) 
 
 stretches_plain : (text : List ℕ) (begin : ℕ) (r : Row) (more : List Row) → IsPlain (stretches text begin r more)
 stretches_plain text begin r [] = stretch_plain text begin (words_end r) Nil nil_plain
-stretches_plain text begin r (s ∷ more) = go (begin_of s == r.line_end) (stretches_plain text begin s more) (stretches_plain text (begin_of s) s more)
-  where
-    go : (z : Bool) → IsPlain (stretches text begin s more) → IsPlain (stretches text (begin_of s) s more)
-        → IsPlain (if z then stretches text begin s more else stretch_then text begin r.line_end (stretches text (begin_of s) s more))
-    go true p q = p
-    go false p q = stretch_plain text begin r.line_end (stretches text (begin_of s) s more) q
+stretches_plain text begin r (s ∷ more) = search (rules, stretch_plain, stretches_plain text begin s more, stretches_plain text (begin_of s) s more)
 
 pub paragraph_plain : (text : List ℕ) (r : Row) (more : List Row) → IsPlain (paragraph_tokens text r more)
 paragraph_plain text r more = stretches_plain text (start_of r) r more
@@ -51,20 +46,11 @@ paragraph_plain text r more = stretches_plain text (start_of r) r more
 -- texts before a place
 pieces_before_plain : (text : List ℕ) (at : ℕ) (ps : List Piece) (after : BlockDocument) → IsPlain (texts_before text at after) → IsPlain (texts_before text at (texts_then ps after))
 pieces_before_plain text at [] after h = h
-pieces_before_plain text at (p ∷ ps) after h = go (nat_lt p.end at) (pieces_before_plain text at ps after h)
-  where
-    go : (z : Bool) → IsPlain (texts_before text at (texts_then ps after)) → IsPlain (if z then Node (node (text_kind_of p) p.start p.end) Nil (texts_before text at (texts_then ps after)) else stretch_then text p.start at Nil)
-    go true ih = text_plain p.owned p.bytes p.start p.end (texts_before text at (texts_then ps after)) ih
-    go false ih = stretch_plain text p.start at Nil nil_plain
+pieces_before_plain text at (p ∷ ps) after h = grind (arith, text_plain, stretch_plain, nil_plain, pieces_before_plain text at ps after h)
 
 stretches_before_plain : (text : List ℕ) (at begin : ℕ) (r : Row) (more : List Row) → IsPlain (texts_before text at (stretches text begin r more))
 stretches_before_plain text at begin r [] = pieces_before_plain text at (piece_if text begin (words_end r) []) Nil nil_plain
-stretches_before_plain text at begin r (s ∷ more) = go (begin_of s == r.line_end) (stretches_before_plain text at begin s more) (stretches_before_plain text at (begin_of s) s more)
-  where
-    go : (z : Bool) → IsPlain (texts_before text at (stretches text begin s more)) → IsPlain (texts_before text at (stretches text (begin_of s) s more))
-        → IsPlain (texts_before text at (if z then stretches text begin s more else stretch_then text begin r.line_end (stretches text (begin_of s) s more)))
-    go true p q = p
-    go false p q = pieces_before_plain text at (piece_if text begin r.line_end []) (stretches text (begin_of s) s more) q
+stretches_before_plain text at begin r (s ∷ more) = search (rules, pieces_before_plain, stretches_before_plain text at begin s more, stretches_before_plain text at (begin_of s) s more)
 
 pub setext_plain : (text : List ℕ) (attributes : Bool) (r : Row) (more : List Row) → IsPlain (setext_tokens text attributes r more)
 setext_plain text false r more = paragraph_plain text r more
@@ -91,28 +77,13 @@ code_plain text most rs = texts_plain (code_pieces text most rs) Nil nil_plain
 
 -- a node of a table around plain nodes, before plain ones
 head_plain : (start end : ℕ) (inside after : BlockDocument) → IsPlain inside → IsPlain after → IsPlain (Node (node TableHead start end) inside after)
-head_plain start end inside after h k = record {
-  still = λ tight. ap (λ x. Node (node TableHead start end) x (settled tight after)) (h.still false) ∙ ap (Node (node TableHead start end) inside) (k.still tight);
-  whole = ap (λ x. Node (node TableHead start end) x (without_definitions after)) h.whole ∙ ap (Node (node TableHead start end) inside) k.whole;
-  defines = ap (λ r. r ++ references after) h.defines ∙ k.defines;
-  labels = ap (λ r. r ++ footnote_labels after) h.labels ∙ k.labels;
-}
+head_plain start end inside after h k = grind arith
 
 table_row_plain : (start end : ℕ) (inside after : BlockDocument) → IsPlain inside → IsPlain after → IsPlain (Node (node TableRow start end) inside after)
-table_row_plain start end inside after h k = record {
-  still = λ tight. ap (λ x. Node (node TableRow start end) x (settled tight after)) (h.still false) ∙ ap (Node (node TableRow start end) inside) (k.still tight);
-  whole = ap (λ x. Node (node TableRow start end) x (without_definitions after)) h.whole ∙ ap (Node (node TableRow start end) inside) k.whole;
-  defines = ap (λ r. r ++ references after) h.defines ∙ k.defines;
-  labels = ap (λ r. r ++ footnote_labels after) h.labels ∙ k.labels;
-}
+table_row_plain start end inside after h k = grind arith
 
 cell_plain : (start end : ℕ) (inside after : BlockDocument) → IsPlain inside → IsPlain after → IsPlain (Node (node TableCell start end) inside after)
-cell_plain start end inside after h k = record {
-  still = λ tight. ap (λ x. Node (node TableCell start end) x (settled tight after)) (h.still false) ∙ ap (Node (node TableCell start end) inside) (k.still tight);
-  whole = ap (λ x. Node (node TableCell start end) x (without_definitions after)) h.whole ∙ ap (Node (node TableCell start end) inside) k.whole;
-  defines = ap (λ r. r ++ references after) h.defines ∙ k.defines;
-  labels = ap (λ r. r ++ footnote_labels after) h.labels ∙ k.labels;
-}
+cell_plain start end inside after h k = grind arith
 
 cells_plain : (text : List ℕ) (columns at line_end : ℕ) (cells : List (List ℕ)) → IsPlain (cells_then text columns at line_end cells)
 cells_plain text zero at line_end cells = nil_plain

@@ -1,5 +1,5 @@
 -- The nodes of a derived document are in order in the text, each around the nodes inside it.
-use Rattle.std.proofs.Common.{◌≡◌, ℕ, suc, ◌+◌, ◌≤◌, Bool, true, false, List, [], ◌∷◌, ◌++◌, length, drop, refl, sym, subst, arith, Option, Some, None}
+use Rattle.std.proofs.Common.{◌≡◌, ℕ, suc, ◌+◌, ◌≤◌, Bool, true, false, List, [], ◌∷◌, ◌++◌, length, drop, refl, sym, subst, arith, Option, Some, None, rules}
 use Rattle.cmark_grammar.specs.Answers.{Lookup}
 use Rattle.cmark_grammar.specs.Options.{Options}
 use Rattle.cmark_grammar.specs.Places.{Place, Apart, AfterTitle, over_blank}
@@ -52,9 +52,7 @@ leaf-order text options lookup from (FencedCodeLeaf fence) first more after to h
       (code-order text fence.indented first.line_end (fenced_lines fence more) (last_line_end first more) (before-Along (closes_fence fence) first.line_end more (last_line_end first more) a)),
   o,
 )
-leaf-order text options lookup from (HtmlBlockLeaf kind) first more after to h a o =
-    let l : Lies (begin_of first) first = (omega arith, h.1, h.2) in
-    (h.0, html-order text (begin_of first) (first ∷ more) (last_line_end first more) (l, a), o)
+leaf-order text options lookup from (HtmlBlockLeaf kind) first more after to h a o = search (rules, html-order)
 leaf-order text options lookup from (LinkDefinitionLeaf definition) first more after to h a o =
     let p : start_of first ≤ first.line_end = start-line_end from first h in let q : first.line_end ≤ last_line_end first more = line_end-le first more a in
     (from-start from first h, omega (arith, p, q), o)

@@ -1,20 +1,18 @@
 -- A line begins and ends after prefixes at character boundaries: prefixes are ASCII.
-use Rattle.std.proofs.Common.{◌≡◌, ◌⊎◌, inl, inr, ⊎_elim, ℕ, zero, suc, ◌+◌, ◌-◌, ◌≤◌, ◌<◌, Bool, true, false, ◌==◌, ◌&&◌, ◌||◌, not, List, [], ◌∷◌, ◌++◌, length, drop, refl, sym, ap, ◌∙◌, subst, arith, Option, Some, None, true≢false, drop-drop}
+use Rattle.std.proofs.Common.{◌≡◌, ◌⊎◌, inl, inr, ⊎_elim, ℕ, zero, suc, ◌+◌, ◌-◌, ◌≤◌, ◌<◌, Bool, true, false, ◌==◌, ◌&&◌, ◌||◌, not, List, [], ◌∷◌, ◌++◌, length, drop, refl, sym, ap, ◌∙◌, subst, arith, Option, Some, None, true≢false, drop-drop, rules}
 use Rattle.std.specs.Prelude.{if◌then◌else◌, nat_le, nat_lt}
 use Rattle.cmark_grammar.specs.Options.{Options}
 use Rattle.cmark_grammar.specs.Columns.{Column, is_blank_byte, is_blank, indent, without_indent, bytes_of}
 use Rattle.cmark_grammar.specs.Rows.{Row, without, hold, first_place, begin_of, start_of, is_bare, is_blank_line, indent_of, words_of}
-use Rattle.cmark_grammar.specs.Leaves.{run, Fence, is_thematic_break, is_atx_heading, fence_of, counted, code_continuation, is_parted}
-use Rattle.cmark_grammar.specs.Footnotes.{Footnotes, Off, Gfm, Old, footnotes_in, footnote_in, columns_over, marker_columns}
-use Rattle.cmark_grammar.specs.HtmlBlocks.{html_kind}
-use Rattle.cmark_grammar.specs.LinkDefinitions.{Parsed, Defined, definition_in, bytes_over}
-use Rattle.cmark_grammar.specs.Metadata.{metadata_kind, metadata_continuation, holds_metadata}
+use Rattle.cmark_grammar.specs.Leaves.{run, Fence, is_thematic_break, counted, code_continuation, is_parted}
+use Rattle.cmark_grammar.specs.Footnotes.{Footnotes, footnote_in, columns_over, marker_columns}
+use Rattle.cmark_grammar.specs.LinkDefinitions.{Parsed, Defined}
+use Rattle.cmark_grammar.specs.Metadata.{metadata_kind}
 use Rattle.cmark_grammar.specs.MetadataBlockKind.{MetadataBlockKind}
 use Rattle.cmark_grammar.specs.BlockQuoteKind.{BlockQuoteKind}
-use Rattle.cmark_grammar.specs.Containers.{marker_width, Container, BlockQuote, Item, Footnote, ListDefinition, Marker, is_bullet, is_digit, is_delimiter, digits, number_of, delimited, marker_of, after_marker, padding, width_with, item_with, item_of, begins_with, is_block_quote, one_blank, block_quote_width, container_with, container_of, width_of, enter, keep_as, keeps, strip_as, strip, strips, footnote_width, footnote_with, footnote_of, footnote_or, with_task}
-use Rattle.cmark_grammar.specs.Openings.{Leaf, AtxHeading, IndentedCode, MetadataBlock, Opening, Blank, Nests, Takes, Plain, or_else, nests_if, fenced_if, metadata_begun, html_if, break_if, heading_if, text_lines, defined_if, definition_of, leaf_of, whole_opens, opens, table_if, text_of, begins_no_link}
+use Rattle.cmark_grammar.specs.Containers.{marker_width, Container, BlockQuote, Item, Footnote, ListDefinition, Marker, is_bullet, is_digit, is_delimiter, digits, number_of, delimited, marker_of, after_marker, padding, width_with, item_with, begins_with, is_block_quote, one_blank, block_quote_width, container_with, container_of, width_of, enter, keep_as, keeps, strip_as, strip, strips, footnote_width, footnote_with, footnote_of, footnote_or, with_task}
+use Rattle.cmark_grammar.specs.Openings.{Leaf, AtxHeading, IndentedCode, Opening, Blank, Nests, Takes, Plain, or_else, nests_if, fenced_if, metadata_begun, html_if, break_if, heading_if, defined_if, leaf_of, whole_opens, opens, table_if, text_of}
 use Rattle.cmark_grammar.specs.Alignment.{Alignment}
-use Rattle.cmark_grammar.specs.TableRows.{table_head}
 use Rattle.cmark_block_model.proofs.FootnoteMarkers.{IsAsciiAt, colon-ascii}
 use Rattle.cmark_grammar.specs.TaskItems.{task_in, after_box}
 use Rattle.cmark_grammar.specs.TaskMarkers.{task_of}
@@ -34,19 +32,13 @@ abbrev pub IsAsciiColumn : Column → Type 0
 IsAsciiColumn c = c.byte < 128
 
 pub is-ascii : (b k : ℕ) → k < 128 → (b == k) ≡ true → b < 128
-is-ascii b k lt e = let q : b ≡ k = same b k e in omega (arith, lt, q)
-  where
-    same : (b k : ℕ) → (b == k) ≡ true → b ≡ k
-    same b k e = grind (arith)
+is-ascii b k lt e = grind arith
 
 pub blank-ascii : (b : ℕ) → is_blank_byte b ≡ true → b < 128
 blank-ascii b e = ⊎_elim (λ x. is-ascii b 32 (omega arith) x) (λ x. is-ascii b 9 (omega arith) x) (either (b == 32) (b == 9) e)
 
 digit-ascii : (b : ℕ) → is_digit b ≡ true → b < 128
-digit-ascii b e = let p = (both (nat_le 48 b) (nat_le b 57) e).1 in let q : b ≤ 57 = le b p in omega (arith, q)
-  where
-    le : (b : ℕ) → nat_le b 57 ≡ true → b ≤ 57
-    le b e = grind (arith)
+digit-ascii b e = grind (arith, both)
 
 bullet-ascii : (b : ℕ) → is_bullet b ≡ true → b < 128
 bullet-ascii b e = ⊎_elim (λ x. is-ascii b 45 (omega arith) x) (λ x. ⊎_elim (λ y. is-ascii b 43 (omega arith) y) (λ y. is-ascii b 42 (omega arith) y) (either (b == 43) (b == 42) x)) (either (b == 45) ((b == 43) || (b == 42)) e)
@@ -97,9 +89,7 @@ delimited-front bs (b ∷ rest) e = go (nat_lt 0 (length (digits bs))) (nat_le (
         last : (r : List ℕ) → Front IsAsciiByte 0 r
         last [] = tt
         last (a ∷ r) = tt
-    go true true false q = tt
-    go true false z q = tt
-    go false y z q = tt
+    go _ _ _ q = tt
 
 front-zero : {X : Type 0} (Q : X → Type 0) (xs : List X) → Front Q 0 xs
 front-zero Q [] = tt
@@ -118,12 +108,7 @@ begins-front k [] lt e = tt
 begins-front k (b ∷ bs) lt e = (is-ascii b k lt e, front-zero IsAsciiByte bs)
 
 one_blank-front : (cs : List Column) → Front IsAsciiColumn (one_blank cs) cs
-one_blank-front [] = tt
-one_blank-front (c ∷ cs) = go (is_blank c) refl
-  where
-    go : (z : Bool) → is_blank c ≡ z → Front IsAsciiColumn (if z then 1 else 0) (c ∷ cs)
-    go true e = (blank-ascii c.byte e, front-zero IsAsciiColumn cs)
-    go false e = tt
+one_blank-front cs = grind (arith, blank-ascii, front-zero)
 
 module _ (E : ℕ → Type 0) where
   -- a column: one in which no byte begins is of a tab, and around an ASCII byte no character is cut
@@ -164,14 +149,7 @@ module _ (E : ℕ → Type 0) where
     pub feed : r.line_end - r.content_end ≡ 2 → E (suc r.content_end)
 
   pub without-good : (n : ℕ) (r : Row) → GoodRow r → Front IsAsciiColumn n r.columns → GoodRow (without n r)
-  without-good n r g f = record {
-    runs = (drop-Runs n (begin_of r) r.columns r.content_end g.runs).0;
-    good = drop-good n r.columns g.good;
-    begin = drop-E n (begin_of r) r.columns r.content_end g.runs g.good f g.begin g.content_end;
-    content_end = g.content_end;
-    line_end = g.line_end;
-    feed = g.feed;
-  }
+  without-good n r g f = grind (arith, drop-Runs, drop-good, drop-E)
 
   pub start-E : (r : Row) → GoodRow r → E (start_of r)
   start-E r g = (without-good (indent r.columns) r g (indent-front r.columns)).begin
@@ -212,8 +190,7 @@ module _ (E : ℕ → Type 0) where
           without-good 3 r g
           (subst (λ n. Front IsAsciiColumn 3 (drop n r.columns)) (zero-is (indent r.columns) ey)
           (bytes-front 3 (without_indent r.columns) (drop-good (indent r.columns) r.columns g.good) (task-front (words_of r) is_checked q)))
-      go true false ey q = absurd (let p : None ≡ Some is_checked = q in cc)
-      go false y ey q = absurd (let p : None ≡ Some is_checked = q in cc)
+      go _ _ ey q = absurd (let p : None ≡ Some is_checked = q in cc)
 
   item-good : (options : Options) (r : Row) (m : Option Marker) → GoodRow r → MarkerFront m (words_of r) → SomeGood r (with_task options r (item_with r m))
   item-good options r None g f = tt
@@ -245,9 +222,7 @@ module _ (E : ℕ → Type 0) where
   over-E n from (c ∷ cs) to h g last et = go (c.part == 0) n (λ m l. over-E m (suc c.at) cs to h.1 g.1 l et) last
     where
       go : (z : Bool) (n : ℕ) → ((m : ℕ) → IsAsciiAt m (bytes_of cs) → E (first_place to (drop (columns_over (suc m) cs) cs))) → IsAsciiAt n (if z then c.byte ∷ bytes_of cs else bytes_of cs) → E (first_place to (drop (columns_over (if z then n else suc n) cs) cs))
-      go true zero ih l = subst (λ k. E (first_place to (drop k cs))) (sym (none-over cs)) (subst E (sym (first_place-Runs (suc c.at) cs to h.1)) (g.0.1 l).1)
-      go true (suc m) ih l = ih m l
-      go false m ih l = ih m l
+      go z n ih l = search (rules, none-over, first_place-Runs)
 
   footnote-good : (old : Bool) (r : Row) (o : Option Parsed) → footnote_in (words_of r) ≡ o → GoodRow r → SomeGood r (footnote_with old r o)
   footnote-good old r None e g = tt
@@ -272,18 +247,14 @@ module _ (E : ℕ → Type 0) where
       (following, following)
 
   footnote_of-good : (f : Footnotes) (r : Row) → GoodRow r → SomeGood r (footnote_of f r)
-  footnote_of-good Off r g = tt
-  footnote_of-good Gfm r g = footnote-good false r (footnote_in (words_of r)) refl g
-  footnote_of-good Old r g = footnote-good true r (footnote_in (words_of r)) refl g
+  footnote_of-good f r g = grind (arith, footnote-good)
 
   or-good : (x y : Option Container) (r : Row) → SomeGood r x → SomeGood r y → SomeGood r (footnote_or x y)
   or-good (Some k) y r good other = good
   or-good None y r good other = other
 
   container_of-good : (options : Options) (r : Row) → GoodRow r → SomeGood r (container_of options r)
-  container_of-good options r g =
-      or-good (footnote_of (footnotes_in options) r) _ r (footnote_of-good (footnotes_in options) r g)
-      (quote-good (with_task options r (item_of r)) (is_block_quote r) _ r g refl (item-good options r (marker_of (words_of r)) g (marker-front (words_of r))))
+  container_of-good options r g = grind (arith, or-good, footnote_of-good, quote-good, item-good, marker-front)
 
   -- a heading's opening sequence is ASCII too
   abbrev pub LeafFront : Row → Leaf → Type 0
@@ -332,26 +303,13 @@ module _ (E : ℕ → Type 0) where
   front_table options r None ahead = tt
 
   front_text : (options : Options) (r : Row) (ahead : List Row) → OpeningFront r (text_of options r ahead)
-  front_text options r ahead =
-      front_or r (definition_of options r ahead) (table_if options (table_head options r ahead) ahead)
-      (front_if r (begins_no_link (footnotes_in options) (words_of r)) Plain _ tt
-      (front_defined r (length (text_lines options ahead)) (definition_in (bytes_over r (text_lines options ahead))))) (front_table options r (table_head options r ahead) ahead)
+  front_text options r ahead = search (rules, front_or, front_if, front_defined, front_table)
 
   front_leaf : (options : Options) (r : Row) (ahead : List Row) → GoodRow r → OpeningFront r (leaf_of options r ahead)
-  front_leaf options r ahead g =
-      front_or r (html_if r ahead (html_kind (words_of r))) _ (front_html r ahead (html_kind (words_of r)))
-      (front_or r (break_if (is_thematic_break (words_of r))) _ (front_break r (is_thematic_break (words_of r)))
-      (front_or r (heading_if (is_atx_heading (words_of r)) (run 35 (words_of r))) _ (front_heading r (is_atx_heading (words_of r)) g)
-      (front_or r (fenced_if (fence_of (indent_of r) (words_of r)) ahead) (text_of options r ahead) (front_fenced r (fence_of (indent_of r) (words_of r)) ahead)
-      (front_text options r ahead))))
+  front_leaf options r ahead g = search (rules, front_or, front_html, front_break, front_heading, front_fenced, front_text)
 
   front_metadata : (r : Row) (o : Option MetadataBlockKind) (ahead : List Row) → OpeningFront r (metadata_begun o ahead)
-  front_metadata r None ahead = tt
-  front_metadata r (Some kind) ahead = go (holds_metadata kind ahead)
-    where
-      go : (z : Bool) → OpeningFront r (if z then Takes (MetadataBlock kind) (counted (metadata_continuation kind) ahead) else Plain)
-      go true = tt
-      go false = tt
+  front_metadata r o ahead = grind arith
 
   front_opens : (options : Options) (r : Row) (ahead : List Row) → GoodRow r → OpeningFront r (opens options r ahead)
   unfolding opens
@@ -406,11 +364,7 @@ module _ (E : ℕ → Type 0) where
       go : (z : Bool) → is_block_quote r ≡ z → (if z then Some (without (block_quote_width r) r) else None) ≡ Some s → GoodRow s
       go true q f = let p : without (block_quote_width r) r ≡ s = cc in subst GoodRow p (without-good (block_quote_width r) r g (quote-front r g q))
       go false q f = absurd (let p : None ≡ Some s = f in cc)
-  keep_as-good (Footnote label true size) r s g e = go (is_blank_line r) e
-    where
-      go : (z : Bool) → (if z then None else Some (hold r)) ≡ Some s → GoodRow s
-      go true f = absurd (let p : None ≡ Some s = f in cc)
-      go false f = let p : hold r ≡ s = cc in subst GoodRow p (hold-good r g)
+  keep_as-good (Footnote label true size) r s g e = search (rules, hold-good)
   keep_as-good (Footnote label false size) r s g e = wide-good 4 r s g e
   keep_as-good (Item delimiter number width task) r s g e = wide-good width r s g e
   keep_as-good (ListDefinition width) r s g e = wide-good width r s g e

@@ -1,10 +1,10 @@
 -- The places of lines' columns in the text.
-use Rattle.std.proofs.Common.{◌≡◌, ℕ, zero, suc, ◌+◌, ◌≤◌, ◌<◌, Bool, true, false, ◌==◌, ◌||◌, nat_le, if◌then◌else◌, List, [], ◌∷◌, ◌++◌, length, drop, take, refl, sym, ap, ◌∙◌, subst, arith, Option, Some, None, ne_eqb}
+use Rattle.std.proofs.Common.{◌≡◌, ℕ, zero, suc, ◌+◌, ◌≤◌, ◌<◌, Bool, true, false, ◌==◌, ◌||◌, nat_le, if◌then◌else◌, List, [], ◌∷◌, ◌++◌, length, drop, take, refl, sym, ap, ◌∙◌, subst, arith, Option, Some, None, ne_eqb, rules}
 use Rattle.std.specs.Prelude.{if◌then◌else◌}
 use Rattle.cmark_grammar.specs.Characters.{tab}
-use Rattle.cmark_grammar.specs.Lines.{lines, ends_line, onto, content}
+use Rattle.cmark_grammar.specs.Lines.{lines, onto, content}
 use Rattle.cmark_grammar.specs.Columns.{Column, expand, tab_columns, to_tab_stop, indent, without_indent}
-use Rattle.cmark_grammar.specs.Rows.{Row, rows, rows_from, row_at, without, hold, is_blank_line, indent_of, place, first_place, begin_of, start_of, last_line_end}
+use Rattle.cmark_grammar.specs.Rows.{Row, rows, rows_from, row_at, without, is_blank_line, indent_of, place, first_place, begin_of, start_of, last_line_end}
 use Rattle.cmark_grammar.specs.Containers.{Container, BlockQuote, Item, Footnote, ListDefinition, keeps, keep_as, strip_as, strip, strips, is_block_quote, block_quote_width}
 
 -- these columns are consecutive, from one place to another
@@ -13,35 +13,20 @@ Runs from [] to = from ≡ to
 Runs from (c ∷ cs) to = (place c ≡ from) × Runs (suc c.at) cs to
 
 pub place-le : (c : Column) → place c ≤ suc c.at
-place-le c = go (c.part == 0)
-  where
-    go : (z : Bool) → (if z then c.at else suc c.at) ≤ suc c.at
-    go true = omega arith
-    go false = omega arith
+place-le c = grind arith
 
 pub Runs-le : (from : ℕ) (cs : List Column) (to : ℕ) → Runs from cs to → from ≤ to
 Runs-le from [] to h = omega (arith, h)
-Runs-le from (c ∷ cs) to h =
-    let ih : suc c.at ≤ to = Runs-le (suc c.at) cs to h.1 in
-    let p : place c ≤ suc c.at = place-le c in
-    let e : place c ≡ from = h.0 in
-    omega (arith, ih, p, e)
+Runs-le from (c ∷ cs) to h = search (rules, place-le, Runs-le (suc c.at) cs to h.1)
 
 pub first_place-Runs : (from : ℕ) (cs : List Column) (to : ℕ) → Runs from cs to → first_place to cs ≡ from
 first_place-Runs from [] to h = sym h
 first_place-Runs from (c ∷ cs) to h = h.0
 
 pub drop-Runs : (n from : ℕ) (cs : List Column) (to : ℕ) → Runs from cs to → Runs (first_place to (drop n cs)) (drop n cs) to × (from ≤ first_place to (drop n cs))
-drop-Runs zero from cs to h =
-    let e : first_place to cs ≡ from = first_place-Runs from cs to h in
-    (subst (λ f. Runs f cs to) (sym e) h, omega (arith, e))
+drop-Runs zero from cs to h = grind (arith, first_place-Runs)
 drop-Runs (suc n) from [] to h = let e : from ≡ to = h in (refl, omega (arith, e))
-drop-Runs (suc n) from (c ∷ cs) to h =
-    let ih = drop-Runs n (suc c.at) cs to h.1 in
-    let p : place c ≤ suc c.at = place-le c in
-    let e : place c ≡ from = h.0 in
-    let l : suc c.at ≤ first_place to (drop n cs) = ih.1 in
-    (ih.0, omega (arith, p, e, l))
+drop-Runs (suc n) from (c ∷ cs) to h = search (rules, place-le, drop-Runs n (suc c.at) cs to h.1)
 
 -- if more columns are dropped, the rest begins later
 pub drop-mono : (m n from : ℕ) (cs : List Column) (to : ℕ) → m ≤ n → Runs from cs to → first_place to (drop m cs) ≤ first_place to (drop n cs)
@@ -95,11 +80,7 @@ Along-le from (r ∷ rs) to h =
 
 -- without their prefixes the lines are still in order
 wide-without : (width : ℕ) (r s : Row) → (if is_blank_line r || nat_le width (indent_of r) then Some (without width r) else None) ≡ Some s → without width r ≡ s
-wide-without width r s e = go _ e
-  where
-    go : (z : Bool) → (if z then Some (without width r) else None) ≡ Some s → without width r ≡ s
-    go true q = cc
-    go false q = cc
+wide-without width r s e = grind arith
 
 -- a line without some columns at the beginning, held or not
 abbrev pub after_prefix : ℕ → (held : Bool) → Row → Row
@@ -111,11 +92,7 @@ kept_as-following (BlockQuote alert) r s e = (block_quote_width r, (r.held, go (
     go : (z : Bool) → (if z then Some (without (block_quote_width r) r) else None) ≡ Some s → without (block_quote_width r) r ≡ s
     go true q = cc
     go false q = cc
-kept_as-following (Footnote label true size) r s e = (0, (true, go _ e))
-  where
-    go : (z : Bool) → (if z then None else Some (hold r)) ≡ Some s → hold r ≡ s
-    go true q = cc
-    go false q = cc
+kept_as-following (Footnote label true size) r s e = grind arith
 kept_as-following (Footnote label false size) r s e = (4, (r.held, wide-without 4 r s e))
 kept_as-following (Item delimiter number width task) r s e = (width, (r.held, wide-without width r s e))
 kept_as-following (ListDefinition width) r s e = (width, (r.held, wide-without width r s e))
@@ -139,13 +116,7 @@ strip-Lies k bare from r h = go (keeps k bare r) refl
         subst (Lies from) w.1.1 (Lies-lower from (begin_of r) (without n r) h.0 (Lies-without n from r h))
 
 pub strip-line_end : (k : Container) (bare : Bool) (r : Row) → (strip k bare r).line_end ≡ r.line_end
-strip-line_end k bare r = go (keeps k bare r) refl
-  where
-    go : (o : Option Row) → keeps k bare r ≡ o → (strip_as o r).line_end ≡ r.line_end
-    go None e = refl
-    go (Some s) e =
-        let w = kept-following k bare r s e in
-        sym (ap (λ x. x.line_end) w.1.1)
+strip-line_end k bare r = grind (arith, kept-following)
 
 pub strips-Along : (k : Container) (bare : Bool) (from : ℕ) (rs : List Row) (to : ℕ) → Along from rs to → Along from (strips k bare rs) to
 strips-Along k bare from [] to h = h
@@ -169,9 +140,7 @@ expand-Runs column at (b ∷ bs) =
     to = omega arith
 
     go : (z : Bool) (n : ℕ) → 0 < n → Runs (suc at) (expand (column + n) (suc at) bs) (suc at + length bs) → Runs (suc at) (expand (suc column) (suc at) bs) (suc at + length bs) → Runs at (if z then tab_columns at 0 n ++ expand (column + n) (suc at) bs else record { byte = b; at = at; part = 0 } ∷ expand (suc column) (suc at) bs) (at + length (b ∷ bs))
-    go true zero lt p q = absurd (omega (arith, lt))
-    go true (suc n) lt p q = (refl, tab-Runs at 0 n (expand (column + suc n) (suc at) bs) (at + length (b ∷ bs)) (subst (Runs (suc at) (expand (column + suc n) (suc at) bs)) to p))
-    go false n lt p q = (refl, subst (Runs (suc at) (expand (suc column) (suc at) bs)) to q)
+    go z n lt p q = grind (arith, tab-Runs, to)
 
 abbrev pub total : List (List ℕ) → ℕ
 total [] = 0
@@ -183,11 +152,7 @@ onto-total b (l ∷ ls) = omega arith
 
 pub lines-total : (bs : List ℕ) → total (lines bs) ≡ length bs
 lines-total [] = refl
-lines-total (b ∷ bs) = go (ends_line b bs) (lines-total bs)
-  where
-    go : (z : Bool) → total (lines bs) ≡ length bs → total (if z then (b ∷ []) ∷ lines bs else onto b (lines bs)) ≡ length (b ∷ bs)
-    go true ih = omega (arith, ih)
-    go false ih = onto-total b (lines bs) ∙ ap suc ih
+lines-total (b ∷ bs) = search (rules, onto-total, lines-total bs)
 
 take-len : (n : ℕ) (bs : List ℕ) → length (take n bs) ≤ length bs
 take-len zero bs = omega arith

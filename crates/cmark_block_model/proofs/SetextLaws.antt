@@ -1,5 +1,5 @@
 -- The content of a setext heading without its attributes is cut out of that of a paragraph.
-use Rattle.std.proofs.Common.{◌≡◌, ℕ, suc, ◌≤◌, ◌<◌, Bool, true, false, ◌==◌, List, [], ◌∷◌, ◌++◌, length, drop, refl, sym, arith, true≢false}
+use Rattle.std.proofs.Common.{◌≡◌, ℕ, suc, ◌≤◌, ◌<◌, Bool, true, false, ◌==◌, List, [], ◌∷◌, ◌++◌, length, drop, refl, sym, arith, true≢false, rules}
 use Rattle.std.specs.Prelude.{if◌then◌else◌, nat_lt}
 use Rattle.std.proofs.lemmas.Bool.Decides.{nat_tests}
 use Rattle.cmark_grammar.specs.Attributes.{is_braced, before_braces, closes}
@@ -35,12 +35,7 @@ module _ (E : ℕ → Type 0) where
 
   end-reaches : (p : Column → Bool) (cs : List Column) → Reaches cs → Reaches (drop_end p cs)
   end-reaches p [] r = tt
-  end-reaches p (c ∷ cs) r = go (p c) (drop_end p cs) (end-reaches p cs r.1)
-    where
-      go : (z : Bool) (ds : List Column) → Reaches ds → Reaches (put_before z c ds)
-      go true [] h = tt
-      go false [] h = (r.0, tt)
-      go z (d ∷ ds) h = (r.0, h)
+  end-reaches p (c ∷ cs) r = grind (arith, end-reaches p cs r.1)
 
   join-reaches : (a b : List Column) → Reaches a → Reaches b → Reaches (a ++ b)
   join-reaches [] b ra rb = rb
@@ -58,9 +53,7 @@ module _ (E : ℕ → Type 0) where
   first-reaches (c ∷ cs) r e = go (is_braced (λ x. x.byte) (c ∷ cs)) refl e (first-reaches cs r.1)
     where
       following : (z : Bool) → is_space_byte c.byte ≡ z → (ds : List Column) → E (first_place 0 (drop (length ds) cs)) → E (first_place 0 (drop (length (put_before z c ds)) (c ∷ cs)))
-      following true w [] h = r.0 (space-ascii c.byte w)
-      following false w [] h = h
-      following z w (d ∷ ds) h = h
+      following z w ds h = grind (arith, space-ascii)
 
       go : (z : Bool) → is_braced (λ x. x.byte) (c ∷ cs) ≡ z → nat_lt (length (if z then [] else c ∷ before_braces (λ x. x.byte) cs)) (suc (length cs)) ≡ true
           → (ends_in_braces cs ≡ true → E (attributes_place cs)) → E (first_place 0 (drop (length (drop_end (λ x. is_space_byte x.byte) (if z then [] else c ∷ before_braces (λ x. x.byte) cs))) (c ∷ cs)))
@@ -72,19 +65,10 @@ module _ (E : ℕ → Type 0) where
 
   before-edged : (text : List ℕ) (at : ℕ) (d : BlockDocument) → E at → AllAt E d → AllAt E (texts_before text at d)
   before-edged text at Nil e h = tt
-  before-edged text at (Node n inside after) e h = go (nat_lt n.end at) (before-edged text at after e h.3)
-    where
-      go : (z : Bool) → AllAt E (texts_before text at after) → AllAt E (if z then Node n inside (texts_before text at after) else stretch_then text n.start at Nil)
-      go true ih = (h.0, h.1, h.2, ih)
-      go false ih = stretch-edged E text n.start at Nil h.0 e tt
+  before-edged text at (Node n inside after) e h = grind (arith, stretch-edged, before-edged text at after e h.3)
 
   braces-edged : (text : List ℕ) (attributes : Bool) (cs : List Column) (d : BlockDocument) → Reaches cs → AllAt E d → AllAt E (without_braces text attributes cs d)
-  braces-edged text false cs d r h = h
-  braces-edged text true cs d r h = go (ends_in_braces cs) refl
-    where
-      go : (z : Bool) → ends_in_braces cs ≡ z → AllAt E (texts_if z text (attributes_place cs) d)
-      go true e = before-edged text (attributes_place cs) d (first-reaches cs r e) h
-      go false e = h
+  braces-edged text attributes cs d r h = grind (arith, before-edged, first-reaches)
 
   pub setext-edged : (text : List ℕ) (attributes : Bool) (first : Row) (more : List Row) → GoodRow E first → GoodRows E more → AllAt E (setext_tokens text attributes first more)
   setext-edged text attributes first more g gs =
@@ -117,12 +101,7 @@ before-order text at from (Node n inside after) to h = go (nat_lt n.end at) refl
         front false l = let q : from ≤ to = omega (arith, low, mid, up) in q
 
 braces-order : (text : List ℕ) (attributes : Bool) (cs : List Column) (from : ℕ) (d : BlockDocument) (to : ℕ) → InOrder from d to → InOrder from (without_braces text attributes cs d) to
-braces-order text false cs from d to h = h
-braces-order text true cs from d to h = go (ends_in_braces cs)
-  where
-    go : (z : Bool) → InOrder from (texts_if z text (attributes_place cs) d) to
-    go true = before-order text (attributes_place cs) from d to h
-    go false = h
+braces-order text attributes cs from d to h = grind (arith, before-order)
 
 pub setext-order : (text : List ℕ) (attributes : Bool) (from : ℕ) (first : Row) (more : List Row) → Lies from first → Along first.line_end more (last_line_end first more)
     → InOrder (start_of first) (setext_tokens text attributes first more) (last_line_end first more)
@@ -132,20 +111,11 @@ setext-order text attributes from first more h a =
 -- ## Numbers
 
 one-node : (text : List ℕ) (start end : ℕ) → (count_nodes (stretch_then text start end Nil) ≤ 1) × (count_tables (stretch_then text start end Nil) ≡ 0)
-one-node text start end = go (nat_lt start end)
-  where
-    go : (z : Bool) → let d = texts_then (if z then record { owned = false; bytes = slice text start end; start = start; end = end } ∷ [] else []) Nil in (count_nodes d ≤ 1) × (count_tables d ≡ 0)
-    go true = ((omega arith), refl)
-    go false = ((omega arith), refl)
+one-node text start end = grind arith
 
 before-few : (text : List ℕ) (at : ℕ) (d : BlockDocument) → (count_nodes (texts_before text at d) ≤ count_nodes d) × (count_tables (texts_before text at d) ≤ count_tables d)
 before-few text at Nil = ((omega arith), (omega arith))
-before-few text at (Node n inside after) = go (nat_lt n.end at) (before-few text at after)
-  where
-    go : (z : Bool) → (count_nodes (texts_before text at after) ≤ count_nodes after) × (count_tables (texts_before text at after) ≤ count_tables after)
-        → let d = (if z then Node n inside (texts_before text at after) else stretch_then text n.start at Nil) in (count_nodes d ≤ count_nodes (Node n inside after)) × (count_tables d ≤ count_tables (Node n inside after))
-    go true ih = let a = ih.0 in let b = ih.1 in ((omega (arith, a)), (omega (arith, b)))
-    go false ih = let o = one-node text n.start at in let a = o.0 in let b = o.1 in ((omega (arith, a)), (omega (arith, b)))
+before-few text at (Node n inside after) = search (rules, one-node, before-few text at after)
 
 braces-few : (text : List ℕ) (attributes : Bool) (cs : List Column) (d : BlockDocument)
     → (count_nodes (without_braces text attributes cs d) ≤ count_nodes d) × (count_tables (without_braces text attributes cs d) ≤ count_tables d)

@@ -1,19 +1,18 @@
 -- After another line the pass and the model are in corresponding states.
-use Rattle.std.proofs.Common.{◌≡◌, ℕ, ◌&&◌, Bool, true, false, List, [], ◌∷◌, ◌++◌, length, refl, ap, ◌∙◌, sym, subst, append_assoc, append-nil, Option, Some, None}
+use Rattle.std.proofs.Common.{◌≡◌, ℕ, ◌&&◌, Bool, true, false, List, [], ◌∷◌, ◌++◌, refl, ap, ◌∙◌, sym, subst, append_assoc, append-nil, Option, Some, None, arith}
 use Rattle.std.specs.Prelude.{if◌then◌else◌}
 use Rattle.cmark_grammar.specs.Answers.{Lookup}
 use Rattle.cmark_grammar.specs.Options.{Options}
 use Rattle.cmark_grammar.specs.Rows.{Row}
 use Rattle.cmark_grammar.specs.Containers.{keeps, strip, strip_as, is_bare_start, bare_after}
-use Rattle.cmark_grammar.specs.Openings.{Leaf, lazily, Table}
-use Rattle.cmark_grammar.specs.Blocks.{Nil as NoBlocks, ContainerBlock, join as join_blocks, after_leaf}
-use Rattle.cmark_grammar.specs.Places.{allows_lazy}
+use Rattle.cmark_grammar.specs.Openings.{lazily}
+use Rattle.cmark_grammar.specs.Blocks.{Nil as NoBlocks, ContainerBlock, join as join_blocks}
 use Rattle.cmark_block_model.specs.BlocksModel.{within}
-use Rattle.cmark_block_model.specs.BlocksByLine.{Verbatim, Indented, Fenced, HtmlLines, continuation_if, OpenLines, Between, AfterTag, InParagraph, InLeaf, InVerbatim, InContainer, close_lines, lines_take_lazy, lines_kept_or, verbatim_line, lines_begin, lines_feed, Metadata}
+use Rattle.cmark_block_model.specs.BlocksByLine.{OpenLines, Between, AfterTag, InParagraph, InLeaf, InVerbatim, InContainer, close_lines, lines_take_lazy, lines_kept_or, lines_begin, lines_feed}
 use Rattle.cmark_block_model.proofs.BlockLaws.{strip_lazy, strip_whole}
 use Rattle.cmark_block_model.proofs.BlocksSound.{is_both}
 use Rattle.cmark_block_model.specs.OpenBlocks.{OpenContainer, Closed, takes_lazy, Pass}
-use Rattle.cmark_block_model.specs.BlockPass.{ahead_in, begin, leaf_closed, leaf_fed, lazy_fed, containers_closed, LineKeepers, is_last, kept_if, kept_by, line_with}
+use Rattle.cmark_block_model.specs.BlockPass.{ahead_in, begin, leaf_closed, lazy_fed, containers_closed, LineKeepers, is_last, kept_if, kept_by, line_with}
 use Rattle.cmark_block_model.proofs.Replay.{Level, entered, replay}
 use Rattle.cmark_block_model.proofs.Mirror.{pass_with, table_leaf, leaf_left, verbatim_leaf, Fits, inner_at, leaf_at, container_at, containers_at, pass_at, bare_at}
 use Rattle.cmark_block_model.proofs.Flags.{and-true, and-false}
@@ -31,22 +30,8 @@ module _ (text : List ℕ) (options : Options) (lookup : Lookup) where
   takes-lazy (Between closed) = refl
   takes-lazy AfterTag = refl
   takes-lazy (InParagraph closed first more) = refl
-  takes-lazy (InLeaf closed leaf first had left) = go leaf
-    where
-      table : (columns : ℕ) (rs : List Row) → takes_lazy (table_leaf columns rs) ≡ false
-      table columns [] = refl
-      table columns (r ∷ rs) = refl
-
-      go : (leaf : Leaf) → takes_lazy (leaf_left leaf had left) ≡ allows_lazy (after_leaf leaf)
-      go (Table alignments) = table (length alignments) had
-      go _ = refl
-  takes-lazy (InVerbatim closed verbatim first had waiting) = go verbatim
-    where
-      go : (v : Verbatim) → takes_lazy (verbatim_leaf text options lookup v first had waiting) ≡ false
-      go Indented = refl
-      go (Fenced fence) = refl
-      go (HtmlLines kind) = refl
-      go (Metadata kind) = refl
+  takes-lazy (InLeaf closed leaf first had left) = grind (arith, table_leaf, leaf_left)
+  takes-lazy (InVerbatim closed verbatim first had waiting) = grind (arith, verbatim_leaf)
   takes-lazy (InContainer closed k first more inside) = takes-lazy inside
 
   -- only the innermost container is bare
@@ -66,19 +51,9 @@ module _ (text : List ℕ) (options : Options) (lookup : Lookup) where
       ap (λ o. begin text options lookup r next (pass_with (replay text options lookup closed l) o false Closed n)) (append-nil outer) ∙ starts text options lookup closed r next ahead l outer n h u e a
   simulates AfterTag b r next ahead l outer n h u e a f =
       ap (λ o. begin text options lookup r next (pass_with l o false Closed n)) (append-nil outer) ∙ starts-following-tag text options lookup r next ahead l outer n h e a
-  simulates (InParagraph closed first more) b r next ahead l outer n h u e a f =
-      let i = InParagraph closed first more in
-      ap (λ o. leaf_fed text options lookup (leaf_at text options lookup i) r next (pass_with (inner_at text options lookup i (r ∷ ahead) l) o false (leaf_at text options lookup i) n)) (append-nil outer)
-      ∙ paragraph-feeds text options lookup closed first more r next ahead l outer b n e a h u f
-  simulates (InLeaf closed leaf first had left) b r next ahead l outer n h u e a f =
-      let i = InLeaf closed leaf first had left in
-      ap (λ o. leaf_fed text options lookup (leaf_at text options lookup i) r next (pass_with (inner_at text options lookup i (r ∷ ahead) l) o false (leaf_at text options lookup i) n)) (append-nil outer)
-      ∙ leaf-feeds text options lookup closed leaf first had left r next ahead l outer b n e a h u f
-  simulates (InVerbatim closed v first had waiting) b r next ahead l outer n h u e a f =
-      let i = InVerbatim closed v first had waiting in
-      ap (λ o. leaf_fed text options lookup (leaf_at text options lookup i) r next (pass_with (inner_at text options lookup i (r ∷ ahead) l) o false (leaf_at text options lookup i) n)) (append-nil outer)
-      ∙ verbatim-feeds text options lookup v closed first had waiting r next ahead l outer b n e a h u f
-      ∙ ap (λ z. pass_at text options lookup (verbatim_line (continuation_if z v r) closed v first had waiting r (lines_begin options (close_lines i) r ahead)) ahead l outer false n) (sym e)
+  simulates (InParagraph closed first more) b r next ahead l outer n h u e a f = cc (append-nil outer, paragraph-feeds text options lookup closed first more r next ahead l outer b n e a h u f)
+  simulates (InLeaf closed leaf first had left) b r next ahead l outer n h u e a f = cc (append-nil outer, leaf-feeds text options lookup closed leaf first had left r next ahead l outer b n e a h u f)
+  simulates (InVerbatim closed v first had waiting) b r next ahead l outer n h u e a f = cc (append-nil outer, verbatim-feeds text options lookup v closed first had waiting r next ahead l outer b n e a h u f)
   simulates (InContainer closed k first more inside) b r next ahead l outer n h u e a f =
       ap (λ z. fed (kept_if text options lookup (keeps k z r) (λ s. kept_by text options lookup (outer ++ v ∷ []) cs (bare_at bare inside) s) (record { kept = outer; missed = v ∷ cs; left = r })) next p)
       (bare-flag inside bare (within k bare (r ∷ ahead)) n (entered k first c) f.2)
@@ -142,7 +117,4 @@ module _ (text : List ℕ) (options : Options) (lookup : Lookup) where
           ∙ ap (λ o. fed (kept_by text options lookup (outer ++ v ∷ []) cs (bare_at bare inside) (strip k bare r)) next (pass_with (inner_at text options lookup inside (strip k bare r ∷ within k false ahead) (entered k first c)) o false (leaf_at text options lookup inside) n)) (sym (append_assoc outer (v ∷ []) cs))
           ∙ ih s q
           ∙ container-goes text options lookup closed k first more r (lines_feed options inside (strip k bare r) (within k false ahead)) ahead l outer false n
-      go None q ih =
-          ap (λ x. if lazily options k r x && takes_lazy (leaf_at text options lookup inside) then lazy_fed text options lookup (leaf_at text options lookup inside) r p else begin text options lookup r next (containers_closed text options lookup outer (v ∷ cs) (leaf_closed text options lookup p))) a
-          ∙ ap (λ x. if lazily options k r ahead && x then lazy_fed text options lookup (leaf_at text options lookup inside) r p else begin text options lookup r next (containers_closed text options lookup outer (v ∷ cs) (leaf_closed text options lookup p))) (takes-lazy inside)
-          ∙ missed q (lazily options k r ahead && lines_take_lazy inside) refl
+      go None q ih = grind (arith, leaf_at, p, v, cs, takes-lazy, missed)

@@ -1,5 +1,5 @@
 -- Texts that are not owned are the bytes of their ranges.
-use Rattle.std.proofs.Common.{◌≡◌, ℕ, zero, suc, ◌+◌, ◌-◌, ◌≤◌, ◌<◌, Bool, true, false, ◌==◌, ◌&&◌, not, List, [], ◌∷◌, ◌++◌, length, drop, take, take_while, refl, sym, ap, ◌∙◌, subst, arith, Option, Some, None, true≢false, drop-drop, take-add}
+use Rattle.std.proofs.Common.{◌≡◌, ℕ, zero, suc, ◌+◌, ◌-◌, ◌≤◌, ◌<◌, Bool, true, false, ◌==◌, ◌&&◌, not, List, [], ◌∷◌, ◌++◌, length, drop, take, take_while, refl, sym, ap, ◌∙◌, subst, arith, Option, Some, None, true≢false, drop-drop, take-add, rules}
 use Rattle.std.specs.Prelude.{if◌then◌else◌, nat_lt}
 use Rattle.cmark_grammar.specs.Answers.{Lookup}
 use Rattle.cmark_grammar.specs.Options.{Options}
@@ -8,12 +8,12 @@ use Rattle.cmark_grammar.specs.Rows.{Row, first_place, begin_of, start_of, words
 use Rattle.cmark_grammar.specs.Containers.{BlockQuote, Item, Footnote, ListDefinition}
 use Rattle.cmark_grammar.specs.Openings.{Leaf, AtxHeading as AtxHeadingLeaf, IndentedCode as IndentedCodeLeaf, FencedCode as FencedCodeLeaf, HtmlBlock as HtmlBlockLeaf, MetadataBlock as MetadataBlockLeaf, Table as TableLeaf}
 use Rattle.cmark_grammar.specs.Blocks.{Blocks, Nil as NoBlocks, BlankLine, Paragraph as ParagraphBlock, SetextHeading, LeafBlock, ContainerBlock}
-use Rattle.cmark_grammar.specs.SetextAttributes.{content_of, ends_in_braces, attributes_place, texts_before, texts_if, without_braces, setext_tokens}
+use Rattle.cmark_grammar.specs.SetextAttributes.{content_of, texts_before, without_braces, setext_tokens}
 use Rattle.cmark_grammar.specs.Lists.{ListBefore, tight_after, goes_on, definition_delimiter, is_title, title_tight_after}
-use Rattle.cmark_grammar.specs.BlockDocument.{Text, OwnedText, Html, ListItem, BlockNode, BlockDocument, Nil, Node, node, BlockKind, DefinitionList, DefinitionListTitle, DefinitionListDefinition, BlockList}
+use Rattle.cmark_grammar.specs.BlockDocument.{ListItem, BlockNode, BlockDocument, Nil, Node, node, BlockKind, DefinitionList, DefinitionListTitle, DefinitionListDefinition}
 use Rattle.cmark_grammar.specs.Derivation.{task_then, leaf_then, item_then, paragraph_kind, document_of, Derives, list_kind}
 use Rattle.cmark_block_model.specs.Ranges.{IsSlice, HasSlices}
-use Rattle.cmark_grammar.specs.Tokens.{slice, Piece, texts_then, end_place, words_end, stretch_then, stretches, paragraph_tokens, after_hashes, heading_columns, piece_if, plain_line, left_columns, spaces_if, verbatim_line, touches, merge, merge_all, code_columns, code_pieces, fenced_lines, html_then, html_tokens, lines_before}
+use Rattle.cmark_grammar.specs.Tokens.{slice, Piece, texts_then, end_place, words_end, stretch_then, stretches, paragraph_tokens, after_hashes, heading_columns, piece_if, plain_line, left_columns, spaces_if, verbatim_line, merge, merge_all, code_columns, code_pieces, fenced_lines, html_then, html_tokens, lines_before}
 use Rattle.cmark_grammar.specs.Metadata.{ends_metadata}
 use Rattle.cmark_grammar.specs.TableRows.{cells_start, cells_of}
 use Rattle.cmark_grammar.specs.TableTokens.{cells_then, row_cells, row_tokens}
@@ -48,67 +48,37 @@ module _ (text : List ℕ) where
 
   texts-sliced : (ps : List Piece) (after : BlockDocument) → AreSliced ps → HasSlices text after → HasSlices text (texts_then ps after)
   texts-sliced [] after h a = a
-  texts-sliced (p ∷ ps) after h a = (kind p.owned refl, tt, texts-sliced ps after h.1 a)
-    where
-      kind : (z : Bool) → p.owned ≡ z → IsSlice text (if z then OwnedText p.bytes else Text p.bytes) p.start p.end
-      kind true e = tt
-      kind false e = (h.0 e).1
+  texts-sliced (p ∷ ps) after h a = grind (arith, texts-sliced ps after h.1 a)
 
   html_then-sliced : (ps : List Piece) (after : BlockDocument) → AreSliced ps → HasSlices text after → HasSlices text (html_then ps after)
   html_then-sliced [] after h a = a
-  html_then-sliced (p ∷ ps) after h a = (kind p.owned refl, tt, html_then-sliced ps after h.1 a)
-    where
-      kind : (z : Bool) → p.owned ≡ z → IsSlice text (if z then OwnedText p.bytes else Html p.bytes) p.start p.end
-      kind true e = tt
-      kind false e = (h.0 e).1
+  html_then-sliced (p ∷ ps) after h a = grind (arith, html_then-sliced ps after h.1 a)
 
   piece_if-sliced : (start end : ℕ) (ps : List Piece) → AreSliced ps → AreSliced (piece_if text start end ps)
-  piece_if-sliced start end ps h = go (nat_lt start end) refl
-    where
-      go : (z : Bool) → nat_lt start end ≡ z → AreSliced (if z then record { owned = false; bytes = slice text start end; start = start; end = end } ∷ ps else ps)
-      go true e = ((λ o. ((let l = less start end e in omega (arith, l)), refl)), h)
-      go false e = h
+  piece_if-sliced start end ps h = grind (arith, less)
 
   stretch-sliced : (start end : ℕ) (after : BlockDocument) → HasSlices text after → HasSlices text (stretch_then text start end after)
   stretch-sliced start end after a = texts-sliced (piece_if text start end []) after (piece_if-sliced start end [] tt) a
 
   stretches-sliced : (begin : ℕ) (r : Row) (more : List Row) → HasSlices text (stretches text begin r more)
   stretches-sliced begin r [] = stretch-sliced begin (words_end r) Nil tt
-  stretches-sliced begin r (s ∷ more) = go (begin_of s == r.line_end) (stretches-sliced begin s more) (stretches-sliced (begin_of s) s more)
-    where
-      go : (z : Bool) → HasSlices text (stretches text begin s more) → HasSlices text (stretches text (begin_of s) s more)
-          → HasSlices text (if z then stretches text begin s more else stretch_then text begin r.line_end (stretches text (begin_of s) s more))
-      go true p q = p
-      go false p q = stretch-sliced begin r.line_end (stretches text (begin_of s) s more) q
+  stretches-sliced begin r (s ∷ more) = search (rules, stretch-sliced, stretches-sliced begin s more, stretches-sliced (begin_of s) s more)
 
   paragraph-sliced : (r : Row) (more : List Row) → HasSlices text (paragraph_tokens text r more)
   paragraph-sliced r more = stretches-sliced (start_of r) r more
 
   before-sliced : (at : ℕ) (d : BlockDocument) → HasSlices text d → HasSlices text (texts_before text at d)
   before-sliced at Nil h = tt
-  before-sliced at (Node n inside after) h = go (nat_lt n.end at) (before-sliced at after h.2)
-    where
-      go : (z : Bool) → HasSlices text (texts_before text at after) → HasSlices text (if z then Node n inside (texts_before text at after) else stretch_then text n.start at Nil)
-      go true ih = (h.0, h.1, ih)
-      go false ih = stretch-sliced n.start at Nil tt
+  before-sliced at (Node n inside after) h = grind (arith, stretch-sliced, before-sliced at after h.2)
 
   braces-sliced : (attributes : Bool) (cs : List Column) (d : BlockDocument) → HasSlices text d → HasSlices text (without_braces text attributes cs d)
-  braces-sliced false cs d h = h
-  braces-sliced true cs d h = go (ends_in_braces cs)
-    where
-      go : (z : Bool) → HasSlices text (texts_if z text (attributes_place cs) d)
-      go true = before-sliced (attributes_place cs) d h
-      go false = h
+  braces-sliced attributes cs d h = grind (arith, before-sliced)
 
   setext-sliced : (attributes : Bool) (r : Row) (more : List Row) → HasSlices text (setext_tokens text attributes r more)
   setext-sliced attributes r more = braces-sliced attributes (content_of (r ∷ more)) (paragraph_tokens text r more) (paragraph-sliced r more)
 
   plain_line-sliced : (from : ℕ) (r : Row) → AreSliced (plain_line text from r)
-  plain_line-sliced from r = go (r.line_end - r.content_end == 2)
-    where
-      go : (z : Bool) → AreSliced (if z then piece_if text from r.content_end (piece_if text (suc r.content_end) r.line_end []) else piece_if text from r.line_end [])
-      go true = piece_if-sliced from r.content_end (piece_if text (suc r.content_end) r.line_end []) (piece_if-sliced (suc r.content_end) r.line_end [] tt)
-      go false = piece_if-sliced from r.line_end [] tt
+  plain_line-sliced from r = search (rules, piece_if-sliced)
 
   spaces_if-sliced : (n at : ℕ) (ps : List Piece) → AreSliced ps → AreSliced (spaces_if n at ps)
   spaces_if-sliced zero at ps h = h
@@ -118,20 +88,7 @@ module _ (text : List ℕ) where
   verbatim-sliced cs r = spaces_if-sliced (left_columns cs) (first_place r.content_end cs) (plain_line text (first_place r.content_end cs) r) (plain_line-sliced (first_place r.content_end cs) r)
 
   merge-sliced : (p : Piece) (ps : List Piece) → (p.owned ≡ false → (p.start ≤ p.end) × (p.bytes ≡ slice text p.start p.end)) → AreSliced ps → AreSliced (merge p ps)
-  merge-sliced p [] k h = (k, tt)
-  merge-sliced p (q ∷ ps) k h = go (touches p q) refl
-    where
-      go : (z : Bool) → touches p q ≡ z → AreSliced (if z then record { owned = false; bytes = p.bytes ++ q.bytes; start = p.start; end = q.end } ∷ ps else p ∷ q ∷ ps)
-      go true e =
-          let b = both (not p.owned) (not q.owned && (p.end == q.start)) e in
-          let d = both (not q.owned) (p.end == q.start) b.1 in
-          let s : p.end ≡ q.start = same p.end q.start d.1 in
-          let f = k (not-true p.owned b.0) in
-          let g = h.0 (not-true q.owned d.0) in
-          let l : p.start ≤ p.end = f.0 in
-          let m : q.start ≤ q.end = g.0 in
-          ((λ o. (omega (arith, l, m, s), ap (λ t. t ++ q.bytes) f.1 ∙ ap (λ t. slice text p.start p.end ++ t) (g.1 ∙ ap (λ n. slice text n q.end) (sym s)) ∙ slice-join p.start p.end q.end l (omega (arith, m, s)))), h.1)
-      go false e = (k, h)
+  merge-sliced p ps k h = grind (arith, both, same, not-true, slice-join)
 
   merge_all-sliced : (ps following : List Piece) → AreSliced ps → AreSliced following → AreSliced (merge_all ps following)
   merge_all-sliced [] following h b = b
@@ -168,16 +125,10 @@ module _ (text : List ℕ) where
   leaf-sliced options lookup _ first more after a = (tt, tt, a)
 
   list-slice : (delimiter : ℕ) (number : Option ℕ) (tight : Bool) (start end : ℕ) → IsSlice text (list_kind delimiter number tight) start end
-  list-slice delimiter number tight start end = go (delimiter == definition_delimiter)
-    where
-      go : (z : Bool) → IsSlice text (if z then DefinitionList tight else BlockList number tight) start end
-      go true = tt
-      go false = tt
+  list-slice delimiter number tight start end = grind arith
 
   item-sliced : (joins : Bool) (list : BlockKind) (item : BlockNode) (inside after : BlockDocument) → ((start end : ℕ) → IsSlice text list start end) → IsSlice text item.kind item.start item.end → HasSlices text inside → HasSlices text after → HasSlices text (item_then joins list item inside after)
-  item-sliced false list item inside after l k i a = (l _ _, (k, i, tt), a)
-  item-sliced true list item inside Nil l k i a = (l _ _, (k, i, tt), tt)
-  item-sliced true list item inside (Node others items after) l k i a = (l _ _, (k, i, a.1), a.2)
+  item-sliced joins list item inside after l k i a = grind arith
 
   -- a paragraph, as a title or as itself
   title-sliced : (is_title tight : Bool) (other : BlockKind) (start end : ℕ) (inside after following : BlockDocument) → IsSlice text other start end → HasSlices text inside → HasSlices text after → HasSlices text following

@@ -2,18 +2,14 @@
 use Rattle.std.proofs.Common.{◌≡◌, ℕ, zero, suc, ◌-◌, ◌≤◌, Bool, true, false, ◌==◌, ◌&&◌, not, nat_le, List, [], ◌∷◌, ◌++◌, length, drop, take, refl, sym, ap, ◌∙◌, subst, arith, Option, Some, None, true≢false}
 use Rattle.std.specs.Prelude.{if◌then◌else◌}
 use Rattle.cmark_grammar.specs.Alignment.{Alignment}
-use Rattle.cmark_grammar.specs.Containers.{Container, container_of}
-use Rattle.cmark_grammar.specs.Footnotes.{footnotes_in}
-use Rattle.cmark_grammar.specs.HtmlBlocks.{html_kind}
-use Rattle.cmark_grammar.specs.Leaves.{Fence, is_thematic_break, is_atx_heading, run, fence_of, counted, code_continuation}
-use Rattle.cmark_grammar.specs.LinkDefinitions.{Defined, definition_in, bytes_over}
-use Rattle.cmark_grammar.specs.Metadata.{metadata_kind, metadata_continuation, holds_metadata}
+use Rattle.cmark_grammar.specs.Containers.{Container}
+use Rattle.cmark_grammar.specs.Leaves.{Fence}
+use Rattle.cmark_grammar.specs.LinkDefinitions.{Defined}
 use Rattle.cmark_grammar.specs.MetadataBlockKind.{MetadataBlockKind}
-use Rattle.cmark_grammar.specs.Openings.{Leaf, ThematicBreak, AtxHeading, IndentedCode, FencedCode, HtmlBlock, LinkDefinition, MetadataBlock, Table, Opening, Blank, Takes, Plain, or_else, nests_if, fenced_if, html_if, break_if, heading_if, defined_if, metadata_begun, text_lines, definition_of, interrupts, count_rows, table_if, text_of, begins_no_link, leaf_of, whole_opens, opens, opens_at}
+use Rattle.cmark_grammar.specs.Openings.{Leaf, ThematicBreak, AtxHeading, IndentedCode, FencedCode, HtmlBlock, LinkDefinition, MetadataBlock, Table, Opening, Takes, Plain, or_else, nests_if, fenced_if, html_if, break_if, heading_if, defined_if, metadata_begun, interrupts, count_rows, table_if, text_of, leaf_of, opens, opens_at}
 use Rattle.cmark_grammar.specs.Options.{Options}
-use Rattle.cmark_grammar.specs.Rows.{Row, show_as, shown, is_blank_line, indent_of, words_of}
-use Rattle.cmark_grammar.specs.TableRows.{one_more_if, count_cells, count_missing, most_filled, holds_pipe, with_columns, delimited_ahead, table_head}
-use Rattle.cmark_grammar.specs.Tables.{delimiter_row}
+use Rattle.cmark_grammar.specs.Rows.{Row, show_as, shown}
+use Rattle.cmark_grammar.specs.TableRows.{one_more_if, count_cells, count_missing, most_filled, with_columns, table_head}
 use Rattle.cmark_grammar.specs.Places.{Place}
 use Rattle.cmark_block_model.proofs.BlockLaws.{at-takes, opens-len}
 use Rattle.cmark_block_model.proofs.TableRanges.{filled}
@@ -87,12 +83,7 @@ module _ (options : Options) where
     fills_defined lines None = tt
 
     fills_metadata : (o : Option MetadataBlockKind) → Fills (metadata_begun o ahead)
-    fills_metadata None = tt
-    fills_metadata (Some kind) = go (holds_metadata kind ahead)
-      where
-        go : (z : Bool) → Fills (if z then Takes (MetadataBlock kind) (counted (metadata_continuation kind) ahead) else Plain)
-        go true = tt
-        go false = tt
+    fills_metadata o = grind arith
 
     -- the head has the same number of cells as the row after it
     abbrev HasColumns : Option (List Alignment) → Type 0
@@ -100,35 +91,14 @@ module _ (options : Options) where
     HasColumns (Some alignments) = length alignments ≡ count_cells r
 
     columns-of : (o : Option (List Alignment)) → HasColumns (with_columns (count_cells r) o)
-    columns-of None = tt
-    columns-of (Some alignments) = go (length alignments == count_cells r) refl
-      where
-        go : (z : Bool) → (length alignments == count_cells r) ≡ z → HasColumns (if z then Some alignments else None)
-        go true e = same (length alignments) (count_cells r) e
-        go false e = tt
+    columns-of o = grind (arith, same)
 
     head-columns : HasColumns (table_head options r ahead)
-    head-columns = go (options.tables && (not r.lazy && holds_pipe (words_of r)))
-      where
-        by : (s : Row) (z : Bool) → HasColumns (if z then with_columns (count_cells r) (delimiter_row (words_of s)) else None)
-        by s true = columns-of (delimiter_row (words_of s))
-        by s false = tt
-
-        following : (rest : List Row) → HasColumns (delimited_ahead (count_cells r) rest)
-        following [] = tt
-        following (s ∷ rest) = by s (nat_le (indent_of s) 3)
-
-        go : (z : Bool) → HasColumns (if z then delimited_ahead (count_cells r) ahead else None)
-        go true = following ahead
-        go false = tt
+    head-columns = grind (arith, columns-of, nat_le)
 
     fills_table : (o : Option (List Alignment)) → HasColumns o → Fills (table_if options o ahead)
     fills_table None h = tt
-    fills_table (Some alignments) h = (
-      missing (length alignments) h,
-      subst (λ k. filled (length alignments) (take k (drop 1 ahead)) ≤ most_filled) (less_one (count_rows options (length alignments) most_filled (drop 1 ahead))) (rows-filled (length alignments) most_filled (drop 1 ahead)),
-      refl,
-    )
+    fills_table (Some alignments) h = grind (arith, missing, filled, less_one, rows-filled)
       where
         less_one : (n : ℕ) → n ≡ suc n - 1
         less_one n = omega arith
@@ -137,27 +107,14 @@ module _ (options : Options) where
         missing n e = omega (arith, e)
 
     fills_text : Fills (text_of options r ahead)
-    fills_text =
-        fills_or (definition_of options r ahead) (table_if options (table_head options r ahead) ahead)
-        (fills_if (begins_no_link (footnotes_in options) (words_of r)) Plain _ tt
-        (fills_defined (length (text_lines options ahead)) (definition_in (bytes_over r (text_lines options ahead))))) (fills_table (table_head options r ahead) head-columns)
+    fills_text = grind (arith, fills_or, fills_if, fills_defined, fills_table, head-columns)
 
     fills_leaf : Fills (leaf_of options r ahead)
-    fills_leaf =
-        fills_or (html_if r ahead (html_kind (words_of r))) _ (fills_html (html_kind (words_of r)))
-        (fills_or (break_if (is_thematic_break (words_of r))) _ (fills_break (is_thematic_break (words_of r)))
-        (fills_or (heading_if (is_atx_heading (words_of r)) (run 35 (words_of r))) _ (fills_heading (is_atx_heading (words_of r)) (run 35 (words_of r)))
-        (fills_or (fenced_if (fence_of (indent_of r) (words_of r)) ahead) (text_of options r ahead) (fills_fenced (fence_of (indent_of r) (words_of r)))
-        fills_text)))
+    fills_leaf = grind (arith, fills_or, fills_html, fills_break, fills_heading, fills_fenced, fills_text)
 
     fills_opens : Fills (opens options r ahead)
     unfolding opens
-    fills_opens =
-        fills_if r.lazy Plain _ tt
-        (fills_or (metadata_begun (metadata_kind options r) ahead) (whole_opens options r ahead) (fills_metadata (metadata_kind options r))
-        (fills_if (is_blank_line r) Blank _ tt
-        (fills_if (nat_le 4 (indent_of r)) (Takes IndentedCode (counted code_continuation ahead)) _ tt
-        (fills_or (nests_if (container_of options r)) (leaf_of options r ahead) (fills_nests (container_of options r)) fills_leaf))))
+    fills_opens = grind (arith, fills_if, fills_or, fills_metadata, nat_le, fills_nests, fills_leaf)
 
   shown-take : (n : ℕ) (rs : List Row) → n ≤ length (shown rs) → take n (shown rs) ≡ take n rs
   shown-take zero rs l = refl
@@ -186,11 +143,7 @@ module _ (options : Options) where
       go : (z : Bool) → m.lazy ≡ z → filled (length alignments) (take (suc (length more) - 1) (drop 1 (show_as m.lazy m (shown (more ++ rest))))) ≤ most_filled → suc (length more) ≤ length (show_as m.lazy m (shown (more ++ rest)))
           → filled (length alignments) more ≤ 262144
       go true e g k = absurd (let n : suc (length more) ≤ 0 = subst (λ z. suc (length more) ≤ length (show_as z m (shown (more ++ rest)))) e k in omega (arith, n))
-      go false e g k =
-          let n : suc (length more) ≤ suc (length (shown (more ++ rest))) = subst (λ z. suc (length more) ≤ length (show_as z m (shown (more ++ rest)))) e k in
-          subst (λ xs. filled (length alignments) xs ≤ most_filled) (shown-take (length more) (more ++ rest) (omega (arith, n)) ∙ take-front more rest)
-          (subst (λ k. filled (length alignments) (take k (shown (more ++ rest))) ≤ most_filled) (one_less (length more))
-          (subst (λ z. filled (length alignments) (take (suc (length more) - 1) (drop 1 (show_as z m (shown (more ++ rest))))) ≤ most_filled) e g))
+      go false e g k = grind (arith, filled, shown-take, take-front, one_less)
         where
           one_less : (n : ℕ) → suc n - 1 ≡ n
           one_less n = omega arith

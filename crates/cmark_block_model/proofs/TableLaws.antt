@@ -1,6 +1,6 @@
 -- The number of cells of each row is the number of the table's columns.
-use Rattle.std.proofs.Common.{ℕ, zero, suc, ◌+◌, Bool, true, false, ◌==◌, List, [], ◌∷◌, length, drop, take_while, refl, sym, subst, Option, Some, None}
-use Rattle.std.specs.Prelude.{if◌then◌else◌, nat_lt}
+use Rattle.std.proofs.Common.{ℕ, zero, suc, ◌+◌, Bool, true, false, List, [], ◌∷◌, length, refl, sym, subst, Option, Some, None, arith, rules}
+use Rattle.std.specs.Prelude.{if◌then◌else◌}
 use Rattle.cmark_grammar.specs.Answers.{Lookup}
 use Rattle.cmark_grammar.specs.Options.{Options}
 use Rattle.cmark_grammar.specs.Rows.{Row, first_place, start_of, last_line_end, begin_of, words_of, without}
@@ -8,13 +8,13 @@ use Rattle.cmark_grammar.specs.Containers.{BlockQuote, Item, Footnote, ListDefin
 use Rattle.cmark_grammar.specs.Openings.{Leaf, AtxHeading as AtxHeadingLeaf, IndentedCode as IndentedCodeLeaf, FencedCode as FencedCodeLeaf, HtmlBlock as HtmlBlockLeaf, MetadataBlock as MetadataBlockLeaf, Table as TableLeaf}
 use Rattle.cmark_grammar.specs.Blocks.{Blocks, Nil as NoBlocks, BlankLine, Paragraph as ParagraphBlock, SetextHeading, LeafBlock, ContainerBlock}
 use Rattle.cmark_grammar.specs.Lists.{ListBefore, tight_after, goes_on, definition_delimiter, is_title, title_tight_after}
-use Rattle.cmark_grammar.specs.Tokens.{Piece, end_place, piece_if, texts_then, words_end, stretch_then, stretches, paragraph_tokens, html_then, html_tokens, html_kind_of, verbatim_line, after_hashes, heading_columns, code_pieces, fenced_lines, lines_before}
-use Rattle.cmark_grammar.specs.SetextAttributes.{content_of, ends_in_braces, attributes_place, texts_before, texts_if, without_braces, setext_tokens}
-use Rattle.cmark_grammar.specs.BlockDocument.{Text, OwnedText, BlockList, ListItem, DefinitionList, DefinitionListTitle, DefinitionListDefinition, BlockKind, BlockNode, BlockDocument, Nil, Node, node}
+use Rattle.cmark_grammar.specs.Tokens.{Piece, end_place, piece_if, texts_then, words_end, stretch_then, stretches, paragraph_tokens, html_then, html_tokens, verbatim_line, after_hashes, heading_columns, code_pieces, fenced_lines, lines_before}
+use Rattle.cmark_grammar.specs.SetextAttributes.{content_of, texts_before, without_braces, setext_tokens}
+use Rattle.cmark_grammar.specs.BlockDocument.{ListItem, DefinitionList, DefinitionListTitle, DefinitionListDefinition, BlockKind, BlockNode, BlockDocument, Nil, Node, node}
 use Rattle.cmark_grammar.specs.Derivation.{task_then, leaf_then, item_then, list_kind, paragraph_kind, document_of, Derives}
 use Rattle.cmark_block_model.specs.TableShape.{AreCells, AreRows, IsRectangular, HasRectangularTables}
 use Rattle.cmark_grammar.specs.Metadata.{ends_metadata}
-use Rattle.cmark_grammar.specs.Columns.{Column, is_blank_byte, drop_end}
+use Rattle.cmark_grammar.specs.Columns.{Column}
 use Rattle.cmark_grammar.specs.TableRows.{cells_start, cells_of}
 use Rattle.cmark_grammar.specs.TableTokens.{cells_then, row_cells, row_tokens}
 use Rattle.cmark_grammar.specs.TaskItems.{after_box}
@@ -35,39 +35,21 @@ rows-counted text columns (r ∷ rs) = (refl, row-counted text columns r, rows-c
 -- leaves contain no table
 texts-rectangular : (ps : List Piece) (after : BlockDocument) → HasRectangularTables after → HasRectangularTables (texts_then ps after)
 texts-rectangular [] after h = h
-texts-rectangular (p ∷ ps) after h = (of_piece p.owned, tt, texts-rectangular ps after h)
-  where
-    of_piece : (z : Bool) → IsRectangular (if z then OwnedText p.bytes else Text p.bytes) Nil
-    of_piece true = tt
-    of_piece false = tt
+texts-rectangular (p ∷ ps) after h = grind (arith, texts-rectangular ps after h)
 
 stretch-rectangular : (text : List ℕ) (start end : ℕ) (after : BlockDocument) → HasRectangularTables after → HasRectangularTables (stretch_then text start end after)
 stretch-rectangular text start end after h = texts-rectangular (piece_if text start end []) after h
 
 stretches-rectangular : (text : List ℕ) (begin : ℕ) (r : Row) (more : List Row) → HasRectangularTables (stretches text begin r more)
 stretches-rectangular text begin r [] = stretch-rectangular text begin (words_end r) Nil tt
-stretches-rectangular text begin r (s ∷ more) = go (begin_of s == r.line_end) (stretches-rectangular text begin s more) (stretches-rectangular text (begin_of s) s more)
-  where
-    go : (z : Bool) → HasRectangularTables (stretches text begin s more) → HasRectangularTables (stretches text (begin_of s) s more)
-        → HasRectangularTables (if z then stretches text begin s more else stretch_then text begin r.line_end (stretches text (begin_of s) s more))
-    go true p q = p
-    go false p q = stretch-rectangular text begin r.line_end (stretches text (begin_of s) s more) q
+stretches-rectangular text begin r (s ∷ more) = search (rules, stretch-rectangular, stretches-rectangular text begin s more, stretches-rectangular text (begin_of s) s more)
 
 before-rectangular : (text : List ℕ) (at : ℕ) (d : BlockDocument) → HasRectangularTables d → HasRectangularTables (texts_before text at d)
 before-rectangular text at Nil h = tt
-before-rectangular text at (Node n inside after) h = go (nat_lt n.end at) (before-rectangular text at after h.2)
-  where
-    go : (z : Bool) → HasRectangularTables (texts_before text at after) → HasRectangularTables (if z then Node n inside (texts_before text at after) else stretch_then text n.start at Nil)
-    go true ih = (h.0, h.1, ih)
-    go false ih = stretch-rectangular text n.start at Nil tt
+before-rectangular text at (Node n inside after) h = grind (arith, stretch-rectangular, before-rectangular text at after h.2)
 
 braces-rectangular : (text : List ℕ) (attributes : Bool) (cs : List Column) (d : BlockDocument) → HasRectangularTables d → HasRectangularTables (without_braces text attributes cs d)
-braces-rectangular text false cs d h = h
-braces-rectangular text true cs d h = go (ends_in_braces cs)
-  where
-    go : (z : Bool) → HasRectangularTables (texts_if z text (attributes_place cs) d)
-    go true = before-rectangular text (attributes_place cs) d h
-    go false = h
+braces-rectangular text attributes cs d h = grind (arith, before-rectangular)
 
 setext-rectangular : (text : List ℕ) (attributes : Bool) (first : Row) (more : List Row) → HasRectangularTables (setext_tokens text attributes first more)
 setext-rectangular text attributes first more =
@@ -75,11 +57,7 @@ setext-rectangular text attributes first more =
 
 html-then-rectangular : (ps : List Piece) (after : BlockDocument) → HasRectangularTables after → HasRectangularTables (html_then ps after)
 html-then-rectangular [] after h = h
-html-then-rectangular (p ∷ ps) after h = (of_piece p.owned p.bytes p.start p.end, tt, html-then-rectangular ps after h)
-  where
-    of_piece : (owned : Bool) (bytes : List ℕ) (start end : ℕ) → IsRectangular (html_kind_of (record { owned = owned; bytes = bytes; start = start; end = end })) Nil
-    of_piece true bytes start end = tt
-    of_piece false bytes start end = tt
+html-then-rectangular (p ∷ ps) after h = grind (arith, html-then-rectangular ps after h)
 
 html-rectangular : (text : List ℕ) (rs : List Row) → HasRectangularTables (html_tokens text rs)
 html-rectangular text [] = tt
@@ -88,11 +66,7 @@ html-rectangular text (r ∷ rs) = html-then-rectangular (verbatim_line text r.c
 cells-rectangular : (text : List ℕ) (columns at line_end : ℕ) (cells : List (List ℕ)) → HasRectangularTables (cells_then text columns at line_end cells)
 cells-rectangular text zero at line_end cells = tt
 cells-rectangular text (suc columns) at line_end [] = (tt, tt, cells-rectangular text columns at line_end [])
-cells-rectangular text (suc columns) at line_end (cell ∷ cells) = (
-  tt,
-  stretch-rectangular text (at + length (take_while is_blank_byte cell)) (at + length (drop_end is_blank_byte cell)) Nil tt,
-  cells-rectangular text columns (suc (at + length cell)) line_end cells,
-)
+cells-rectangular text (suc columns) at line_end (cell ∷ cells) = search (rules, stretch-rectangular, cells-rectangular text columns (suc (at + length cell)) line_end cells)
 
 row-rectangular : (text : List ℕ) (columns : ℕ) (r : Row) → HasRectangularTables (row_cells text columns r)
 row-rectangular text columns r = cells-rectangular text columns (cells_start r) r.line_end (cells_of (words_of r))
@@ -108,11 +82,7 @@ leaf-rectangular text options lookup IndentedCodeLeaf first more after h = (tt, 
 leaf-rectangular text options lookup (FencedCodeLeaf fence) first more after h = (tt, texts-rectangular (code_pieces text fence.indented (fenced_lines fence more)) Nil tt, h)
 leaf-rectangular text options lookup (HtmlBlockLeaf kind) first more after h = (tt, html-rectangular text (first ∷ more), h)
 leaf-rectangular text options lookup (MetadataBlockLeaf kind) first more after h = (tt, texts-rectangular (code_pieces text 0 (lines_before (ends_metadata kind) more)) Nil tt, h)
-leaf-rectangular text options lookup (TableLeaf alignments) first more after h = (
-  (refl, row-counted text (length alignments) first, rows-counted text (length alignments) (drop 1 more)),
-  (tt, row-rectangular text (length alignments) first, rows-rectangular text (length alignments) (drop 1 more)),
-  h,
-)
+leaf-rectangular text options lookup (TableLeaf alignments) first more after h = grind (arith, row-counted, rows-counted, row-rectangular, rows-rectangular)
 leaf-rectangular text options lookup _ first more after h = (tt, tt, h)
 
 task-rectangular : (task : Option Bool) (start end : ℕ) (inside : BlockDocument) → HasRectangularTables inside → HasRectangularTables (task_then task start end inside)
@@ -120,16 +90,10 @@ task-rectangular None start end inside h = h
 task-rectangular (Some is_checked) start end inside h = (tt, tt, h)
 
 list-rectangular : (delimiter : ℕ) (number : Option ℕ) (tight : Bool) (inside : BlockDocument) → IsRectangular (list_kind delimiter number tight) inside
-list-rectangular delimiter number tight inside = go (delimiter == definition_delimiter)
-  where
-    go : (z : Bool) → IsRectangular (if z then DefinitionList tight else BlockList number tight) inside
-    go true = tt
-    go false = tt
+list-rectangular delimiter number tight inside = grind arith
 
 item-rectangular : (joins : Bool) (list : BlockKind) (item : BlockNode) (inside after : BlockDocument) → ((items : BlockDocument) → IsRectangular list items) → IsRectangular item.kind inside → HasRectangularTables inside → HasRectangularTables after → HasRectangularTables (item_then joins list item inside after)
-item-rectangular false list item inside after l k i a = (l _, (k, i, tt), a)
-item-rectangular true list item inside Nil l k i a = (l _, (k, i, tt), tt)
-item-rectangular true list item inside (Node others items after) l k i a = (l _, (k, i, a.1), a.2)
+item-rectangular joins list item inside after l k i a = grind arith
 
 -- a paragraph, as a title or as itself
 title-rectangular : (is_title tight : Bool) (other : BlockKind) (start end : ℕ) (inside after following : BlockDocument) → IsRectangular other inside → HasRectangularTables inside → HasRectangularTables after → HasRectangularTables following

@@ -1,40 +1,29 @@
 -- The places of table cells, and the number of their nodes.
-use Rattle.std.proofs.Common.{◌≡◌, ℕ, zero, suc, ◌+◌, ◌-◌, ◌*◌, ◌≤◌, ◌<◌, Bool, true, false, ◌==◌, ◌&&◌, not, List, [], ◌∷◌, length, take_while, refl, sym, ap, ◌∙◌, subst, arith}
+use Rattle.std.proofs.Common.{◌≡◌, ℕ, zero, suc, ◌+◌, ◌-◌, ◌*◌, ◌≤◌, ◌<◌, Bool, true, false, ◌==◌, ◌&&◌, not, List, [], ◌∷◌, length, take_while, refl, sym, subst, arith, rules}
 use Rattle.std.specs.Prelude.{if◌then◌else◌, cond, nat_lt}
 use Rattle.std.proofs.lemmas.List.Sums.{take_while-cons}
 use Rattle.cmark_grammar.specs.Characters.{backslash, pipe}
 use Rattle.cmark_grammar.specs.Lines.{onto}
 use Rattle.cmark_grammar.specs.Columns.{Column, is_blank_byte, indent, without_indent, drop_end, put_before, bytes_of}
-use Rattle.cmark_grammar.specs.Leaves.{are_blank}
 use Rattle.cmark_grammar.specs.Rows.{Row, words_of, start_of, begin_of}
-use Rattle.cmark_grammar.specs.BlockDocument.{Nil}
 use Rattle.cmark_block_model.specs.Ranges.{InOrder, AllAt, count_nodes}
 use Rattle.cmark_grammar.specs.TableRows.{parts, without_blank_end, cells_of, cells_start, count_missing}
 use Rattle.cmark_grammar.specs.Tables.{without_first_pipe}
 use Rattle.cmark_grammar.specs.TableTokens.{cell_tokens, cells_then, row_cells, row_tokens}
-use Rattle.cmark_grammar.specs.Tokens.{slice, Piece, texts_then}
+use Rattle.cmark_grammar.specs.Tokens.{slice, Piece}
 use Rattle.cmark_block_model.proofs.RowPlaces.{Runs, drop-Runs, Lies, start-Runs, Along}
 use Rattle.cmark_block_model.proofs.RowEdges.{is-ascii, blank-ascii, AreGood, drop-good, GoodRow, start-E, GoodRows}
 
 -- consecutive columns have a byte for each place
 pub bytes-places : (from : ℕ) (cs : List Column) (to : ℕ) → Runs from cs to → from + length (bytes_of cs) ≡ to
 bytes-places from [] to h = let e : from ≡ to = h in omega (arith, e)
-bytes-places from (c ∷ cs) to h = go (c.part == 0) refl (bytes-places (suc c.at) cs to h.1)
-  where
-    go : (z : Bool) → (c.part == 0) ≡ z → suc c.at + length (bytes_of cs) ≡ to → from + length (if z then c.byte ∷ bytes_of cs else bytes_of cs) ≡ to
-    go true e ih = let p : c.at ≡ from = sym (ap (λ b. if b then c.at else suc c.at) e) ∙ h.0 in omega (arith, p, ih)
-    go false e ih = let p : suc c.at ≡ from = sym (ap (λ b. if b then c.at else suc c.at) e) ∙ h.0 in omega (arith, p, ih)
+bytes-places from (c ∷ cs) to h = search (rules, bytes-places (suc c.at) cs to h.1)
 
 pub words-places : (from : ℕ) (r : Row) → Lies from r → start_of r + length (words_of r) ≡ r.content_end
 words-places from r h = bytes-places (start_of r) (without_indent r.columns) r.content_end (start-Runs from r h)
 
 pub first-less : (bs : List ℕ) → length (without_first_pipe bs) ≤ length bs
-first-less [] = omega arith
-first-less (b ∷ bs) = go (b == pipe)
-  where
-    go : (z : Bool) → length (if z then bs else b ∷ bs) ≤ suc (length bs)
-    go true = omega arith
-    go false = omega arith
+first-less bs = grind arith
 
 -- the cells go up to the line's ending
 start-words : (r : Row) → cells_start r + length (without_first_pipe (words_of r)) ≡ start_of r + length (words_of r)
@@ -42,12 +31,7 @@ start-words r = let l = first-less (words_of r) in omega (arith, l)
 
 pub drop_end-less : (p : ℕ → Bool) (bs : List ℕ) → length (drop_end p bs) ≤ length bs
 drop_end-less p [] = omega arith
-drop_end-less p (b ∷ bs) = go (drop_end p bs) (p b) (drop_end-less p bs)
-  where
-    go : (xs : List ℕ) (z : Bool) → length xs ≤ length bs → length (put_before z b xs) ≤ suc (length bs)
-    go [] true le = omega arith
-    go [] false le = omega arith
-    go (x ∷ xs) z le = omega (arith, le)
+drop_end-less p (b ∷ bs) = grind (arith, drop_end-less p bs)
 
 -- ## Order
 
@@ -59,20 +43,7 @@ less : (a b : ℕ) → nat_lt a b ≡ true → a < b
 less a b e = grind (arith)
 
 cell-order : (text : List ℕ) (at : ℕ) (cell : List ℕ) → InOrder at (cell_tokens text at cell) (at + length cell)
-cell-order text at cell = go (nat_lt start end) refl
-  where
-    start : ℕ
-    start = at + length (take_while is_blank_byte cell)
-
-    end : ℕ
-    end = at + length (drop_end is_blank_byte cell)
-
-    low : end ≤ at + length cell
-    low = let l = drop_end-less is_blank_byte cell in omega (arith, l)
-
-    go : (z : Bool) → nat_lt start end ≡ z → InOrder at (texts_then (if z then piece text start end ∷ [] else []) Nil) (at + length cell)
-    go true e = let l : start < end = less start end e in (omega arith, omega (arith, l), low)
-    go false e = omega arith
+cell-order text at cell = grind (arith, drop_end-less, less)
 
 -- these cells are in order before a place
 abbrev Fit : (from at line_end : ℕ) → List (List ℕ) → Type 0
@@ -84,10 +55,7 @@ fit-le from at line_end [] f = f
 fit-le from at line_end (cell ∷ cells) f = let a : from ≤ at = f.0 in let b : at + length cell ≤ line_end = f.1 in omega (arith, a, b)
 
 fit-onto : (from at line_end b : ℕ) (ps : List (List ℕ)) → from ≤ at → suc at ≤ line_end → Fit (suc at) (suc at) line_end ps → Fit from at line_end (onto b ps)
-fit-onto from at line_end b [] le lt f = (le, omega (arith, lt), omega (arith, lt))
-fit-onto from at line_end b (p ∷ ps) le lt f =
-    let e : suc at + length p ≡ at + length (b ∷ p) = omega arith in
-    (le, subst (λ n. n ≤ line_end) e f.1, subst (λ n. Fit n (suc n) line_end ps) e f.2)
+fit-onto from at line_end b ps le lt f = grind arith
 
 parts-fit : (escaped : Bool) (from at : ℕ) (bs : List ℕ) (line_end : ℕ) → from ≤ at → at + length bs ≤ line_end → Fit from at line_end (parts escaped bs)
 parts-fit escaped from at [] line_end le lt = (le, lt, lt)
@@ -95,18 +63,11 @@ parts-fit escaped from at (b ∷ bs) line_end le lt =
     go ((b == pipe) && not escaped) (parts-fit false at (suc at) bs line_end (omega arith) (omega (arith, lt))) (parts-fit (b == backslash) (suc at) (suc at) bs line_end (omega arith) (omega (arith, lt)))
   where
     go : (z : Bool) → Fit at (suc at) line_end (parts false bs) → Fit (suc at) (suc at) line_end (parts (b == backslash) bs) → Fit from at line_end (if z then [] ∷ parts false bs else onto b (parts (b == backslash) bs))
-    go true f g =
-        let e : at ≡ at + length {A = ℕ} [] = omega arith in
-        (le, omega (arith, lt), subst (λ n. Fit n (suc n) line_end (parts false bs)) e f)
-    go false f g = fit-onto from at line_end b (parts (b == backslash) bs) le (omega (arith, lt)) g
+    go z f g = grind (arith, fit-onto)
 
 end-fit : (from at line_end : ℕ) (cells : List (List ℕ)) → Fit from at line_end cells → Fit from at line_end (without_blank_end cells)
 end-fit from at line_end [] f = f
-end-fit from at line_end (cell ∷ []) f = go (are_blank cell)
-  where
-    go : (z : Bool) → Fit from at line_end (if z then [] else cell ∷ [])
-    go true = fit-le from at line_end (cell ∷ []) f
-    go false = f
+end-fit from at line_end (cell ∷ []) f = grind (arith, fit-le)
 end-fit from at line_end (cell ∷ (next ∷ more)) f = (f.0, f.1, end-fit (at + length cell) (suc (at + length cell)) line_end (next ∷ more) f.2)
 
 cells-order : (text : List ℕ) (columns from at line_end : ℕ) (cells : List (List ℕ)) → Fit from at line_end cells → InOrder from (cells_then text columns at line_end cells) line_end
@@ -137,23 +98,14 @@ module _ (E : ℕ → Type 0) where
 
   uncut-bytes : (from : ℕ) (cs : List Column) (to : ℕ) → Runs from cs to → AreGood E cs → Uncut from (bytes_of cs)
   uncut-bytes from [] to h g = tt
-  uncut-bytes from (c ∷ cs) to h g = go (c.part == 0) refl (uncut-bytes (suc c.at) cs to h.1 g.1)
-    where
-      go : (z : Bool) → (c.part == 0) ≡ z → Uncut (suc c.at) (bytes_of cs) → Uncut from (if z then c.byte ∷ bytes_of cs else bytes_of cs)
-      go true e ih =
-          let p : c.at ≡ from = sym (ap (λ b. if b then c.at else suc c.at) e) ∙ h.0 in
-          ((λ lt. (subst E p (g.0.1 lt).0, subst E (ap suc p) (g.0.1 lt).1)), subst (λ n. Uncut n (bytes_of cs)) (ap suc p) ih)
-      go false e ih = let p : suc c.at ≡ from = sym (ap (λ b. if b then c.at else suc c.at) e) ∙ h.0 in subst (λ n. Uncut n (bytes_of cs)) p ih
+  uncut-bytes from (c ∷ cs) to h g = search (rules, uncut-bytes (suc c.at) cs to h.1 g.1)
 
   past-blanks : (at : ℕ) (bs : List ℕ) → E at → Uncut at bs → E (at + length (take_while is_blank_byte bs))
   past-blanks at [] e u = subst E (let z : at ≡ at + 0 = omega arith in z) e
   past-blanks at (b ∷ bs) e u = subst (λ l. E (at + length l)) (sym (take_while-cons is_blank_byte b bs)) (go (is_blank_byte b) refl (λ w. past-blanks (suc at) bs w u.1))
     where
       go : (z : Bool) → is_blank_byte b ≡ z → (E (suc at) → E (suc at + length (take_while is_blank_byte bs))) → E (at + length (cond z (b ∷ take_while is_blank_byte bs) []))
-      go true f ih =
-          let n = length (take_while is_blank_byte bs) in
-          subst E (let z : suc at + n ≡ at + suc n = omega arith in z) (ih (u.0 (blank-ascii b f)).1)
-      go false f ih = subst E (let z : at ≡ at + 0 = omega arith in z) e
+      go z f ih = grind (arith, blank-ascii)
 
   before-blanks : (at : ℕ) (bs : List ℕ) → E (at + length bs) → Uncut at bs → E (at + length (drop_end is_blank_byte bs))
   before-blanks at [] e u = e
@@ -161,16 +113,10 @@ module _ (E : ℕ → Type 0) where
       go (drop_end is_blank_byte bs) (is_blank_byte b) refl (before-blanks (suc at) bs (subst E (let z : at + suc (length bs) ≡ suc at + length bs = omega arith in z) e) u.1)
     where
       go : (xs : List ℕ) (z : Bool) → is_blank_byte b ≡ z → E (suc at + length xs) → E (at + length (put_before z b xs))
-      go [] true f h = subst E (let z : at ≡ at + 0 = omega arith in z) (u.0 (blank-ascii b f)).0
-      go [] false f h = subst E (let z : suc at + 0 ≡ at + 1 = omega arith in z) h
-      go (x ∷ xs) z f h = subst E (let z : suc at + suc (length xs) ≡ at + suc (suc (length xs)) = omega arith in z) h
+      go xs z f h = grind (arith, blank-ascii)
 
   cell-edged : (text : List ℕ) (at : ℕ) (cell : List ℕ) → E at → E (at + length cell) → Uncut at cell → AllAt E (cell_tokens text at cell)
-  cell-edged text at cell e f u = go (nat_lt (at + length (take_while is_blank_byte cell)) (at + length (drop_end is_blank_byte cell)))
-    where
-      go : (z : Bool) → AllAt E (texts_then (if z then piece text (at + length (take_while is_blank_byte cell)) (at + length (drop_end is_blank_byte cell)) ∷ [] else []) Nil)
-      go true = (past-blanks at cell e u, before-blanks at cell f u, tt, tt)
-      go false = tt
+  cell-edged text at cell e f u = grind (arith, past-blanks, before-blanks)
 
   -- these cells begin at a place
   abbrev Stand : (at : ℕ) → List (List ℕ) → Type 0
@@ -197,37 +143,18 @@ module _ (E : ℕ → Type 0) where
       (parts-stand (b == backslash) (suc at) bs (subst E (let z : at + suc (length bs) ≡ suc at + length bs = omega arith in z) e) u.1)
     where
       joined : (ps : List (List ℕ)) → StandAfter (suc at) ps → (ps ≡ [] → ⊥) → StandAfter at (onto b ps)
-      joined [] s some = absurd (some refl)
-      joined (p ∷ ps) s some =
-          let z : suc at + length p ≡ at + suc (length p) = omega arith in
-          ((u.0, s.0), subst E z s.1, subst (λ n. Stand (suc n) ps) z s.2)
+      joined ps s some = grind arith
 
       some_parts : (x : Bool) (ys : List ℕ) → parts x ys ≡ [] → ⊥
       some_parts x [] f = cc
-      some_parts x (y ∷ ys) f = by ((y == pipe) && not x) f
-        where
-          some_onto : (ps : List (List ℕ)) → onto y ps ≡ [] → ⊥
-          some_onto [] g = cc
-          some_onto (p ∷ ps) g = cc
-
-          by : (z : Bool) → (if z then [] ∷ parts false ys else onto y (parts (y == backslash) ys)) ≡ [] → ⊥
-          by true g = cc
-          by false g = some_onto (parts (y == backslash) ys) g
+      some_parts x (y ∷ ys) f = grind arith
 
       go : (z : Bool) → ((b == pipe) && not escaped) ≡ z → StandAfter (suc at) (parts false bs) → StandAfter (suc at) (parts (b == backslash) bs) → StandAfter at (if z then [] ∷ parts false bs else onto b (parts (b == backslash) bs))
-      go true f g h =
-          let w = u.0 (is-ascii b pipe (omega arith) (and-first (b == pipe) (not escaped) f)) in
-          let z : at ≡ at + 0 = omega arith in
-          (tt, subst E z w.0, subst (λ n. Stand (suc n) (parts false bs)) z (stand-from (suc at) (parts false bs) w.1 g))
-      go false f g h = joined (parts (b == backslash) bs) h (some_parts (b == backslash) bs)
+      go z f g h = grind (arith, is-ascii, and-first, stand-from, joined, some_parts)
 
   end-stand : (at : ℕ) (cells : List (List ℕ)) → Stand at cells → Stand at (without_blank_end cells)
   end-stand at [] s = tt
-  end-stand at (cell ∷ []) s = go (are_blank cell)
-    where
-      go : (z : Bool) → Stand at (if z then [] else cell ∷ [])
-      go true = tt
-      go false = s
+  end-stand at (cell ∷ []) s = grind arith
   end-stand at (cell ∷ (next ∷ more)) s = (s.0, s.1, s.2, end-stand (suc (at + length cell)) (next ∷ more) s.3)
 
   cells-edged : (text : List ℕ) (columns at line_end : ℕ) (cells : List (List ℕ)) → E line_end → Stand at cells → AllAt E (cells_then text columns at line_end cells)
@@ -275,11 +202,7 @@ spread-onto b (p ∷ ps) some = omega arith
 
 parts-spread : (escaped : Bool) (bs : List ℕ) → spread (parts escaped bs) ≡ suc (length bs)
 parts-spread escaped [] = omega arith
-parts-spread escaped (b ∷ bs) = go ((b == pipe) && not escaped) (parts-spread false bs) (parts-spread (b == backslash) bs)
-  where
-    go : (z : Bool) → spread (parts false bs) ≡ suc (length bs) → spread (parts (b == backslash) bs) ≡ suc (length bs) → spread (if z then [] ∷ parts false bs else onto b (parts (b == backslash) bs)) ≡ suc (suc (length bs))
-    go true d e = omega (arith, d)
-    go false d e = let o = spread-onto b (parts (b == backslash) bs) (omega (arith, e)) in omega (arith, o, e)
+parts-spread escaped (b ∷ bs) = search (rules, spread-onto, parts-spread false bs, parts-spread (b == backslash) bs)
 
 -- two nodes for a cell that is not empty, and one for another
 abbrev weight_of : List ℕ → ℕ
@@ -297,45 +220,20 @@ weight_of-less (b ∷ bs) = omega arith
 end-weight : (cells : List (List ℕ)) → 0 < spread cells → weight (without_blank_end cells) + 2 ≤ 2 * spread cells
 end-weight [] some = absurd (omega (arith, some))
 end-weight ([] ∷ []) some = omega arith
-end-weight ((b ∷ bs) ∷ []) some = go (are_blank (b ∷ bs))
-  where
-    go : (z : Bool) → weight (if z then [] else (b ∷ bs) ∷ []) + 2 ≤ 2 * suc (suc (length bs) + 0)
-    go true = omega arith
-    go false = omega arith
-end-weight (cell ∷ (next ∷ more)) some =
-    let ih = end-weight (next ∷ more) (omega arith) in
-    let w = weight_of-less cell in
-    omega (arith, ih, w)
+end-weight ((b ∷ bs) ∷ []) some = grind arith
+end-weight (cell ∷ (next ∷ more)) some = search (rules, weight_of-less, end-weight (next ∷ more) (omega arith))
 
 cell-count : (text : List ℕ) (at : ℕ) (cell : List ℕ) → suc (count_nodes (cell_tokens text at cell)) ≤ weight_of cell
-cell-count text at [] = go (nat_lt (at + 0) (at + 0)) refl
-  where
-    go : (z : Bool) → nat_lt (at + 0) (at + 0) ≡ z → suc (count_nodes (texts_then (if z then piece text (at + 0) (at + 0) ∷ [] else []) Nil)) ≤ 1
-    go true e = let l : at + 0 < at + 0 = less (at + 0) (at + 0) e in absurd (omega (arith, l))
-    go false e = omega arith
-cell-count text at (b ∷ bs) = go (nat_lt (at + length (take_while is_blank_byte (b ∷ bs))) (at + length (drop_end is_blank_byte (b ∷ bs))))
-  where
-    go : (z : Bool) → suc (count_nodes (texts_then (if z then piece text (at + length (take_while is_blank_byte (b ∷ bs))) (at + length (drop_end is_blank_byte (b ∷ bs))) ∷ [] else []) Nil)) ≤ 2
-    go true = omega arith
-    go false = omega arith
+cell-count text at cell = grind (arith, less)
 
 cells-count : (text : List ℕ) (columns at line_end : ℕ) (cells : List (List ℕ)) → count_nodes (cells_then text columns at line_end cells) ≤ weight cells + (columns - length cells)
 cells-count text zero at line_end cells = omega arith
 cells-count text (suc columns) at line_end [] = let ih = cells-count text columns at line_end [] in omega (arith, ih)
-cells-count text (suc columns) at line_end (cell ∷ cells) =
-    let ih = cells-count text columns (suc (at + length cell)) line_end cells in
-    let c = cell-count text at cell in
-    omega (arith, ih, c)
+cells-count text (suc columns) at line_end (cell ∷ cells) = search (rules, cell-count, cells-count text columns (suc (at + length cell)) line_end cells)
 
 -- the cells of a row: two nodes a byte of its words, and those that are filled in
 pub row_cells-count : (text : List ℕ) (columns : ℕ) (r : Row) → count_nodes (row_cells text columns r) ≤ 2 * length (words_of r) + count_missing columns r
-row_cells-count text columns r =
-    let bs = without_first_pipe (words_of r) in
-    let c = cells-count text columns (cells_start r) r.line_end (cells_of (words_of r)) in
-    let s = parts-spread false bs in
-    let w = end-weight (parts false bs) (omega (arith, s)) in
-    let l = first-less (words_of r) in
-    omega (arith, c, s, w, l)
+row_cells-count text columns r = grind (arith, cells-count, parts-spread, end-weight, first-less)
 
 abbrev pub filled : (columns : ℕ) → List Row → ℕ
 filled columns [] = 0

@@ -1,9 +1,9 @@
 -- A task marker is ASCII.
-use Rattle.std.proofs.Common.{◌≡◌, ℕ, zero, suc, Bool, true, false, ◌||◌, List, [], ◌∷◌, length, drop, take, refl, sym, subst, arith, Some, None}
+use Rattle.std.proofs.Common.{◌≡◌, ℕ, zero, suc, Bool, true, false, ◌||◌, List, [], ◌∷◌, length, take, refl, sym, subst, arith, Some, None, rules}
 use Rattle.std.specs.Prelude.{if◌then◌else◌, codes}
 use Rattle.std.proofs.lemmas.Slice.Eq.{bytes_eq-Decides}
 use Rattle.cmark_grammar.specs.HtmlBlocks.{starts}
-use Rattle.cmark_grammar.specs.TaskMarkers.{box_of, is_parted_text, task_of}
+use Rattle.cmark_grammar.specs.TaskMarkers.{box_of, task_of}
 use Rattle.cmark_block_model.proofs.Fronts.{Front, IsAsciiByte}
 
 -- ASCII bytes among the first bytes are ASCII bytes of the whole
@@ -26,8 +26,4 @@ box-front bs is_checked e = go (starts (codes "[ ]") bs) (starts (codes "[x]") b
     go false false false ex ey ez q = absurd (let p : None ≡ Some is_checked = q in cc)
 
 pub task-front : (bs : List ℕ) (is_checked : Bool) → task_of bs ≡ Some is_checked → Front IsAsciiByte 3 bs
-task-front bs is_checked e = go (is_parted_text (drop 3 bs)) e
-  where
-    go : (z : Bool) → (if z then box_of bs else None) ≡ Some is_checked → Front IsAsciiByte 3 bs
-    go true q = box-front bs is_checked q
-    go false q = absurd (let p : None ≡ Some is_checked = q in cc)
+task-front bs is_checked e = search (rules, box-front)

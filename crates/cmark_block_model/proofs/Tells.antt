@@ -1,17 +1,14 @@
 -- The properties of a line, by the block that it begins.
-use Rattle.std.proofs.Common.{◌≡◌, ℕ, Bool, true, false, List, length, refl, Option, Some, None}
+use Rattle.std.proofs.Common.{◌≡◌, ℕ, Bool, true, false, List, refl, Option, Some, None, arith, rules}
 use Rattle.std.specs.Prelude.{if◌then◌else◌, nat_le}
 use Rattle.cmark_grammar.specs.Options.{Options}
-use Rattle.cmark_grammar.specs.Rows.{Row, words_of, is_blank_line, indent_of}
-use Rattle.cmark_grammar.specs.Leaves.{Fence, counted, is_thematic_break, is_atx_heading, run, fence_of, code_continuation}
-use Rattle.cmark_grammar.specs.Footnotes.{footnotes_in}
-use Rattle.cmark_grammar.specs.HtmlBlocks.{html_kind}
-use Rattle.cmark_grammar.specs.LinkDefinitions.{Defined, definition_in, bytes_over}
+use Rattle.cmark_grammar.specs.Rows.{Row, is_blank_line, indent_of}
+use Rattle.cmark_grammar.specs.Leaves.{Fence, counted, code_continuation}
+use Rattle.cmark_grammar.specs.LinkDefinitions.{Defined}
 use Rattle.cmark_grammar.specs.Containers.{Container, container_of}
-use Rattle.cmark_grammar.specs.Openings.{ThematicBreak, AtxHeading, IndentedCode, FencedCode, HtmlBlock, LinkDefinition, Opening, Blank, Nests, Takes, Plain, or_else, nests_if, fenced_if, html_if, break_if, heading_if, text_lines, defined_if, definition_of, leaf_of, opens, opens_at, MetadataBlock, metadata_begun, whole_opens, table_if, text_of, Table, begins_no_link}
+use Rattle.cmark_grammar.specs.Openings.{ThematicBreak, AtxHeading, IndentedCode, FencedCode, HtmlBlock, LinkDefinition, Opening, Blank, Nests, Takes, Plain, or_else, nests_if, fenced_if, html_if, break_if, heading_if, defined_if, leaf_of, opens, opens_at, MetadataBlock, metadata_begun, whole_opens, table_if, text_of, Table}
 use Rattle.cmark_grammar.specs.Alignment.{Alignment}
-use Rattle.cmark_grammar.specs.TableRows.{table_head}
-use Rattle.cmark_grammar.specs.Metadata.{metadata_kind, metadata_continuation, holds_metadata}
+use Rattle.cmark_grammar.specs.Metadata.{metadata_kind}
 use Rattle.cmark_grammar.specs.MetadataBlockKind.{MetadataBlockKind}
 use Rattle.cmark_grammar.specs.Places.{Place}
 use Rattle.cmark_block_model.proofs.BlockLaws.{at-either}
@@ -64,12 +61,7 @@ tells-unless r true o t = tt
 tells-unless r false o t = t
 
 tells-metadata : (r : Row) (o : Option MetadataBlockKind) (ahead : List Row) → Tells r (metadata_begun o ahead)
-tells-metadata r None ahead = tt
-tells-metadata r (Some kind) ahead = go (holds_metadata kind ahead)
-  where
-    go : (z : Bool) → Tells r (if z then Takes (MetadataBlock kind) (counted (metadata_continuation kind) ahead) else Plain)
-    go true = tt
-    go false = tt
+tells-metadata r o ahead = grind arith
 
 module _ (options : Options) where
   tells-table : (r : Row) (ahead : List Row) (o : Option (List Alignment)) → Tells r (table_if options o ahead)
@@ -77,18 +69,10 @@ module _ (options : Options) where
   tells-table r ahead None = tt
 
   tells-text : (r : Row) (ahead : List Row) → Tells r (text_of options r ahead)
-  tells-text r ahead =
-      tells-or r (definition_of options r ahead) (table_if options (table_head options r ahead) ahead)
-      (tells-unless r (begins_no_link (footnotes_in options) (words_of r)) _
-      (tells-defined r (length (text_lines options ahead)) (definition_in (bytes_over r (text_lines options ahead))))) (tells-table r ahead (table_head options r ahead))
+  tells-text r ahead = search (rules, tells-or, tells-unless, tells-defined, tells-table)
 
   tells-leaf : (r : Row) (ahead : List Row) → Tells r (leaf_of options r ahead)
-  tells-leaf r ahead =
-      tells-or r (html_if r ahead (html_kind (words_of r))) _ (tells-html r ahead (html_kind (words_of r)))
-      (tells-or r (break_if (is_thematic_break (words_of r))) _ (tells-break r (is_thematic_break (words_of r)))
-      (tells-or r (heading_if (is_atx_heading (words_of r)) (run 35 (words_of r))) _ (tells-heading r (is_atx_heading (words_of r)) (run 35 (words_of r)))
-      (tells-or r (fenced_if (fence_of (indent_of r) (words_of r)) ahead) (text_of options r ahead) (tells-fenced r ahead (fence_of (indent_of r) (words_of r)))
-      (tells-text r ahead))))
+  tells-leaf r ahead = search (rules, tells-or, tells-html, tells-break, tells-heading, tells-fenced, tells-text)
 
   pub tells : (r : Row) (ahead : List Row) → Tells r (opens options r ahead)
   unfolding opens
@@ -105,8 +89,4 @@ module _ (options : Options) where
 
   -- so at each place
   pub tells-at : (place : Place) (r : Row) (ahead : List Row) → Tells r (opens_at options place r ahead)
-  tells-at place r ahead = at-either options (Tells r) place r ahead (λ w. text w (is_blank_line r) refl) (λ width d. tt) (tells r ahead)
-    where
-      text : r.lazy ≡ false → (b : Bool) → is_blank_line r ≡ b → Tells r (if b then Blank else Plain)
-      text l true e = (l, e)
-      text l false e = tt
+  tells-at place r ahead = grind (arith, at-either, tells)

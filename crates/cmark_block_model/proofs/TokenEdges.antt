@@ -1,12 +1,12 @@
 -- Where tokens begin and end no character is cut.
-use Rattle.std.proofs.Common.{◌≡◌, ℕ, zero, suc, ◌-◌, ◌≤◌, ◌<◌, Bool, true, false, ◌==◌, ◌&&◌, List, [], ◌∷◌, ◌++◌, drop, refl, sym, subst, arith}
-use Rattle.std.specs.Prelude.{if◌then◌else◌, nat_le, nat_lt}
-use Rattle.cmark_grammar.specs.Attributes.{is_braced, before_braces, closes}
-use Rattle.cmark_grammar.specs.Columns.{Column, indent, without_indent, drop_end, put_before, without_trailing_blanks, is_blank}
+use Rattle.std.proofs.Common.{◌≡◌, ℕ, zero, suc, ◌-◌, ◌≤◌, ◌<◌, Bool, true, false, ◌==◌, ◌&&◌, List, [], ◌∷◌, drop, refl, sym, subst, arith, rules}
+use Rattle.std.specs.Prelude.{if◌then◌else◌, nat_le}
+use Rattle.cmark_grammar.specs.Attributes.{before_braces, closes}
+use Rattle.cmark_grammar.specs.Columns.{Column, indent, without_indent, drop_end, without_trailing_blanks, is_blank}
 use Rattle.cmark_grammar.specs.Rows.{Row, place, first_place, begin_of, start_of, indent_of}
 use Rattle.cmark_grammar.specs.BlockDocument.{BlockDocument, Nil}
 use Rattle.cmark_block_model.specs.Ranges.{AllAt}
-use Rattle.cmark_grammar.specs.Tokens.{slice, Piece, texts_then, line_columns, end_place, words_end, stretch_then, stretches, paragraph_tokens, is_hash, without_closing, without_attributes, heading_columns, heading_tokens, piece_if, plain_line, left_columns, spaces_if, verbatim_line, touches, merge, merge_all, code_columns, code_pieces, code_tokens, stop_at, lines_before, html_then, html_tokens}
+use Rattle.cmark_grammar.specs.Tokens.{Piece, texts_then, line_columns, end_place, words_end, stretch_then, stretches, paragraph_tokens, is_hash, without_closing, without_attributes, heading_columns, heading_tokens, piece_if, plain_line, left_columns, spaces_if, verbatim_line, merge, merge_all, code_columns, code_pieces, code_tokens, lines_before, html_then, html_tokens}
 use Rattle.cmark_block_model.proofs.RowPlaces.{Runs, drop-Runs}
 use Rattle.cmark_block_model.proofs.RowEdges.{Front, front-less, IsAsciiColumn, is-ascii, blank-ascii, indent-front, Good, AreGood, drop-good, drop-E, GoodRow, start-E, GoodRows}
 
@@ -23,20 +23,11 @@ module _ (E : ℕ → Type 0) where
     pub edge : E mid
 
   pub place-edge : (c : Column) → Good E c → c.byte < 128 → E (place c)
-  place-edge c g lt = go (c.part == 0)
-    where
-      go : (z : Bool) → E (if z then c.at else suc c.at)
-      go true = (g.1 lt).0
-      go false = (g.1 lt).1
+  place-edge c g lt = grind arith
 
   drop_end-edge : (p : Column → Bool) → ((c : Column) → p c ≡ true → c.byte < 128) → (from : ℕ) (cs : List Column) (to : ℕ) → Runs from cs to → AreGood E cs → E to → EdgeTo from (drop_end p cs)
   drop_end-edge p ascii from [] to h g et = record { mid = to; runs = h; good = tt; edge = et }
-  drop_end-edge p ascii from (c ∷ cs) to h g et = go (drop_end p cs) (p c) refl (drop_end-edge p ascii (suc c.at) cs to h.1 g.1 et)
-    where
-      go : (ds : List Column) (z : Bool) → p c ≡ z → EdgeTo (suc c.at) ds → EdgeTo from (put_before z c ds)
-      go [] true e u = record { mid = from; runs = refl; good = tt; edge = subst E h.0 (place-edge c g.0 (ascii c e)) }
-      go [] false e u = let q : suc c.at ≡ u.mid = u.runs in record { mid = suc c.at; runs = (h.0, refl); good = (g.0, tt); edge = subst E (sym q) u.edge }
-      go (d ∷ ds) z e u = record { mid = u.mid; runs = (h.0, u.runs); good = (g.0, u.good); edge = u.edge }
+  drop_end-edge p ascii from (c ∷ cs) to h g et = search (rules, place-edge, drop_end-edge p ascii (suc c.at) cs to h.1 g.1 et)
 
   end_place-is : (from : ℕ) (cs : List Column) (to : ℕ) → Runs from cs to → end_place from cs ≡ to
   end_place-is from [] to h = h
@@ -57,11 +48,7 @@ module _ (E : ℕ → Type 0) where
   line-edge r g = drop_end-edge is_blank (λ c e. blank-ascii c.byte e) (start_of r) (without_indent r.columns) r.content_end (start-runs r g) (drop-good E (indent r.columns) r.columns g.good) g.content_end
 
   piece_if-edged : (text : List ℕ) (start end : ℕ) (ps : List Piece) → E start → E end → Edged ps → Edged (piece_if text start end ps)
-  piece_if-edged text start end ps a b h = go (nat_lt start end)
-    where
-      go : (z : Bool) → Edged (if z then record { owned = false; bytes = slice text start end; start = start; end = end } ∷ ps else ps)
-      go true = (a, b, h)
-      go false = h
+  piece_if-edged text start end ps a b h = grind arith
 
   pub stretch-edged : (text : List ℕ) (start end : ℕ) (after : BlockDocument) → E start → E end → AllAt E after → AllAt E (stretch_then text start end after)
   stretch-edged text start end after es ee a = texts-edged (piece_if text start end []) after (piece_if-edged text start end [] es ee tt) a
@@ -71,13 +58,7 @@ module _ (E : ℕ → Type 0) where
 
   stretches-edged : (text : List ℕ) (begin : ℕ) (r : Row) (more : List Row) → E begin → GoodRow E r → GoodRows E more → AllAt E (stretches text begin r more)
   stretches-edged text begin r [] b g gs = stretch-edged text begin (words_end r) Nil b (end-edge (start_of r) (line_columns r) (line-edge r g)) tt
-  stretches-edged text begin r (s ∷ more) b g gs =
-      go (begin_of s == r.line_end) (stretches-edged text begin s more b gs.0 gs.1) (stretches-edged text (begin_of s) s more gs.0.begin gs.0 gs.1)
-    where
-      go : (z : Bool) → AllAt E (stretches text begin s more) → AllAt E (stretches text (begin_of s) s more)
-          → AllAt E (if z then stretches text begin s more else stretch_then text begin r.line_end (stretches text (begin_of s) s more))
-      go true p q = p
-      go false p q = stretch-edged text begin r.line_end (stretches text (begin_of s) s more) b g.line_end q
+  stretches-edged text begin r (s ∷ more) b g gs = search (rules, stretch-edged, stretches-edged text begin s more b gs.0 gs.1, stretches-edged text (begin_of s) s more gs.0.begin gs.0 gs.1)
 
   pub paragraph-edged : (text : List ℕ) (r : Row) (more : List Row) → GoodRow E r → GoodRows E more → AllAt E (paragraph_tokens text r more)
   paragraph-edged text r more g gs = stretches-edged text (start_of r) r more (start-E E r g) g gs
@@ -95,11 +76,7 @@ module _ (E : ℕ → Type 0) where
 
   before_braces-edge : (from : ℕ) (cs : List Column) (to : ℕ) → Runs from cs to → AreGood E cs → E to → EdgeTo from (before_braces (λ c. c.byte) cs)
   before_braces-edge from [] to h g et = record { mid = to; runs = h; good = tt; edge = et }
-  before_braces-edge from (c ∷ cs) to h g et = go (is_braced (λ x. x.byte) (c ∷ cs)) refl (before_braces-edge (suc c.at) cs to h.1 g.1 et)
-    where
-      go : (z : Bool) → is_braced (λ x. x.byte) (c ∷ cs) ≡ z → EdgeTo (suc c.at) (before_braces (λ x. x.byte) cs) → EdgeTo from (if z then [] else c ∷ before_braces (λ x. x.byte) cs)
-      go true e u = record { mid = from; runs = refl; good = tt; edge = subst E h.0 (place-edge c g.0 (is-ascii c.byte 123 (omega arith) (and-first (c.byte == 123) (closes (λ x. x.byte) cs) e))) }
-      go false e u = record { mid = u.mid; runs = (h.0, u.runs); good = (g.0, u.good); edge = u.edge }
+  before_braces-edge from (c ∷ cs) to h g et = search (rules, place-edge, is-ascii, and-first, before_braces-edge (suc c.at) cs to h.1 g.1 et)
 
   attributes-edge : (attributes : Bool) (from : ℕ) (cs : List Column) (to : ℕ) → Runs from cs to → AreGood E cs → E to → EdgeTo from (without_attributes attributes cs)
   attributes-edge false from cs to h g et = record { mid = to; runs = h; good = g; edge = et }
@@ -125,11 +102,7 @@ module _ (E : ℕ → Type 0) where
   two_of n e = grind (arith)
 
   plain_line-edged : (text : List ℕ) (from : ℕ) (r : Row) → E from → GoodRow E r → Edged (plain_line text from r)
-  plain_line-edged text from r ef g = go (r.line_end - r.content_end == 2) refl
-    where
-      go : (z : Bool) → (r.line_end - r.content_end == 2) ≡ z → Edged (if z then piece_if text from r.content_end (piece_if text (suc r.content_end) r.line_end []) else piece_if text from r.line_end [])
-      go true e = piece_if-edged text from r.content_end (piece_if text (suc r.content_end) r.line_end []) ef g.content_end (piece_if-edged text (suc r.content_end) r.line_end [] (g.feed (two_of (r.line_end - r.content_end) e)) g.line_end tt)
-      go false e = piece_if-edged text from r.line_end [] ef g.line_end tt
+  plain_line-edged text from r ef g = search (rules, piece_if-edged, two_of)
 
   spaces_if-edged : (n at : ℕ) (ps : List Piece) → E at → Edged ps → Edged (spaces_if n at ps)
   spaces_if-edged zero at ps e h = h
@@ -139,12 +112,7 @@ module _ (E : ℕ → Type 0) where
   verbatim-edged text cs r e g = spaces_if-edged (left_columns cs) (first_place r.content_end cs) (plain_line text (first_place r.content_end cs) r) e (plain_line-edged text (first_place r.content_end cs) r e g)
 
   merge-edged : (p : Piece) (ps : List Piece) → E p.start → E p.end → Edged ps → Edged (merge p ps)
-  merge-edged p [] a b h = (a, b, h)
-  merge-edged p (q ∷ ps) a b h = go (touches p q)
-    where
-      go : (z : Bool) → Edged (if z then record { owned = false; bytes = p.bytes ++ q.bytes; start = p.start; end = q.end } ∷ ps else p ∷ q ∷ ps)
-      go true = (a, h.1, h.2)
-      go false = (a, b, h)
+  merge-edged p ps a b h = grind arith
 
   merge_all-edged : (ps following : List Piece) → Edged ps → Edged following → Edged (merge_all ps following)
   merge_all-edged [] following h b = b
@@ -169,11 +137,7 @@ module _ (E : ℕ → Type 0) where
 
   pub before-good : (closes : Row → Bool) (rs : List Row) → GoodRows E rs → GoodRows E (lines_before closes rs)
   before-good closes [] g = tt
-  before-good closes (r ∷ rs) g = go (closes r) (before-good closes rs g.1)
-    where
-      go : (z : Bool) → GoodRows E (lines_before closes rs) → GoodRows E (stop_at z r (lines_before closes rs))
-      go true ih = tt
-      go false ih = (g.0, ih)
+  before-good closes (r ∷ rs) g = grind (arith, before-good closes rs g.1)
 
   pub html-edged : (text : List ℕ) (rs : List Row) → GoodRows E rs → AllAt E (html_tokens text rs)
   html-edged text [] g = tt

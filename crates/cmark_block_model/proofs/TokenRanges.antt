@@ -1,21 +1,17 @@
 -- The tokens of a leaf are in order, at the places of its lines.
-use Rattle.std.proofs.Common.{◌≡◌, ℕ, zero, suc, ◌-◌, ◌≤◌, Bool, true, false, ◌==◌, List, [], ◌∷◌, ◌++◌, drop, refl, subst, arith}
-use Rattle.std.specs.Prelude.{if◌then◌else◌, nat_lt}
+use Rattle.std.proofs.Common.{◌≡◌, ℕ, zero, suc, ◌-◌, ◌≤◌, Bool, true, false, ◌==◌, List, [], ◌∷◌, drop, refl, subst, arith}
+use Rattle.std.specs.Prelude.{if◌then◌else◌}
 use Rattle.cmark_grammar.specs.Attributes.{is_braced, before_braces}
 use Rattle.cmark_grammar.specs.Columns.{Column, indent, without_indent, drop_end, put_before, without_trailing_blanks, is_blank}
 use Rattle.cmark_grammar.specs.Rows.{Row, first_place, begin_of, start_of, last_line_end}
 use Rattle.cmark_grammar.specs.BlockDocument.{BlockDocument, Nil, Node}
 use Rattle.cmark_block_model.specs.Ranges.{InOrder}
-use Rattle.cmark_grammar.specs.Tokens.{slice, Piece, texts_then, line_columns, end_place, words_end, stretch_then, stretches, paragraph_tokens, is_hash, without_closing, without_attributes, heading_columns, heading_tokens, piece_if, plain_line, left_columns, spaces_if, verbatim_line, touches, merge, merge_all, code_columns, code_pieces, code_tokens, stop_at, lines_before, html_then, html_tokens}
+use Rattle.cmark_grammar.specs.Tokens.{Piece, texts_then, line_columns, end_place, words_end, stretch_then, stretches, paragraph_tokens, is_hash, without_closing, without_attributes, heading_columns, heading_tokens, piece_if, plain_line, left_columns, spaces_if, verbatim_line, merge, merge_all, code_columns, code_pieces, code_tokens, stop_at, lines_before, html_then, html_tokens}
 use Rattle.cmark_block_model.proofs.RowPlaces.{Runs, Runs-le, first_place-Runs, drop-Runs, Lies, begin-start, start-Runs, Along, Along-le}
 
 pub InOrder-le : (from : ℕ) (d : BlockDocument) (to : ℕ) → InOrder from d to → from ≤ to
 InOrder-le from Nil to h = h
-InOrder-le from (Node n inside after) to h =
-    let a : from ≤ n.start = h.0 in
-    let b : n.start ≤ n.end = InOrder-le n.start inside n.end h.1 in
-    let c : n.end ≤ to = InOrder-le n.end after to h.2 in
-    omega (arith, a, b, c)
+InOrder-le from (Node n inside after) to h = grind (arith, InOrder-le n.start inside n.end h.1, InOrder-le n.end after to h.2)
 
 pub InOrder-lower : (a b : ℕ) (d : BlockDocument) (to : ℕ) → a ≤ b → InOrder b d to → InOrder a d to
 InOrder-lower a b Nil to le h = let g : b ≤ to = h in omega (arith, le, g)
@@ -74,11 +70,7 @@ pub line-UpTo : (from : ℕ) (r : Row) → Lies from r → UpTo (start_of r) (li
 line-UpTo from r h = drop_end-UpTo is_blank (start_of r) (without_indent r.columns) r.content_end (start-Runs from r h)
 
 piece_if-order : (text : List ℕ) (from start end : ℕ) (ps : List Piece) (to : ℕ) → from ≤ start → start ≤ end → InPieces end ps to → InPieces from (piece_if text start end ps) to
-piece_if-order text from start end ps to a b h = go (nat_lt start end)
-  where
-    go : (z : Bool) → InPieces from (if z then record { owned = false; bytes = slice text start end; start = start; end = end } ∷ ps else ps) to
-    go true = (a, b, h)
-    go false = pieces-lower from end ps to (omega (arith, a, b)) h
+piece_if-order text from start end ps to a b h = grind (arith, pieces-lower)
 
 pub stretch-order : (text : List ℕ) (start end content_end : ℕ) (after : BlockDocument) (to : ℕ) → start ≤ end → end ≤ content_end → InOrder content_end after to → InOrder start (stretch_then text start end after) to
 stretch-order text start end content_end after to some le a =
@@ -167,14 +159,7 @@ two_of : (n : ℕ) → (n == 2) ≡ true → n ≡ 2
 two_of n e = grind (arith)
 
 plain_line-order : (text : List ℕ) (from : ℕ) (r : Row) → from ≤ r.content_end → r.content_end ≤ r.line_end → InPieces from (plain_line text from r) r.line_end
-plain_line-order text from r a b = go (r.line_end - r.content_end == 2) refl
-  where
-    go : (z : Bool) → (r.line_end - r.content_end == 2) ≡ z → InPieces from (if z then piece_if text from r.content_end (piece_if text (suc r.content_end) r.line_end []) else piece_if text from r.line_end []) r.line_end
-    go true e =
-        let two : r.line_end - r.content_end ≡ 2 = two_of (r.line_end - r.content_end) e in
-        piece_if-order text from from r.content_end (piece_if text (suc r.content_end) r.line_end []) r.line_end (omega arith) a
-        (piece_if-order text r.content_end (suc r.content_end) r.line_end [] r.line_end (omega arith) (omega (arith, two)) (omega arith))
-    go false e = piece_if-order text from from r.line_end [] r.line_end (omega arith) (omega (arith, a, b)) (omega arith)
+plain_line-order text from r a b = grind (arith, two_of, piece_if-order)
 
 spaces_if-order : (n at : ℕ) (ps : List Piece) (to : ℕ) → InPieces at ps to → InPieces at (spaces_if n at ps) to
 spaces_if-order zero at ps to h = h
@@ -188,12 +173,7 @@ verbatim-order text from cs r h le =
     (spaces_if-order (left_columns cs) (first_place r.content_end cs) (plain_line text (first_place r.content_end cs) r) r.line_end (plain_line-order text (first_place r.content_end cs) r (omega (arith, e, l)) le))
 
 merge-order : (from : ℕ) (p : Piece) (ps : List Piece) (to : ℕ) → from ≤ p.start → p.start ≤ p.end → InPieces p.end ps to → InPieces from (merge p ps) to
-merge-order from p [] to a b h = (a, b, h)
-merge-order from p (q ∷ ps) to a b h = go (touches p q)
-  where
-    go : (z : Bool) → InPieces from (if z then record { owned = false; bytes = p.bytes ++ q.bytes; start = p.start; end = q.end } ∷ ps else p ∷ q ∷ ps) to
-    go true = let c : p.end ≤ q.start = h.0 in let d : q.start ≤ q.end = h.1 in (a, omega (arith, b, c, d), h.2)
-    go false = (a, b, h)
+merge-order from p ps to a b h = grind arith
 
 merge_all-order : (from : ℕ) (ps : List Piece) (mid : ℕ) (following : List Piece) (to : ℕ) → InPieces from ps mid → InPieces mid following to → InPieces from (merge_all ps following) to
 merge_all-order from [] mid following to h b = pieces-lower from mid following to h b

@@ -1,9 +1,9 @@
 -- One more line of code, HTML or metadata.
-use Rattle.std.proofs.Common.{◌≡◌, ℕ, Bool, true, false, List, [], ◌∷◌, ◌++◌, refl, ap, ◌∙◌, sym, append_assoc, append-nil}
-use Rattle.std.specs.Prelude.{nat_le, if◌then◌else◌}
+use Rattle.std.proofs.Common.{◌≡◌, ℕ, Bool, true, false, List, [], ◌∷◌, ◌++◌, refl, ap, ◌∙◌, sym, append_assoc, append-nil, arith}
+use Rattle.std.specs.Prelude.{if◌then◌else◌}
 use Rattle.cmark_grammar.specs.Answers.{Lookup}
 use Rattle.cmark_grammar.specs.Options.{Options}
-use Rattle.cmark_grammar.specs.Rows.{Row, start_of, begin_of, last_line_end, first_place, is_blank_line, indent_of}
+use Rattle.cmark_grammar.specs.Rows.{Row, start_of, begin_of, last_line_end, first_place}
 use Rattle.cmark_grammar.specs.Leaves.{Continuation, GoesOn, Closes, Waits, Stops, code_continuation, closes_fence}
 use Rattle.cmark_grammar.specs.HtmlBlocks.{html_continuation}
 use Rattle.cmark_grammar.specs.Openings.{FencedCode, HtmlBlock, MetadataBlock}
@@ -52,21 +52,10 @@ module _ (text : List ℕ) (options : Options) (lookup : Lookup) where
   before-ends closes (s ∷ rs) r h e = ap (λ z. stop_at z s (lines_before closes (rs ++ r ∷ []))) h.0 ∙ ap (λ x. s ∷ x) (before-ends closes rs r h.1 e)
 
   never-closes : (r : Row) → code_continuation r ≡ Closes → ⊥
-  never-closes r = go (is_blank_line r) (nat_le 4 (indent_of r))
-    where
-      go : (a b : Bool) → (if a then Waits else if b then GoesOn else Stops) ≡ Closes → ⊥
-      go true b f = cc
-      go false true f = cc
-      go false false f = cc
+  never-closes r = grind arith
 
   pub never-waits : (kind : ℕ) (r : Row) → html_continuation kind r ≡ Waits → ⊥
-  never-waits kind r = html _ _ _
-    where
-      html : (a b c : Bool) → (if a then if b then Stops else GoesOn else if c then Closes else GoesOn) ≡ Waits → ⊥
-      html true true c f = cc
-      html true false c f = cc
-      html false b true f = cc
-      html false b false f = cc
+  never-waits kind r = grind arith
 
   stops : (v : Verbatim) (closed : Blocks) (first : Row) (had waiting : List Row) (r : Row) (next ahead : List Row) (l : Level) (outer : List OpenContainer) (b : Bool) (n : ℕ) → r.lazy ≡ false → ahead_in text options lookup outer next ≡ ahead → IsFresh text options lookup l → Unmarked closed → Fits options b (InVerbatim closed v first had waiting) [] n
       → begin text options lookup r next (leaf_closed text options lookup (pass_with (verbatim_level text options lookup v first had (replay text options lookup closed l)) outer false (verbatim_leaf text options lookup v first had waiting) n))

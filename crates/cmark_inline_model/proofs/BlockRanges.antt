@@ -4,15 +4,14 @@ use Rattle.std.specs.Str.{IsCharBoundary}
 use Rattle.std.proofs.Common.{ℕ, zero, suc, ◌≤◌, Bool, true, false, List, [], ◌∷◌, ◌++◌, length, arith}
 use Rattle.cmark_grammar.specs.Answers.{Lookup}
 use Rattle.cmark_grammar.specs.BlockDocument.{BlockDocument, BlockNode, Nil, Node}
-use Rattle.cmark_grammar.specs.BlockReading.{Alone, Around, First, Inside, Reads, first_event, is_leaf, over, read_as, starts_before}
+use Rattle.cmark_grammar.specs.BlockReading.{First, Reads, first_event, is_leaf, over, read_as, starts_before}
 use Rattle.cmark_grammar.specs.Derivation.{Derives}
-use Rattle.cmark_grammar.specs.Event.{End, Ranged}
+use Rattle.cmark_grammar.specs.Event.{Ranged}
 use Rattle.cmark_inline_model.specs.LeafSpans.{IsRange}
 use Rattle.cmark_grammar.specs.LeafText.{Leaf}
 use Rattle.cmark_grammar.specs.Options.{Options}
 use Rattle.cmark_block_model.specs.Ranges.{AllAt, InOrder}
 use Rattle.cmark_grammar.specs.SpanDocuments.{Content, Given, Segment, first_of_segments, inside_of, leaf_of, node_segments, segments, with_first_segment}
-use Rattle.cmark_grammar.specs.TagEnd.{end_of}
 use Rattle.cmark_block_model.proofs.BoundaryLaws.{derived-boundaries}
 use Rattle.cmark_block_model.proofs.RangeLaws.{derived-order}
 use Rattle.cmark_inline_model.specs.CharacterRanges.{HaveRanges}
@@ -29,10 +28,7 @@ module _ (text : List ℕ) where
   inside false leaf others h = h
 
   of-node : (reads : Reads) (node : BlockNode) (own : List Segment) → IsRange text node.start node.end → HaveRanges text own → HaveRanges text (node_segments reads node own)
-  of-node (Around tag) node own r h = (r, both own (Given (over node (End (end_of tag))) ∷ []) h (r, tt))
-  of-node Inside node own r h = h
-  of-node (Alone event) node own r h = (r, tt)
-  of-node _ node own r h = tt
+  of-node reads node own r h = grind (arith, both)
 
   first : (starts : ℕ) (r : Ranged) (others : List Segment) → IsRange text r.start r.end → HaveRanges text others → HaveRanges text (first_of_segments starts (Given r) others)
   first zero r others x h = (x, h)

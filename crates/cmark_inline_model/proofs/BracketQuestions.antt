@@ -1,6 +1,6 @@
 -- The questions that a reading puts: they are only added, and a reading with any answers is a reading with the list of the answers that it
 -- got.
-use Rattle.std.proofs.Common.{◌≡◌, ℕ, List, [], ◌∷◌, ◌++◌, Option, None, refl, sym, ap, ◌∙◌, append_assoc, append-nil}
+use Rattle.std.proofs.Common.{◌≡◌, ℕ, List, [], ◌∷◌, ◌++◌, Option, None, refl, sym, ap, ◌∙◌, append_assoc, append-nil, arith}
 use Rattle.cmark_grammar.specs.Answers.{Destination}
 use Rattle.cmark_grammar.specs.Items.{Bracket, Token}
 use Rattle.cmark_grammar.specs.Questions.{Question, Exchange, Saying, Plan, IsNext}
@@ -34,10 +34,7 @@ module _ (token : ℕ → Token) (decide : State → (closer : Bracket) → Deci
   reads-add s (Opening opener after) t h = reads-add (opened opener s) after t h.1
 
   comes_next : (s : State) (d : Decision) (o : Outcome) (all rest : List Exchange) → Keeps s.asked d → Comes Says s.asked d o → all ≡ o.after.asked ++ rest → Comes (IsNext all) s.asked d o
-  comes_next s (Settled outcome) o all rest k h e = h
-  comes_next s (Asks question answered) o all rest k h e =
-      let x : Exchange = record { question = question; answer = h.0 } in
-      (h.0, record { rest = rest; cut = e ∙ ap (λ l. l ++ rest) (ap (λ (y : Outcome). y.after.asked) h.2 ∙ k h.0) ∙ append_assoc s.asked (x ∷ []) rest }, h.2)
+  comes_next s d o all rest k h e = grind (arith, append_assoc)
 
   pub added-before : (all rest : List Exchange) (s t : State) (a : Adds s t) → all ≡ t.asked ++ rest → all ≡ s.asked ++ (a.0 ++ rest)
   added-before all rest s t a e = e ∙ ap (λ l. l ++ rest) a.1 ∙ append_assoc s.asked a.0 rest

@@ -4,7 +4,7 @@ use Rattle.std.proofs.Common.{◌≡◌, ◌⊎◌, inl, inr, ⊎_elim, ℕ, suc
 use Rattle.std.proofs.lemmas.List.{get_or-drop}
 use Rattle.cmark_grammar.specs.Columns.{is_blank_byte}
 use Rattle.cmark_grammar.specs.Letters.{and_then}
-use Rattle.cmark_grammar.specs.LineBreaks.{LineBreak, hard_break, blank_break, ends_with_two_spaces, backslash_break_in, blank_break_in}
+use Rattle.cmark_grammar.specs.LineBreaks.{LineBreak, hard_break, blank_break, backslash_break_in, blank_break_in}
 use Rattle.cmark_grammar.specs.LinkDefinitions.{after_leading_blanks}
 use Rattle.cmark_grammar.specs.Tags.{after_line_feed, after_ending}
 use Rattle.cmark_block_model.proofs.RowEdges.{Front}
@@ -44,17 +44,10 @@ when P true x y h k = h refl
 when P false x y h k = k refl
 
 return_taken : (b : ℕ) (bs : List ℕ) → b ≡ 13 → TakesEnding (b ∷ bs) (after_line_feed bs)
-return_taken b [] e = record { more = 0; following = refl; fits = omega arith; ending = inl refl; ascii = omega arith }
-return_taken b (c ∷ bs) e =
-    when (TakesEnding (b ∷ (c ∷ bs))) (c == 10) bs (c ∷ bs) (λ f. (let z = eqb-true c 10 f in record { more = 1; following = refl; fits = omega arith; ending = inr (refl, e, z); ascii = (let q : c < 128 = omega arith in q) }))
-    (λ f. record { more = 0; following = refl; fits = omega arith; ending = inl refl; ascii = (let q : b < 128 = omega arith in q) })
+return_taken b bs e = grind (arith, when, eqb-true)
 
 ending_taken : (l : List ℕ) → EndingTaken l (after_ending l)
-ending_taken [] = tt
-ending_taken (b ∷ bs) =
-    when (EndingTaken (b ∷ bs)) (b == 10) (Some bs) (if b == 13 then Some (after_line_feed bs) else None)
-    (λ e. (let z = eqb-true b 10 e in record { more = 0; following = refl; fits = omega arith; ending = inl refl; ascii = (let q : b < 128 = omega arith in q) }))
-    (λ e. when (EndingTaken (b ∷ bs)) (b == 13) (Some (after_line_feed bs)) None (λ f. return_taken b bs (eqb-true b 13 f)) (λ f. tt))
+ending_taken l = grind (arith, when, eqb-true, return_taken)
 
 -- a line ending after some bytes
 after_bytes : (found : LineBreak) (n : ℕ) (l r : List ℕ) → Leads IsWord n l → found.before ≤ n → found.following ≡ r → TakesEnding (drop n l) r → TakesBreak l found
@@ -91,10 +84,7 @@ blank-taken l = go (after_ending (after_leading_blanks l)) (ending_taken (after_
 
     go : (o : Option (List ℕ)) → EndingTaken (after_leading_blanks l) o → BreakTaken l (option_map (blank_break blanks) o)
     go None k = tt
-    go (Some r) k =
-        when (TakesBreak l) (ends_with_two_spaces blanks) (hard_break r) (record { is_hard = false; before = length blanks; following = r })
-        (λ e. after_bytes (hard_break r) (length blanks) l r leads (omega arith) refl k)
-        (λ e. after_bytes (record { is_hard = false; before = length blanks; following = r }) (length blanks) l r leads (omega arith) refl k)
+    go (Some r) k = grind (arith, when, blanks, after_bytes, leads)
 
 pub backslash-taken : (l : List ℕ) → BreakTaken l (backslash_break_in l)
 backslash-taken [] = tt

@@ -1,6 +1,6 @@
 -- Lists of costs, each of which begins below a limit, and lists with fewer costs in the same order.
 use Rattle.std.specs.Prelude.{◌-◌, sum}
-use Rattle.std.proofs.Common.{◌≡◌, ℕ, ◌+◌, ◌<◌, ◌≤◌, List, [], ◌∷◌, ◌++◌, refl, arith, subst}
+use Rattle.std.proofs.Common.{◌≡◌, ℕ, ◌+◌, ◌<◌, ◌≤◌, List, [], ◌∷◌, ◌++◌, refl, arith, subst, rules}
 use Rattle.std.proofs.lemmas.List.Sums.{sum_by-cons}
 use Rattle.cmark_inline_model.specs.ReferenceExpansion.{Spends}
 
@@ -51,11 +51,7 @@ pub record Spent (limit spent after : ℕ) (cs : List ℕ) : Type 0 where
 
 pub spends-within : (limit spent : ℕ) (cs : List ℕ) (before after : ℕ) → before ≡ limit - spent → Spends before cs after → Spent limit spent after cs
 spends-within limit spent [] before after e h = record { within = tt; left = omega (arith, e, h) }
-spends-within limit spent (c ∷ cs) before after e h =
-    let some = h.0 in
-    let i = spends-within limit (spent + c) cs (before - c) after (omega arith) h.1 in
-    let l = i.left in
-    record { within = (omega arith, i.within); left = omega arith }
+spends-within limit spent (c ∷ cs) before after e h = search (rules, spends-within limit (spent + c) cs (before - c) after (omega arith) h.1)
 
 -- ## Fewer costs
 
@@ -70,14 +66,7 @@ pub fewer-then : (a b c : List ℕ) → Fewer a b → Fewer b c → Fewer a c
 fewer-then a b c h k = record { less = (let x = h.less in let y = k.less in omega arith); within = λ limit spent w. h.within limit spent (k.within limit spent w) }
 
 pub fewer-following : (front a b : List ℕ) → Fewer a b → Fewer a (front ++ b)
-fewer-following front a b h = record {
-  less = (let x = h.less in let e = total-append front b in omega arith);
-  within = λ limit spent w. h.within limit spent (within-less limit b spent (spent + total front) (omega arith) (within-rest limit spent front b w));
-}
+fewer-following front a b h = grind (arith, total-append, within-less, within-rest)
 
 pub fewer-both : (a b c d : List ℕ) → Fewer a b → Fewer c d → Fewer (a ++ c) (b ++ d)
-fewer-both a b c d h k = record {
-  less = (let x = h.less in let y = k.less in let e = total-append a c in let f = total-append b d in omega arith);
-  within = λ limit spent w. within-both limit spent a c (h.within limit spent (within-front limit spent b d w))
-      (k.within limit (spent + total a) (within-less limit d (spent + total a) (spent + total b) (let x = h.less in omega arith) (within-rest limit spent b d w)));
-}
+fewer-both a b c d h k = grind (arith, total-append, within-both, within-front, within-less, within-rest)

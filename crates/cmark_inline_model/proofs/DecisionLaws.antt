@@ -12,7 +12,7 @@ use Rattle.cmark_grammar.specs.OpenBrackets.{Taken, undoubled, inactive, after_l
 use Rattle.cmark_grammar.specs.Parts.{Formed, Footnote}
 use Rattle.cmark_grammar.specs.Questions.{Exchange}
 use Rattle.cmark_grammar.specs.Readers.{Reader}
-use Rattle.cmark_inline_model.specs.ReferenceExpansion.{cost_as, Spends, Pays, KeepsLimit}
+use Rattle.cmark_inline_model.specs.ReferenceExpansion.{cost_as, Pays, KeepsLimit}
 use Rattle.cmark_inline_model.specs.NestedLinks.{is_link, Persist, OpenNoLink, FormsApart, KeepsApart, KeepsLinksApart}
 use Rattle.cmark_inline_model.specs.Progress.{Always, Fits, Keeps, IsRecorded}
 use Rattle.cmark_inline_model.proofs.DecisionShape.{exchange, IsNamed, Leads, Defined, Answered, Takes, Shape, Stays, ToInline, ToReference, ToFootnote, ToWiki, DecisionShape, decide-shape}
@@ -31,11 +31,7 @@ module _ (reader : Reader) (leaf : Leaf) where
   -- ## Questions
 
   asked_is : (s : State) (closer : Bracket) (asked : List Exchange) (o : Outcome) → Shape reader leaf s closer asked o → o.after.asked ≡ asked
-  asked_is s closer asked o (Stays label os h e) = ap (λ (x : Outcome). x.after.asked) e
-  asked_is s closer asked o (ToInline label os taken tail h t found e) = ap (λ (x : Outcome). x.after.asked) e
-  asked_is s closer asked o (ToReference label os taken named link_type found h t n some l e) = ap (λ (x : Outcome). x.after.asked) e
-  asked_is s closer asked o (ToFootnote label os taken name h t on e) = ap (λ (x : Outcome). x.after.asked) e
-  asked_is s closer asked o (ToWiki label os first far h t on next touched e) = ap (λ (x : Outcome). x.after.asked) e
+  asked_is s closer asked o h = grind arith
 
   pub decide-recorded : IsRecorded (decide reader leaf)
   decide-recorded = record { keeps = λ s closer. go s closer (decide reader leaf s closer) (decide-shape reader leaf s closer) }
@@ -134,15 +130,7 @@ module _ (reader : Reader) (leaf : Leaf) where
   lead_costs s named link_type found closer n asked (Answered d e earlier q put f g) = ap (λ t. cost_as t (length found.url + length found.title)) e ∙ (n.costs (length found.url + length found.title)).1
 
   shape_pays : (s : State) (closer : Bracket) (asked : List Exchange) (o : Outcome) → Shape reader leaf s closer asked o → Pays s.expansion_left o
-  shape_pays s closer asked o (Stays label os h e) = subst (Pays s.expansion_left) (sym e) refl
-  shape_pays s closer asked o (ToInline label os taken tail h t found e) = subst (Pays s.expansion_left) (sym e) refl
-  shape_pays s closer asked o (ToReference label os taken named link_type found h t n some l e) =
-      let size = length found.url + length found.title in
-      subst (Pays s.expansion_left) (sym e)
-      (subst (λ c. Spends s.expansion_left c (s.expansion_left - length found.url - length found.title)) (sym (lead_costs s named link_type found closer n asked l))
-      (some_left s.expansion_left some, minus_twice s.expansion_left (length found.url) (length found.title)))
-  shape_pays s closer asked o (ToFootnote label os taken name h t on e) = subst (Pays s.expansion_left) (sym e) refl
-  shape_pays s closer asked o (ToWiki label os first far h t on next touched e) = subst (Pays s.expansion_left) (sym e) refl
+  shape_pays s closer asked o h = grind (arith, lead_costs, some_left, minus_twice)
 
   pub decide-pays : KeepsLimit (decide reader leaf)
   decide-pays = record { pays = λ s closer. always-by s closer (Pays s.expansion_left) (shape_pays s closer) }

@@ -1,16 +1,16 @@
 -- The possible outcomes of the decision about a closing bracket, case by case.
 use Rattle.std.specs.Prelude.{suc, ◌-◌, ◌==◌, ◌&&◌, ◌||◌, not, if◌then◌else◌, drop, map}
-use Rattle.std.proofs.Common.{◌≡◌, ◌⊎◌, inl, inr, ◌≤◌, ℕ, Bool, true, false, List, [], ◌∷◌, ◌++◌, length, Option, Some, None, refl, arith}
+use Rattle.std.proofs.Common.{◌≡◌, ◌⊎◌, inl, inr, ◌≤◌, ℕ, Bool, true, false, List, [], ◌∷◌, ◌++◌, length, Option, Some, None, refl, arith, rules}
 use Rattle.cmark_grammar.specs.Answers.{Destination}
 use Rattle.cmark_grammar.specs.BlockDocument as block
-use Rattle.cmark_grammar.specs.BracketDecisions.{Named, or_empty, is_there, name_in, following, place, between, stays, forms, inline_link, leads, question, answered, with_answer, ask, defined_or_asked, refers, one_line_footnotes, is_one_line, is_footnote_label, footnote_reference, as_label, collapsed_or_shortcut, by_own_label, reference_or, unless_footnote, link_or, with_taken, wiki_text, wikilink, wikilink_or, decide}
+use Rattle.cmark_grammar.specs.BracketDecisions.{Named, or_empty, name_in, following, place, stays, forms, inline_link, leads, question, answered, with_answer, ask, defined_or_asked, refers, one_line_footnotes, is_one_line, is_footnote_label, footnote_reference, as_label, collapsed_or_shortcut, by_own_label, reference_or, unless_footnote, link_or, with_taken, wiki_text, wikilink, wikilink_or, decide}
 use Rattle.cmark_grammar.specs.BracketStates.{Opener, State, Outcome, Decision, Settled, Asks}
 use Rattle.cmark_grammar.specs.Items.{Bracket}
 use Rattle.cmark_grammar.specs.Labels.{fold, normal_form}
 use Rattle.cmark_grammar.specs.LeafText.{Leaf}
 use Rattle.cmark_grammar.specs.Letters.{first_is}
 use Rattle.cmark_grammar.specs.LinkDefinitions.{Parsed}
-use Rattle.cmark_grammar.specs.LinkTails.{LinkTail, link_tail_in, after_collapsed, is_bracketed_label, reference_label_in}
+use Rattle.cmark_grammar.specs.LinkTails.{LinkTail, link_tail_in, after_collapsed, is_bracketed_label}
 use Rattle.cmark_grammar.specs.LinkType.{LinkType, Reference, to_unknown}
 use Rattle.cmark_grammar.specs.OpenBrackets.{Taken, nearest, used_up, doubled, tried, dropped}
 use Rattle.cmark_grammar.specs.Parts.{Footnote}
@@ -92,12 +92,7 @@ module _ (reader : Reader) (leaf : Leaf) where
     module _ (taken : Taken) (takes : Takes s.openers taken) where
       ask_shape : (label : Option ℕ) (os : List Opener) (named : Named) → Alike s.openers os → IsNamed closer named → (s.expansion_left == 0) ≡ false → reader.definition (fold named.label) ≡ None
           → DecisionShape s closer (ask reader leaf named taken closer (with_all s label s.asked os))
-      ask_shape label os named h named_is some none =
-          let q = question reader leaf named taken.opener.bracket in
-          let t = with_all s label s.asked os in
-          either s closer reader.has_callback (Asks q (λ answer. answered reader leaf named taken closer (with_answer reader leaf q answer t) answer)) (Settled (stays reader leaf closer t))
-          (λ e. ((record { form = named_is.form; undefined = none; has_callback = e }, record { taken = taken; takes = takes; start = refl; ends = named_is.ends; some = some }), by))
-          (λ e. stay_shape label os h)
+      ask_shape label os named h named_is some none = search (rules, either, by, stay_shape)
         where
           by : (answer : Option Destination) → Shape s closer (s.asked ++ (exchange (question reader leaf named taken.opener.bracket) answer ∷ []))
               (answered reader leaf named taken closer (with_answer reader leaf (question reader leaf named taken.opener.bracket) answer (with_all s label s.asked os)) answer)
@@ -113,10 +108,7 @@ module _ (reader : Reader) (leaf : Leaf) where
       defined_shape None label os named e h named_is some = ask_shape label os named h named_is some e
 
       refers_shape : (label : Option ℕ) (os : List Opener) (named : Named) → Alike s.openers os → IsNamed closer named → DecisionShape s closer (refers reader leaf named taken closer (with_all s label s.asked os))
-      refers_shape label os named h named_is =
-          let t = with_all s label s.asked os in
-          either s closer (s.expansion_left == 0) (Settled (stays reader leaf closer t)) (defined_or_asked reader leaf (reader.definition (fold named.label)) named taken closer t)
-          (λ e. stay_shape label os h) (λ e. defined_shape (reader.definition (fold named.label)) label os named refl h named_is e)
+      refers_shape label os named h named_is = search (rules, either, stay_shape, defined_shape)
 
       own_named : (label : List ℕ) (o : Option (List ℕ)) → LeavesBelow (suc (length (following reader leaf closer.end))) o → LeavesAfter (following reader leaf closer.end) o → IsNamed closer (collapsed_or_shortcut reader leaf label closer.end o)
       own_named label None h k = record { ends = inl refl; passes = inl refl; order = inl refl; form = tt; costs = λ size. (refl, refl) }
@@ -150,45 +142,23 @@ module _ (reader : Reader) (leaf : Leaf) where
 
       reference_shape : (found : Option Parsed) (label : Option ℕ) (os : List Opener) → ParsedBelow (length (following reader leaf closer.end)) found → ParsedAfter (following reader leaf closer.end) found → Alike s.openers os
           → DecisionShape s closer (reference_or reader leaf found taken closer (with_all s label s.asked os))
-      reference_shape (Some found) label os f k h =
-          let end = place reader leaf found.following in
-          refers_shape (Some (end - 1)) os (record { label = as_label reader leaf found.bytes; link_type = Reference; end = end; resume = end }) h
-          (record { ends = inr (found.following, omega arith, refl, k); passes = inr (found.following, omega arith, refl, k); order = inl refl; form = tt; costs = λ size. (refl, refl) })
-      reference_shape None label os f k h =
-          let t = with_all s label s.asked os in
-          let bytes = between reader leaf taken.opener.bracket.end closer.start in
-          either s closer (is_there closer.start label) (Settled (stays reader leaf closer t)) (by_own_label reader leaf bytes taken closer t) (λ e. stay_shape label os h) (λ e. own_shape bytes label os h)
+      reference_shape (Some found) label os f k h = grind (arith, refers_shape)
+      reference_shape None label os f k h = search (rules, either, stay_shape, own_shape)
 
       unless_below : (n : ℕ) (found : Option Parsed) → ParsedBelow n found → ParsedBelow n (unless_footnote reader leaf found)
-      unless_below n None h = tt
-      unless_below n (Some found) h = by (is_footnote_label reader leaf found.bytes)
-        where
-          by : (b : Bool) → ParsedBelow n (if b then None else Some found)
-          by true = tt
-          by false = h
+      unless_below n found h = grind arith
 
       unless_after : (found : Option Parsed) → ParsedAfter (following reader leaf closer.end) found → ParsedAfter (following reader leaf closer.end) (unless_footnote reader leaf found)
-      unless_after None h = tt
-      unless_after (Some found) h = by (is_footnote_label reader leaf found.bytes)
-        where
-          by : (b : Bool) → ParsedAfter (following reader leaf closer.end) (if b then None else Some found)
-          by true = tt
-          by false = h
+      unless_after found h = grind arith
 
       link_shape : (tail : Option LinkTail) (label : Option ℕ) (os : List Opener) → link_tail_in (following reader leaf closer.end) ≡ tail → Alike s.openers os
           → DecisionShape s closer (link_or reader leaf tail taken closer (with_all s label s.asked os))
       link_shape (Some tail) label os e h = ToInline label os taken tail h takes e refl
-      link_shape None label os e h =
-          reference_shape (unless_footnote reader leaf (reference_label_in (following reader leaf closer.end))) label os
-          (unless_below (length (following reader leaf closer.end)) (reference_label_in (following reader leaf closer.end)) (reference_label-shorter (following reader leaf closer.end)))
-          (unless_after (reference_label_in (following reader leaf closer.end)) (reference_label-following (following reader leaf closer.end))) h
+      link_shape None label os e h = grind (arith, reference_shape, unless_below, reference_label-shorter, unless_after, reference_label-following)
 
     with_taken_shape : (taken : Option Taken) (label : Option ℕ) (os : List Opener) → AreTaken s.openers taken → Alike s.openers os → DecisionShape s closer (with_taken reader leaf taken closer (with_all s label s.asked os))
     with_taken_shape None label os h k = stay_shape label os k
-    with_taken_shape (Some taken) label os h k =
-        let t = with_all s label s.asked os in
-        either s closer taken.opener.is_inactive (Settled (stays reader leaf closer t)) (link_or reader leaf (link_tail_in (following reader leaf closer.end)) taken closer t) (λ e. stay_shape label os k)
-        (λ e. link_shape taken (record { is_taken = h; active = e }) (link_tail_in (following reader leaf closer.end)) label os refl k)
+    with_taken_shape (Some taken) label os h k = search (rules, either, stay_shape, link_shape)
 
     or_false : (a b : Bool) → (a || b) ≡ false → a ≡ false
     or_false true b e = cc

@@ -1,20 +1,17 @@
 -- A decision does not hang on the questions that were put before it.
-use Rattle.std.specs.Prelude.{◌-◌, ◌==◌, ◌&&◌, ◌||◌, not, if◌then◌else◌, drop, map}
-use Rattle.std.proofs.Common.{◌≡◌, ℕ, Bool, true, false, List, [], ◌∷◌, ◌++◌, length, Option, Some, None, refl, sym, ap, ◌∙◌, append_assoc}
+use Rattle.std.specs.Prelude.{◌-◌, ◌==◌, ◌||◌, if◌then◌else◌}
+use Rattle.std.proofs.Common.{◌≡◌, ℕ, Bool, true, false, List, ◌∷◌, ◌++◌, length, Option, Some, None, refl, sym, ap, ◌∙◌, append_assoc, arith, rules}
 use Rattle.cmark_grammar.specs.Answers.{Destination}
 use Rattle.cmark_grammar.specs.BlockDocument as block
-use Rattle.cmark_grammar.specs.BracketDecisions.{Named, is_there, name_in, following, place, between, stays, forms, question, answered, with_answer, ask, defined_or_asked, refers, one_line_footnotes, is_footnote_label, footnote_reference, as_label, collapsed_or_shortcut, by_own_label, reference_or, unless_footnote, link_or, with_taken, wiki_text, wikilink, wikilink_or, taking, decide}
+use Rattle.cmark_grammar.specs.BracketDecisions.{Named, name_in, following, place, stays, question, answered, with_answer, ask, defined_or_asked, refers, footnote_reference, as_label, by_own_label, reference_or, unless_footnote, link_or, with_taken, wiki_text, wikilink, wikilink_or, taking, decide}
 use Rattle.cmark_grammar.specs.BracketReading.{Comes}
 use Rattle.cmark_grammar.specs.BracketStates.{State, Outcome, Decision, Settled, Asks}
 use Rattle.cmark_grammar.specs.Items.{Bracket}
-use Rattle.cmark_grammar.specs.Labels.{fold, normal_form}
 use Rattle.cmark_grammar.specs.LeafText.{Leaf}
-use Rattle.cmark_grammar.specs.Letters.{first_is}
 use Rattle.cmark_grammar.specs.LinkDefinitions.{Parsed}
-use Rattle.cmark_grammar.specs.LinkTails.{LinkTail, link_tail_in, after_collapsed, is_bracketed_label, reference_label_in}
+use Rattle.cmark_grammar.specs.LinkTails.{LinkTail, reference_label_in}
 use Rattle.cmark_grammar.specs.LinkType.{Reference}
-use Rattle.cmark_grammar.specs.OpenBrackets.{Taken, nearest, used_up, doubled, tried, dropped}
-use Rattle.cmark_grammar.specs.Parts.{Footnote}
+use Rattle.cmark_grammar.specs.OpenBrackets.{Taken, nearest, used_up, tried}
 use Rattle.cmark_grammar.specs.Questions.{Question, Exchange, IsNext}
 use Rattle.cmark_grammar.specs.Readers.{Reader}
 use Rattle.cmark_inline_model.specs.Progress.{asked_after, outcome_after, IsShifted}
@@ -38,12 +35,7 @@ module _ (h : List Exchange) where
   module _ (reader : Reader) (leaf : Leaf) where
     answered_after : (named : Named) (taken : Taken) (closer : Bracket) (t : State) (q : Question) (answer : Option Destination)
         → outcome_after h (answered reader leaf named taken closer (with_answer reader leaf q answer t) answer) ≡ answered reader leaf named taken closer (with_answer reader leaf q answer (asked_after h t)) answer
-    answered_after named taken closer t q None =
-        ap (λ l. stays reader leaf closer (record { at = t.at; expansion_left = t.expansion_left; label_close = t.label_close; asked = l; openers = t.openers })) (sym (append_assoc h t.asked (record { question = q; answer = None } ∷ [])))
-    answered_after named taken closer t q (Some found) =
-        let u : Outcome = answered reader leaf named taken closer (with_answer reader leaf q (Some found) t) (Some found) in
-        ap (λ l. record { result = u.result; after = record { at = u.after.at; expansion_left = u.after.expansion_left; label_close = u.after.label_close; asked = l; openers = u.after.openers } })
-        (sym (append_assoc h t.asked (record { question = q; answer = Some found } ∷ [])))
+    answered_after named taken closer t q answer = grind (arith, append_assoc)
 
     ask_after : (named : Named) (taken : Taken) (closer : Bracket) (t : State) → Follows t (ask reader leaf named taken closer t) (ask reader leaf named taken closer (asked_after h t))
     ask_after named taken closer t =
@@ -60,55 +52,27 @@ module _ (h : List Exchange) where
     defined_after None named taken closer t = ask_after named taken closer t
 
     refers_after : (named : Named) (taken : Taken) (closer : Bracket) (t : State) → Follows t (refers reader leaf named taken closer t) (refers reader leaf named taken closer (asked_after h t))
-    refers_after named taken closer t =
-        let found = reader.definition (fold named.label) in
-        by_bool t (t.expansion_left == 0) (Settled (stays reader leaf closer t)) (defined_or_asked reader leaf found named taken closer t)
-        (Settled (stays reader leaf closer (asked_after h t))) (defined_or_asked reader leaf found named taken closer (asked_after h t))
-        (settled t (stays reader leaf closer t) (stays reader leaf closer (asked_after h t)) refl) (defined_after found named taken closer t)
+    refers_after named taken closer t = grind (arith, by_bool, settled, defined_after)
 
     footnote_after : (name : List ℕ) (taken : Taken) (closer : Bracket) (t : State) → Follows t (footnote_reference reader leaf name taken closer t) (footnote_reference reader leaf name taken closer (asked_after h t))
-    footnote_after name taken closer t =
-        let formed : State → Outcome = λ u. forms reader leaf taken (Footnote (normal_form name) closer.end) closer.end (map dropped) u in
-        by_bool t (one_line_footnotes reader leaf && not (reader.has_footnote (fold name))) (Settled (stays reader leaf closer t)) (Settled (formed t))
-        (Settled (stays reader leaf closer (asked_after h t))) (Settled (formed (asked_after h t)))
-        (settled t (stays reader leaf closer t) (stays reader leaf closer (asked_after h t)) refl) (settled t (formed t) (formed (asked_after h t)) refl)
+    footnote_after name taken closer t = grind (arith, by_bool, settled)
 
     own_after : (bytes : List ℕ) (taken : Taken) (closer : Bracket) (t : State) → Follows t (by_own_label reader leaf bytes taken closer t) (by_own_label reader leaf bytes taken closer (asked_after h t))
-    own_after bytes taken closer t =
-        let u = asked_after h t in
-        let name = as_label reader leaf (drop 1 bytes) in
-        let named = collapsed_or_shortcut reader leaf (as_label reader leaf bytes) closer.end (after_collapsed (following reader leaf closer.end)) in
-        let is_label = is_bracketed_label bytes in
-        by_bool t (is_footnote_label reader leaf bytes)
-        (footnote_reference reader leaf name taken closer t) (if is_label then refers reader leaf named taken closer t else Settled (stays reader leaf closer t))
-        (footnote_reference reader leaf name taken closer u) (if is_label then refers reader leaf named taken closer u else Settled (stays reader leaf closer u))
-        (footnote_after name taken closer t)
-        (by_bool t is_label (refers reader leaf named taken closer t) (Settled (stays reader leaf closer t)) (refers reader leaf named taken closer u) (Settled (stays reader leaf closer u))
-        (refers_after named taken closer t) (settled t (stays reader leaf closer t) (stays reader leaf closer u) refl))
+    own_after bytes taken closer t = grind (arith, by_bool, footnote_after, refers_after, settled)
 
     reference_after : (found : Option Parsed) (taken : Taken) (closer : Bracket) (t : State) → Follows t (reference_or reader leaf found taken closer t) (reference_or reader leaf found taken closer (asked_after h t))
     reference_after (Some found) taken closer t =
         let end = place reader leaf found.following in
         refers_after (record { label = as_label reader leaf found.bytes; link_type = Reference; end = end; resume = end }) taken closer
         (record { at = t.at; expansion_left = t.expansion_left; label_close = Some (end - 1); asked = t.asked; openers = t.openers })
-    reference_after None taken closer t =
-        let u = asked_after h t in
-        let bytes = between reader leaf taken.opener.bracket.end closer.start in
-        by_bool t (is_there closer.start t.label_close) (Settled (stays reader leaf closer t)) (by_own_label reader leaf bytes taken closer t)
-        (Settled (stays reader leaf closer u)) (by_own_label reader leaf bytes taken closer u)
-        (settled t (stays reader leaf closer t) (stays reader leaf closer u) refl) (own_after bytes taken closer t)
+    reference_after None taken closer t = search (rules, by_bool, settled, own_after)
 
     link_after : (tail : Option LinkTail) (taken : Taken) (closer : Bracket) (t : State) → Follows t (link_or reader leaf tail taken closer t) (link_or reader leaf tail taken closer (asked_after h t))
     link_after (Some tail) taken closer t = λ all o k. ap (outcome_after h) k
     link_after None taken closer t = reference_after (unless_footnote reader leaf (reference_label_in (following reader leaf closer.end))) taken closer t
 
     taken_after : (taken : Option Taken) (closer : Bracket) (t : State) → Follows t (with_taken reader leaf taken closer t) (with_taken reader leaf taken closer (asked_after h t))
-    taken_after None closer t = settled t (stays reader leaf closer t) (stays reader leaf closer (asked_after h t)) refl
-    taken_after (Some taken) closer t =
-        let u = asked_after h t in
-        let tail = link_tail_in (following reader leaf closer.end) in
-        by_bool t taken.opener.is_inactive (Settled (stays reader leaf closer t)) (link_or reader leaf tail taken closer t) (Settled (stays reader leaf closer u)) (link_or reader leaf tail taken closer u)
-        (settled t (stays reader leaf closer t) (stays reader leaf closer u) refl) (link_after tail taken closer t)
+    taken_after taken closer t = grind (arith, settled, by_bool, link_after)
 
     wikilink_after : (first taken : Option Taken) (closer : Bracket) (t : State) → Follows t (wikilink_or reader leaf first taken closer t) (wikilink_or reader leaf first taken closer (asked_after h t))
     wikilink_after None taken closer t = taken_after taken closer t
@@ -121,12 +85,7 @@ module _ (h : List Exchange) where
         (taken_after taken closer v) (settled t (wikilink reader leaf first closer t) (wikilink reader leaf first closer u) refl)
 
     taking_after : (taken : Option Taken) (closer : Bracket) (t : State) → Follows t (taking reader leaf taken closer t) (taking reader leaf taken closer (asked_after h t))
-    taking_after taken closer t =
-        let u = asked_after h t in
-        by_bool t (reader.options.wikilinks && first_is (λ b. b == 93) (following reader leaf closer.end))
-        (wikilink_or reader leaf (doubled t.openers) taken closer t) (with_taken reader leaf taken closer t)
-        (wikilink_or reader leaf (doubled t.openers) taken closer u) (with_taken reader leaf taken closer u)
-        (wikilink_after (doubled t.openers) taken closer t) (taken_after taken closer t)
+    taking_after taken closer t = grind (arith, by_bool, wikilink_after, taken_after)
 
     decide_after : (s : State) (closer : Bracket) → Follows s (decide reader leaf s closer) (decide reader leaf (asked_after h s) closer)
     unfolding decide

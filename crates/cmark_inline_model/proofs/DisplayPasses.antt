@@ -1,6 +1,6 @@
 -- A wikilink that shows the text after its pipe replaces its slots, with the runs and quotes that remain.
-use Rattle.std.specs.Prelude.{◌-◌, ◌==◌, ◌&&◌, ◌||◌, if◌then◌else◌, drop, take, get_or, Some, None}
-use Rattle.std.proofs.Common.{◌≡◌, true≢false, Bool, true, false, ℕ, zero, suc, ◌+◌, ◌<◌, ◌≤◌, List, [], ◌∷◌, ◌++◌, length, refl, sym, ap, ◌∙◌, subst, arith, append_assoc, append-nil, length-append, length-drop, eqb-true}
+use Rattle.std.specs.Prelude.{◌-◌, drop, take, get_or, Some, None}
+use Rattle.std.proofs.Common.{◌≡◌, Bool, true, false, ℕ, zero, suc, ◌+◌, ◌<◌, ◌≤◌, List, [], ◌∷◌, ◌++◌, length, refl, sym, ap, ◌∙◌, subst, arith, append_assoc, append-nil, length-append, length-drop, eqb-true, rules}
 use Rattle.std.proofs.Math.Seq.{take-add, take-append_seam, drop-append_seam}
 use Rattle.std.proofs.lemmas.List.{drop-drop, get_or-drop}
 use Rattle.cmark_grammar.specs.BracketDecisions.{decide}
@@ -9,7 +9,7 @@ use Rattle.cmark_grammar.specs.BracketStates.{State, Forms}
 use Rattle.cmark_grammar.specs.Emphasis.{Run, Pair, IsEmphasis}
 use Rattle.cmark_grammar.specs.Flanking.{is_delimiter_run}
 use Rattle.cmark_grammar.specs.InlineTokens.{token}
-use Rattle.cmark_grammar.specs.Items.{ItemKind, Plain, Own, Written, Quoted, Delimiters, Autolink, OwnedHtml, FootnoteReference, Item, Bracket, Closes}
+use Rattle.cmark_grammar.specs.Items.{ItemKind, Own, Delimiters, Autolink, FootnoteReference, Item, Bracket, Closes}
 use Rattle.cmark_grammar.specs.LeafReading.{Between, entering}
 use Rattle.cmark_grammar.specs.LeafText.{Leaf, Stretch, InTurn, begin_of, end_of, size_of}
 use Rattle.cmark_grammar.specs.Options.{Options}
@@ -23,17 +23,17 @@ use Rattle.cmark_inline_model.specs.SiblingsModel.{dress, siblings_of}
 use Rattle.cmark_grammar.specs.Spans.{Spans}
 use Rattle.cmark_inline_model.specs.BracketPass.{Pass, closed_by}
 use Rattle.cmark_inline_model.specs.CutRanges.{IsAfterPipe}
-use Rattle.cmark_inline_model.specs.Displays.{hidden_by, shown_from, empty_text, display_slots, display_target, LeavesRuns, LeavesQuotes, CanBeCut, IsCutThere, ShowsLike, CutFacts, CutKind, IsText, OwnedFacts}
+use Rattle.cmark_inline_model.specs.Displays.{hidden_by, empty_text, display_slots, display_target, LeavesRuns, LeavesQuotes, CanBeCut, IsCutThere, ShowsLike, CutFacts}
 use Rattle.cmark_inline_model.specs.LeafModel.{HaveLineEnds}
 use Rattle.cmark_inline_model.specs.LikeSlots.{AreLike}
 use Rattle.cmark_inline_model.specs.PartLists.{join}
 use Rattle.cmark_inline_model.specs.RowParts.{BracketPlace, CutsRow, text_slot, run_before, runs_in, bytes_in, counted}
 use Rattle.cmark_inline_model.specs.RowPasses.{IsReached, linked_slots}
-use Rattle.cmark_inline_model.specs.SlotRows.{Slot, ItemSlot, BeginSlot, EndSlot, NothingSlot, seen, slots_of, LaysOut, marked, marks_by, quoted}
+use Rattle.cmark_inline_model.specs.SlotRows.{Slot, BeginSlot, EndSlot, NothingSlot, seen, slots_of, LaysOut, marked, marks_by, quoted}
 use Rattle.cmark_inline_model.proofs.BracketsSound.{results, split}
 use Rattle.cmark_inline_model.proofs.DisplayRows.{nothings, nothings-append, nothings-length, nothings-seen, Below, From, ExactBy, AreExact, ShowsRow, AreKnown, shows-row, first-shown, none-from}
 use Rattle.cmark_inline_model.proofs.ForwardLaws.{leaf-forward, leaf-ranges}
-use Rattle.cmark_inline_model.proofs.KindViews.{Stays, KindView, AQuote, ARun, AnAutolink, AText, kind-view}
+use Rattle.cmark_inline_model.proofs.KindViews.{Stays, kind-view}
 use Rattle.cmark_inline_model.proofs.LeafPlaces.{leaf-up}
 use Rattle.cmark_inline_model.proofs.LeafSteps.{IsAt, place-first}
 use Rattle.cmark_inline_model.proofs.LikeSlots.{like-quoted, like-marked}
@@ -50,54 +50,21 @@ use Rattle.cmark_inline_model.proofs.WikiGaps.{decide-far, reading-gaps}
 -- ## Runs have their bytes
 
 run-some : (options : Options) (delimiter size : ℕ) → is_delimiter_run options delimiter size ≡ true → 0 < size
-run-some options delimiter zero e = absurd (true≢false (sym e ∙ none))
-  where
-    off : (a b : Bool) → b ≡ false → (a && b) ≡ false
-    off true b e = e
-    off false b e = refl
-
-    four : (a b c d : Bool) → a ≡ false → b ≡ false → c ≡ false → d ≡ false → (a || (b || (c || d))) ≡ false
-    four a b c d e f g h = ap (λ x. x || (b || (c || d))) e ∙ ap (λ x. x || (c || d)) f ∙ ap (λ x. x || d) g ∙ h
-
-    none : is_delimiter_run options delimiter 0 ≡ false
-    none =
-        four _ _ _ _ (off ((delimiter == 42) || (delimiter == 95)) false refl) (off (delimiter == 126) _ (off (options.strikethrough || options.subscript) false refl))
-        (off (delimiter == 94) _ (off options.superscript false refl)) (off (delimiter == 61) _ (off options.highlight false refl))
-run-some options delimiter (suc size) e = omega arith
+run-some options delimiter size e = search rules
 
 abbrev ExactItem : Item → Type 0
 ExactItem x = ExactBy x.kind x.start x.end
 
 module _ (reader : Reader) (leaf : Leaf) where
   items_exact : HoldsOfItems reader leaf ExactBy
-  items_exact = record {
-    plain = λ start end. tt;
-    own = λ start end. tt;
-    written = λ text start end. tt;
-    code = λ text start end. tt;
-    html = λ start end. tt;
-    owned_html = λ bytes start end. tt;
-    soft_break = λ start end. tt;
-    hard_break = λ start end. tt;
-    quoted = λ on quote start end. tt;
-    inline_math = λ on text start end. tt;
-    display_math = λ on text start end. tt;
-    run = λ run start is_run. (refl, run-some reader.options run.delimiter run.run_length is_run);
-    autolink = λ at b bs found here e. tt;
-  }
+  items_exact = grind (arith, run-some)
 
   parts_exact : (s : State) (parts : Parts) (t : State) → Reads (token reader leaf) (decide reader leaf) AnyAnswer s parts t → OfItems ExactItem parts
   parts_exact s parts t h =
       items-hold (token reader leaf) (decide reader leaf) AnyAnswer ExactItem (λ at resume item e. subst (HoldsOf reader leaf ExactBy) e (token-holds reader leaf ExactBy items_exact at)) s parts t h
 
 item_exact : (x : Item) (after : Inline) → ExactItem x → AreExact after → AreExact (item_then x.kind x after)
-item_exact x after u k = go x.kind (kind-view x.kind)
-  where
-    go : (kind : ItemKind) → KindView kind → AreExact (item_then kind x after)
-    go _ (AQuote quote) = (u, k)
-    go _ (ARun run) = (u, k)
-    go _ (AnAutolink uri) = k
-    go _ (AText kind t) = subst AreExact (sym (t.item x after)) (u, k)
+item_exact x after u k = grind (arith, kind-view)
 
 footnote_exact : (is_image : Bool) (start : ℕ) (label : List ℕ) (end : ℕ) (others : Inline) → AreExact others → AreExact (footnote_then is_image start label end others)
 footnote_exact true start label end others k = (tt, (tt, k))
@@ -191,32 +158,7 @@ module _ (Pipe : ℕ → Type 0) where
 
   display_row : (place close from at : ℕ) (siblings : Inline) (rest : List Slot) (bytes quotes : List ℕ) → SiblingOrder Pipe from siblings close → LaysOut at (from_place place siblings) rest bytes quotes
       → DisplayRow place close at siblings rest bytes quotes
-  display_row place close from at siblings rest bytes quotes order laid = go (place == close) refl
-    where
-      empty : Inline
-      empty = Single (item Own place place) Nil
-
-      shown : Bool → Inline
-      shown c = if c then empty else from_place place siblings
-
-      text : Bool → List Slot
-      text c = if c then ItemSlot (item Own place place) ∷ [] else []
-
-      go : (c : Bool) → (place == close) ≡ c → DisplayRow place close at siblings rest bytes quotes
-      go true e =
-          let none : from_place place siblings ≡ Nil = none-from Pipe place siblings from (subst (SiblingOrder Pipe from siblings) (sym (eqb-true place close e)) order) in
-          let l = subst (λ x. LaysOut at x rest bytes quotes) none laid in
-          let is : rest ++ empty_text place close ≡ ItemSlot (item Own place place) ∷ [] = ap (λ r. r ++ empty_text place close) l.0 ∙ ap text e in
-          record {
-            laid = subst (λ x. LaysOut at x (rest ++ empty_text place close) bytes quotes) (sym (ap shown e)) ([], is, (refl, l.1, l.2));
-            runs = ap (λ c. runs_in (shown c)) e ∙ sym (ap runs_in none);
-            quoted = ap (λ c. quotes_of (shown c)) e ∙ sym (ap quotes_of none);
-          }
-      go false e = record {
-        laid = subst (λ x. LaysOut at x (rest ++ empty_text place close) bytes quotes) (sym (ap shown e)) (subst (λ r. LaysOut at (from_place place siblings) r bytes quotes) (sym (ap (λ c. rest ++ text c) e ∙ append-nil rest)) laid);
-        runs = ap (λ c. runs_in (shown c)) e;
-        quoted = ap (λ c. quotes_of (shown c)) e;
-      }
+  display_row place close from at siblings rest bytes quotes order laid = grind (arith, none-from, eqb-true, append-nil)
 
 abbrev IsAutolink : ItemKind → Type 0
 IsAutolink (Autolink uri) = Unit {0}
@@ -268,30 +210,14 @@ module _ (reader : Reader) (leaf : Leaf) (before : Between) (turn : InTurn 0 lea
     UncutAs kind start end = Uncut reader leaf (length reader.source) turn within lines kind start end
 
     not_there : (start end : ℕ) → HaveNoPipe reader leaf (length reader.source) turn within lines start end → start < display → display < end → ⊥
-    not_there start end none a b =
-        let s = pipe.some in
-        let other : (get_or reader.source (display - 1) 0 == 124) ≡ false = none (display - 1) (omega arith) (omega arith) in
-        true≢false (sym (ap (λ b. b == 124) pipe.pipe) ∙ other)
+    not_there start end none a b = grind arith
 
     -- each kind of item but an autolink
     cut_facts : (x : Item) (kind : ItemKind) → x.kind ≡ kind → UncutAs kind x.start x.end → (IsAutolink kind → ⊥) → x.start < display → display < x.end → CutFacts reader.source x
-    cut_facts x (Written text) e u other a b = absurd (not_there x.start x.end u a b)
-    cut_facts x (Delimiters run) e u other a b = absurd (not_there x.start x.end u a b)
-    cut_facts x (Quoted quote) e u other a b = absurd (omega arith)
-    cut_facts x (Autolink uri) e u other a b = absurd (other tt)
-    cut_facts x Plain e u other a b = record { kind = subst CutKind (sym e) tt; text = λ t. u; owned = subst OwnedFacts (sym e) tt }
-    cut_facts x Own e u other a b = record { kind = subst CutKind (sym e) tt; text = λ t. u; owned = subst OwnedFacts (sym e) tt }
-    cut_facts x (OwnedHtml text) e u other a b = record { kind = subst CutKind (sym e) tt; text = λ t. absurd (subst IsText e t); owned = subst OwnedFacts (sym e) u }
-    cut_facts x kind e u other a b = record { kind = subst CutKind (sym e) tt; text = λ t. absurd (subst IsText e t); owned = subst OwnedFacts (sym e) tt }
+    cut_facts x kind e u other a b = grind (arith, not_there)
 
     item_known : (x : Item) (after : Inline) → UncutAs x.kind x.start x.end → Known after → Known (item_then x.kind x after)
-    item_known x after u k = go x.kind (kind-view x.kind) refl u
-      where
-        go : (kind : ItemKind) → KindView kind → x.kind ≡ kind → UncutAs kind x.start x.end → Known (item_then kind x after)
-        go _ (AQuote quote) e v = (cut_facts x (Quoted quote) e v (λ n. n), k)
-        go _ (ARun run) e v = (cut_facts x (Delimiters run) e v (λ n. n), k)
-        go _ (AnAutolink uri) e v = k
-        go _ (AText kind t) e v = subst Known (sym (t.item x after)) (cut_facts x kind e v (no_autolink kind t), k)
+    item_known x after u k = grind (arith, kind-view, cut_facts, no_autolink)
 
     text_known : (start end : ℕ) (after : Inline) → HaveContent reader leaf (length reader.source) turn within lines start end → Known after → Known (Single (item Own start end) after)
     text_known start end after u k = ((λ a b. record { kind = tt; text = λ t. u; owned = tt }), k)
@@ -387,19 +313,10 @@ module _ (reader : Reader) (leaf : Leaf) (before : Between) (turn : InTurn 0 lea
     shown_after = shows.rest ++ empty_text display closer.start
 
     row_is : display_slots (suc place.slot) display closer.start h.row ≡ hidden_front ++ shown_after
-    row_is =
-        ap (λ l. l ++ (shown_from display (drop (suc place.slot) h.row) ++ empty_text display closer.start)) (sym front_is)
-        ∙ ap (λ l. (cut.front ++ text) ++ (shown_from display l ++ empty_text display closer.start)) (sym following_is)
-        ∙ ap (λ l. (cut.front ++ text) ++ (l ++ empty_text display closer.start)) shows.shown
-        ∙ ap (λ l. (cut.front ++ text) ++ l) (nothings-append many shows.rest (empty_text display closer.start) ∙ sym (nothings-append many [] shown_after))
-        ∙ sym (append_assoc (cut.front ++ text) (nothings many []) shown_after)
+    row_is = grind (arith, front_is, following_is, nothings-append, append_assoc, nothings)
 
     front_count : length hidden_front ≡ suc (length cut.front) + many
-    front_count =
-        let a = length-append (cut.front ++ text) (nothings many []) in
-        let b = length-append cut.front text in
-        let c = nothings-length many [] in
-        omega arith
+    front_count = grind (arith, length-append, nothings, nothings-length)
 
     row : DisplayRow Pipe display closer.start (suc (length cut.front) + many) inside shows.rest shows.later_bytes shows.later_quotes
     row = display_row Pipe display closer.start cut.cut.opener.end (suc (length cut.front) + many) inside shows.rest shows.later_bytes shows.later_quotes held.order shows.laid
@@ -438,9 +355,7 @@ module _ (reader : Reader) (leaf : Leaf) (before : Between) (turn : InTurn 0 lea
       bytes_at k = ap bytes_in (take-add place.runs k runs) ∙ bytes_both (take place.runs runs) (take k (drop place.runs runs))
 
       byte_at : (k : ℕ) → get_or bytes (bytes_in (take (place.runs + k) runs)) 0 ≡ get_or (shows.front_bytes ++ shows.later_bytes) (bytes_in (take k (shows.front_runs ++ runs_in (from_place display inside)))) 0
-      byte_at k =
-          ap (λ n. get_or bytes n 0) (bytes_at k) ∙ sym (get_or-drop count bytes (bytes_in (take k (drop place.runs runs))) 0) ∙ ap (λ l. get_or l (bytes_in (take k (drop place.runs runs))) 0) after_bytes
-          ∙ ap (λ l. get_or (shows.front_bytes ++ shows.later_bytes) (bytes_in (take k l)) 0) after_runs
+      byte_at k = grind (arith, bytes_at, get_or-drop, after_bytes, after_runs)
 
       runs_are : (drop more (shows.front_runs ++ runs_in (from_place display inside)) ≡ runs_in (from_place display inside))
           × (drop (bytes_in (take more (shows.front_runs ++ runs_in (from_place display inside)))) (shows.front_bytes ++ shows.later_bytes) ≡ shows.later_bytes)
@@ -503,14 +418,8 @@ module _ (reader : Reader) (leaf : Leaf) (before : Between) (turn : InTurn 0 lea
             subst (λ i. LaysOut i display_siblings shown_after shows.later_bytes shows.later_quotes) (sym front_count) row.laid in
             let s = row-dressed reader.options display_siblings hidden_front shown_after (display_slots (suc place.slot) display closer.start h.row) shows.later_bytes shows.later_quotes (drop left_runs runs) (drop left_quotes quoted_are) row_is laid
             (sym left_runs_are) (sym left_quoted_are) pairs spans e in
-            let same : made (display_slots (suc place.slot) display closer.start h.row) (drop (bytes_in (take left_runs runs)) bytes) (drop left_quotes quotes) (drop left_quotes quoted_are) pairs ≡ hidden_front ++ s.own =
-            ap (λ l. made (display_slots (suc place.slot) display closer.start h.row) l (drop left_quotes quotes) (drop left_quotes quoted_are) pairs) left_bytes_are
-            ∙ ap (λ l. made (display_slots (suc place.slot) display closer.start h.row) shows.later_bytes l (drop left_quotes quoted_are) pairs) left_quotes_are ∙ s.cut in
-            let all : AreLike reader.source written (hidden_front ++ s.own) =
-            subst (AreLike reader.source written) same
-            (like-marked reader.source reader.options (drop (bytes_in (take left_runs runs)) bytes) (marks_by (length (drop (bytes_in (take left_runs runs)) bytes)) pairs) (quoted (drop left_quotes quotes) (quote_characters [] (drop left_quotes quoted_are)) now)
-            (quoted (drop left_quotes quotes) (quote_characters [] (drop left_quotes quoted_are)) (display_slots (suc place.slot) display closer.start h.row)) []
-            (like-quoted reader.source (drop left_quotes quotes) (quote_characters [] (drop left_quotes quoted_are)) now (display_slots (suc place.slot) display closer.start h.row) like)) in
+            let same : made (display_slots (suc place.slot) display closer.start h.row) (drop (bytes_in (take left_runs runs)) bytes) (drop left_quotes quotes) (drop left_quotes quoted_are) pairs ≡ hidden_front ++ s.own = search (rules, left_bytes_are, left_quotes_are) in
+            let all : AreLike reader.source written (hidden_front ++ s.own) = search (rules, like-marked, like-quoted) in
             let own : List Slot = nothings many [] ++ s.own in
             let parted : hidden_front ++ s.own ≡ (cut.front ++ text) ++ own = append_assoc (cut.front ++ text) (nothings many []) s.own in
             let cut_so : AreLike reader.source written ((cut.front ++ text) ++ own) = subst (AreLike reader.source written) parted all in

@@ -1,9 +1,9 @@
 -- If the slots of a row that end by an offset become Nothing, the row is that of the siblings that a wikilink shows from this offset on.
 use Rattle.std.specs.Prelude.{nat_le, if◌then◌else◌, max, get_or}
-use Rattle.std.proofs.Common.{◌≡◌, inl, inr, Bool, true, false, ℕ, zero, suc, ◌+◌, ◌<◌, ◌≤◌, List, [], ◌∷◌, ◌++◌, length, refl, sym, ap, ◌∙◌, subst, arith, append_assoc, length-append}
+use Rattle.std.proofs.Common.{◌≡◌, Bool, true, false, ℕ, zero, suc, ◌+◌, ◌<◌, ◌≤◌, List, [], ◌∷◌, ◌++◌, length, refl, sym, ap, ◌∙◌, subst, arith, append_assoc, length-append, rules}
 use Rattle.std.proofs.lemmas.List.{get_or-append-add}
 use Rattle.cmark_grammar.specs.Emphasis.{Run}
-use Rattle.cmark_grammar.specs.Items.{ItemKind, Own, Quoted, Delimiters, FootnoteReference, Item}
+use Rattle.cmark_grammar.specs.Items.{ItemKind, Quoted, Delimiters, FootnoteReference, Item}
 use Rattle.cmark_grammar.specs.Quotes.{Quote}
 use Rattle.cmark_grammar.specs.Siblings.{Inline, Nil, Single, Around, item, quote_then, quotes_of, from_place}
 use Rattle.cmark_grammar.specs.Tag.{Tag}
@@ -47,18 +47,11 @@ end-by-append place (s ∷ a) b h k = (h.0, end-by-append place a b h.1 k)
 pub shown-hidden : (place : ℕ) (front more : List Slot) → EndBy place front
     → (shown_from place (front ++ more) ≡ nothings (length front) (shown_from place more)) × (hidden_by place (front ++ more) ≡ length front + hidden_by place more)
 shown-hidden place [] more h = (refl, omega arith)
-shown-hidden place (s ∷ front) more h =
-    let i = shown-hidden place front more h.1 in (
-      ap (λ b. if b then NothingSlot ∷ shown_from place (front ++ more) else begun_from place s ∷ (front ++ more)) h.0 ∙ ap (λ l. NothingSlot ∷ l) i.0,
-      ap (λ b. if b then suc (hidden_by place (front ++ more)) else 0) h.0 ∙ ap suc i.1 ∙ (let e : suc (length front + hidden_by place more) ≡ suc (length front) + hidden_by place more = omega arith in e),
-    )
+shown-hidden place (s ∷ front) more h = grind (arith, shown-hidden place front more h.1)
 
 pub shown-kept : (place : ℕ) (slot : Slot) (slots : List Slot) → ends_by place slot ≡ false
     → (shown_from place (slot ∷ slots) ≡ begun_from place slot ∷ slots) × (hidden_by place (slot ∷ slots) ≡ 0)
-shown-kept place slot slots e = (
-  ap (λ b. if b then NothingSlot ∷ shown_from place slots else begun_from place slot ∷ slots) e,
-  ap (λ b. if b then suc (hidden_by place slots) else 0) e,
-)
+shown-kept place slot slots e = grind arith
 
 -- ## Places before one, and from one on
 
@@ -95,25 +88,12 @@ abbrev StandFrom : Inline → Type 0
 StandFrom x = (at : ℕ) (s : List Slot) (b q : List ℕ) → LaysOut at x s b q → From at b × From at q
 
 item-from : (kind : ItemKind) (x : Item) (after : Inline) → StandFrom after → (at : ℕ) (s : List Slot) (b q : List ℕ) → LaysItem kind x (λ i j k l. LaysOut i after j k l) at s b q → From at b × From at q
-item-from (Delimiters run) x after ih at s b q h =
-    let i = ih (at + run.run_length) h.0 h.1 q h.4 in
-    (subst (From at) (sym h.3) (places-from at at run.run_length h.1 (omega arith) (from-less at (at + run.run_length) h.1 (omega arith) i.0)), from-less at (at + run.run_length) q (omega arith) i.1)
-item-from (Quoted quote) x after ih at s b q h =
-    let i = ih (suc at) h.0 b h.1 h.4 in
-    (from-less at (suc at) b (omega arith) i.0, subst (From at) (sym h.3) (omega arith, from-less at (suc at) h.1 (omega arith) i.1))
-item-from (FootnoteReference label) x after ih at s b q h =
-    let i = ih (at + (length h.0 + 1)) h.1 b q h.4 in
-    (from-less at (at + (length h.0 + 1)) b (omega arith) i.0, from-less at (at + (length h.0 + 1)) q (omega arith) i.1)
-item-from kind x after ih at s b q h =
-    let i = ih (suc at) h.0 b q h.2 in
-    (from-less at (suc at) b (omega arith) i.0, from-less at (suc at) q (omega arith) i.1)
+item-from kind x after ih at s b q h = grind (arith, places-from, from-less)
 
 lays-from : (x : Inline) → StandFrom x
 lays-from Nil at s b q h = (subst (From at) (sym h.1) tt, subst (From at) (sym h.2) tt)
 lays-from (Single x after) at s b q h = item-from x.kind x after (lays-from after) at s b q h
-lays-from (Around tag start end inside after) at s b q h =
-    let i = lays-from after (at + (length h.0 + 2)) h.1 b q h.4 in
-    (from-less at (at + (length h.0 + 2)) b (omega arith) i.0, from-less at (at + (length h.0 + 2)) q (omega arith) i.1)
+lays-from (Around tag start end inside after) at s b q h = search (rules, from-less, lays-from after (at + (length h.0 + 2)) h.1 b q h.4)
 
 -- ## Siblings
 
@@ -352,28 +332,7 @@ KeptItem kind x place After at s b q = LaysItem kind (from_there place x) After 
 
 kept-run : (run : Run) (x : Item) (place : ℕ) (After : ℕ → List Slot → List ℕ → List ℕ → Type 0) → place ≤ x.start → 0 < run.run_length → (at : ℕ) (s : List Slot) (b q : List ℕ) → LaysItem (Delimiters run) x After at s b q
     → KeptItem (Delimiters run) x place After at s b q
-kept-run run x place After le some at s b q h = go run.run_length refl
-  where
-    same : max x.start place ≡ x.start
-    same = omega arith
-
-    late : nat_le (suc x.start) place ≡ false
-    late = grind (arith)
-
-    go : (n : ℕ) → run.run_length ≡ n → KeptItem (Delimiters run) x place After at s b q
-    go zero e = absurd (omega arith)
-    go (suc n) e =
-        let is : s ≡ ItemSlot (item Own x.start (suc x.start)) ∷ run_slots (suc x.start) n h.0 = h.2 ∙ ap (λ m. run_slots x.start m h.0) e in
-        let k = shown-kept place (ItemSlot (item Own x.start (suc x.start))) (run_slots (suc x.start) n h.0) late in (
-          (
-            h.0,
-            h.1,
-            ap (shown_from place) is ∙ k.0 ∙ ap (λ m. ItemSlot (item Own m (suc x.start)) ∷ run_slots (suc x.start) n h.0) same ∙ ap (λ m. run_slots x.start m h.0) (sym e) ∙ ap (λ m. run_slots m run.run_length h.0) (sym same),
-            h.3,
-            h.4,
-          ),
-          ap (hidden_by place) is ∙ k.1,
-        )
+kept-run run x place After le some at s b q h = grind (arith, shown-kept)
 
 kept-item : (kind : ItemKind) (x : Item) (place : ℕ) (After : ℕ → List Slot → List ℕ → List ℕ → Type 0) → nat_le x.end place ≡ false → FreeBy kind place x.start x.end → ExactBy kind x.start x.end
     → (at : ℕ) (s : List Slot) (b q : List ℕ) → LaysItem kind x After at s b q → KeptItem kind x place After at s b q
@@ -384,15 +343,9 @@ kept-item (Delimiters run) x place After le free ex at s b q h =
     early : (c : Bool) → nat_le place x.start ≡ c → place ≤ x.start
     early true e = grind (arith)
     early false e = let l : place < x.end = grind (arith) in absurd (free (let r : x.start < place = grind (arith) in r) (omega arith))
-kept-item (Quoted quote) x place After le free ex at s b q h =
-    let k = shown-kept place (ItemSlot x) h.0 le in
-    ((h.0, h.1, ap (shown_from place) h.2 ∙ k.0, h.3, h.4), ap (hidden_by place) h.2 ∙ k.1)
-kept-item (FootnoteReference label) x place After le free ex at s b q h =
-    let k = shown-kept place (ItemSlot x) (h.0 ++ h.1) le in
-    ((h.0, h.1, h.2, ap (shown_from place) h.3 ∙ k.0, h.4), ap (hidden_by place) h.3 ∙ k.1)
-kept-item kind x place After le free ex at s b q h =
-    let k = shown-kept place (ItemSlot x) h.0 le in
-    ((h.0, ap (shown_from place) h.1 ∙ k.0, h.2), ap (hidden_by place) h.1 ∙ k.1)
+kept-item (Quoted quote) x place After le free ex at s b q h = grind (arith, shown-kept)
+kept-item (FootnoteReference label) x place After le free ex at s b q h = grind (arith, shown-kept)
+kept-item kind x place After le free ex at s b q h = grind (arith, shown-kept)
 
 -- ## Elements
 
@@ -407,9 +360,7 @@ slots-end place (NothingSlot ∷ slots) h = (refl, slots-end place slots h)
 module _ (Pipe : ℕ → Type 0) where
   spans-end : (place : ℕ) (spans : Inline) (from to : ℕ) → InlineOrder Pipe from spans to → to ≤ place → EndBy place (slots_of spans)
   spans-end place Nil from to h e = tt
-  spans-end place (Single x after) from to h e =
-      let u = inline-up Pipe x.end after to h.2 in
-      ((let q : nat_le x.end place ≡ true = grind (arith) in q), spans-end place after x.end to h.2 e)
+  spans-end place (Single x after) from to h e = grind (arith, inline-up, spans-end place after x.end to h.2 e)
   spans-end place (Around tag start end inside after) from to h e =
       let u = inline-up Pipe end after to h.5 in (
         (let q : nat_le end place ≡ true = grind (arith) in q),
@@ -444,9 +395,7 @@ module _ (Pipe : ℕ → Type 0) where
 
   pub shows-row : (place : ℕ) (siblings : Inline) (from to : ℕ) → SiblingOrder Pipe from siblings to → IsFree place siblings → AreExact siblings
       → (at : ℕ) (s : List Slot) (b q : List ℕ) → LaysOut at siblings s b q → ShowsRow place at siblings s b q
-  shows-row place Nil from to order free ex at s b q h =
-      let none : hidden_by place s ≡ 0 = ap (hidden_by place) h.0 in
-      all-kept place at Nil s b q none h refl refl (ap (shown_from place) h.0, h.1, h.2)
+  shows-row place Nil from to order free ex at s b q h = grind (arith, all-kept)
   shows-row place (Single x after) from to order free ex at s b q h =
       go (nat_le x.end place) refl (λ p. shows-row place after x.end to order.3 free.1 ex.1 (at + length p.front) p.more p.more_bytes p.more_quotes p.after)
     where
@@ -458,10 +407,7 @@ module _ (Pipe : ℕ → Type 0) where
       go true e ih =
           let p = hidden-item x.kind x place (λ i j k l. LaysOut i after j k l) e ex.0 at s b q h in
           following-hidden place at (Single x after) after s b q (run_of x.kind) (quote_of x.kind) p (ap cut e) (run-front x.kind (runs_in after)) (quote-front x.kind (quotes_of after)) (ih p)
-      go false e ih =
-          let k = kept-item x.kind x place (λ i j k l. LaysOut i after j k l) e free.0 ex.0 at s b q h in
-          let is : from_place place (Single x after) ≡ Single (from_there place x) after = ap cut e in
-          all-kept place at (Single x after) s b q k.1 h (ap runs_in is) (ap quotes_of is) (subst (λ l. LaysOut at l (shown_from place s) b q) (sym is) k.0)
+      go false e ih = grind (arith, kept-item, cut, all-kept)
   shows-row place (Around tag start end inside after) from to order free ex at s b q h =
       go (nat_le end place) refl (λ p. shows-row place after end to order.5 free ex (at + length p.front) p.more p.more_bytes p.more_quotes p.after)
     where
@@ -473,11 +419,7 @@ module _ (Pipe : ℕ → Type 0) where
       go true e ih =
           let p = hidden-element place at tag start end inside after order.0 order.4 e s b q h in
           following-hidden place at (Around tag start end inside after) after s b q [] [] p (ap cut e) refl refl (ih p)
-      go false e ih =
-          let k = shown-kept place (BeginSlot tag start end) (h.0 ++ (EndSlot ∷ h.1)) e in
-          let is : from_place place (Around tag start end inside after) ≡ Around tag (max start place) end inside after = ap cut e in
-          all-kept place at (Around tag start end inside after) s b q (ap (hidden_by place) h.3 ∙ k.1) h (ap runs_in is) (ap quotes_of is)
-          (subst (λ l. LaysOut at l (shown_from place s) b q) (sym is) (h.0, h.1, h.2, ap (shown_from place) h.3 ∙ k.0, h.4))
+      go false e ih = grind (arith, shown-kept, cut, all-kept)
 
   -- ## The first slot that is shown
 
@@ -505,11 +447,7 @@ module _ (Pipe : ℕ → Type 0) where
     first-here place slot more row e n h = λ lt. subst (CanBeCut source place) (sym (ap (λ r. get_or r 0 NothingSlot) e) ∙ ap (λ i. get_or row i NothingSlot) (sym n)) h
 
     known-cut : (place : ℕ) (x : Item) → nat_le x.end place ≡ false → IsKnown place x → CanBeCut source place (ItemSlot x)
-    known-cut place x e known = go (nat_le place x.start) refl
-      where
-        go : (c : Bool) → nat_le place x.start ≡ c → CanBeCut source place (ItemSlot x)
-        go true f = inl (grind (arith))
-        go false f = inr (known (grind (arith)) (grind (arith)))
+    known-cut place x e known = grind arith
 
     first-item : (kind : ItemKind) (x : Item) (place : ℕ) (After : ℕ → List Slot → List ℕ → List ℕ → Type 0) → nat_le x.end place ≡ false → FreeBy kind place x.start x.end → ExactBy kind x.start x.end → IsKnown place x
         → (at : ℕ) (s : List Slot) (b q : List ℕ) → LaysItem kind x After at s b q → IsFirst place s
@@ -521,9 +459,7 @@ module _ (Pipe : ℕ → Type 0) where
 
         go : (n : ℕ) → run.run_length ≡ n → IsFirst place s
         go zero f = absurd (let z = ex.1 in omega arith)
-        go (suc n) f =
-            let k = kept-run run x place After (early (nat_le place x.start) refl) ex.1 at s b q h in
-            first-here place (ItemSlot (item Own x.start (suc x.start))) (run_slots (suc x.start) n h.0) s (h.2 ∙ ap (λ m. run_slots x.start m h.0) f) k.1 (inl (early (nat_le place x.start) refl))
+        go (suc n) f = grind (arith, kept-run, early, first-here)
     first-item (Quoted quote) x place After e free ex known at s b q h = first-here place (ItemSlot x) h.0 s h.2 (ap (hidden_by place) h.2 ∙ (shown-kept place (ItemSlot x) h.0 e).1) (known-cut place x e known)
     first-item (FootnoteReference label) x place After e free ex known at s b q h = first-here place (ItemSlot x) (h.0 ++ h.1) s h.3 (ap (hidden_by place) h.3 ∙ (shown-kept place (ItemSlot x) (h.0 ++ h.1) e).1) (known-cut place x e known)
     first-item kind x place After e free ex known at s b q h = first-here place (ItemSlot x) h.0 s h.1 (ap (hidden_by place) h.1 ∙ (shown-kept place (ItemSlot x) h.0 e).1) (known-cut place x e known)
@@ -558,11 +494,5 @@ module _ (Pipe : ℕ → Type 0) where
   -- after all siblings no sibling is shown
   pub none-from : (place : ℕ) (siblings : Inline) (from : ℕ) → SiblingOrder Pipe from siblings place → from_place place siblings ≡ Nil
   none-from place Nil from order = refl
-  none-from place (Single x after) from order =
-      let u = sibling-up x.end after place order.3 in
-      let le : nat_le x.end place ≡ true = grind (arith) in
-      ap (λ c. if c then from_place place after else Single (from_there place x) after) le ∙ none-from place after x.end order.3
-  none-from place (Around tag start end inside after) from order =
-      let u = sibling-up end after place order.5 in
-      let le : nat_le end place ≡ true = grind (arith) in
-      ap (λ c. if c then from_place place after else Around tag (max start place) end inside after) le ∙ none-from place after end order.5
+  none-from place (Single x after) from order = grind (arith, sibling-up, none-from place after x.end order.3)
+  none-from place (Around tag start end inside after) from order = grind (arith, sibling-up, none-from place after end order.5)

@@ -1,10 +1,10 @@
 -- A document with its spans has a reading for each plan of answers, and only one for each list of answers.
-use Rattle.std.proofs.Common.{◌≡◌, ℕ, List, [], ◌∷◌, ◌++◌, refl, sym, ap, ◌∙◌, subst, append_assoc, append-nil}
+use Rattle.std.proofs.Common.{◌≡◌, ℕ, List, [], ◌∷◌, ◌++◌, refl, sym, ap, ◌∙◌, subst, append_assoc, append-nil, arith}
 use Rattle.cmark_grammar.specs.BlockDocument.{BlockDocument}
 use Rattle.cmark_grammar.specs.BracketDecisions.{decide}
 use Rattle.cmark_grammar.specs.Event.{Ranged}
 use Rattle.cmark_grammar.specs.InlineTokens.{token}
-use Rattle.cmark_grammar.specs.LeafReading.{Between, entering, ReadsLeaf}
+use Rattle.cmark_grammar.specs.LeafReading.{Between, ReadsLeaf}
 use Rattle.cmark_grammar.specs.LeafText.{Leaf, end_of, InTurn}
 use Rattle.cmark_grammar.specs.Questions.{Exchange, Saying, Plan, ByPlan, IsNext}
 use Rattle.cmark_grammar.specs.Readers.{Reader}
@@ -29,9 +29,7 @@ module _ (reader : Reader) (recorded : (leaf : Leaf) → IsRecorded (decide read
   Grows before after = (more : List Exchange) × (after.asked ≡ before.asked ++ more)
 
   leaf_grows : (leaf : Leaf) (before after : Between) (events : List Ranged) → ReadsLeaf reader Says leaf before events after → Grows before after
-  leaf_grows leaf before after events h =
-      let k = reads-add (token reader leaf) (decide reader leaf) Says (recorded leaf) (entering leaf before) h.parts h.last h.reads.reads in
-      (k.0, ap (λ (b : Between). b.asked) h.after_is ∙ k.1)
+  leaf_grows leaf before after events h = grind (arith, reads-add)
 
   pub all-grow : (others : List Segment) (before after : Between) (events : List Ranged) → ReadsAll reader Says others before events after → Grows before after
   all-grow [] before after events h = ([], ap (λ (b : Between). b.asked) h.1 ∙ sym (append-nil before.asked))
@@ -65,6 +63,4 @@ reading-one text profile all first second h k =
   where
     go : (a b : BlockDocument) → a ≡ b → ReadsAll (reader_of text profile a) (IsNext all) (segments a) (at_start profile) first h.after
         → ReadsAll (reader_of text profile b) (IsNext all) (segments b) (at_start profile) second k.after → first ≡ second
-    go a b e r s =
-        all-same (reader_of text profile b) all (segments b) (at_start profile) first second h.after k.after
-        (subst (λ x. ReadsAll (reader_of text profile x) (IsNext all) (segments x) (at_start profile) first h.after) e r) s
+    go a b e r s = grind (arith, all-same)

@@ -1,5 +1,5 @@
 -- The definition leaves one list of pairs, and one list of spans.
-use Rattle.std.proofs.Common.{◌≡◌, true, false, List, [], ◌∷◌, ◌++◌, refl, sym, ap, ◌∙◌, subst}
+use Rattle.std.proofs.Common.{◌≡◌, true, false, List, [], ◌∷◌, ◌++◌, refl, sym, ap, ◌∙◌, subst, arith}
 use Rattle.cmark_grammar.specs.Spans.{Spans, Nil, Single}
 use Rattle.cmark_grammar.specs.Emphasis.{Run, Pair, Sibling, Plain, Delimiter, Piece, Whole, Standing, agrees, pair_of, rest_of_opener, rest_of_closer, wrapped, row, keep, stand, Misses, Closes, Pairs, IsEmphasis}
 use Rattle.cmark_inline_model.specs.EmphasisModel.{closed, resolve, pairs_of, spans_of}
@@ -29,11 +29,7 @@ one_course (m ∷ ms) (n ∷ ns) c d e ps qs rs h k =
     let s = one_cut c h.opener k.opener h.between k.between h.front k.front h.nearest k.nearest h.agree k.agree (sym h.cut ∙ k.cut) in
     let p : m ≡ n = h.is ∙ ap (λ o. pair_of o c) s.1 ∙ sym k.is in
     let l : rest_of_closer k.opener c ≡ rest_of_closer h.opener c = ap (λ o. rest_of_closer o c) (sym s.1) in
-    let w : (Whole (wrapped n (row k.between Nil)) ∷ keep (rest_of_opener k.opener c) k.front) ≡ (Whole (wrapped m (row h.between Nil)) ∷ keep (rest_of_opener h.opener c) h.front) =
-    ap (λ x. Whole (wrapped x (row k.between Nil)) ∷ keep (rest_of_opener k.opener c) k.front) (sym p)
-    ∙ ap (λ b. Whole (wrapped m (row b Nil)) ∷ keep (rest_of_opener k.opener c) k.front) (sym s.0)
-    ∙ ap (λ o. Whole (wrapped m (row h.between Nil)) ∷ keep (rest_of_opener o c) k.front) (sym s.1)
-    ∙ ap (λ f. Whole (wrapped m (row h.between Nil)) ∷ keep (rest_of_opener h.opener c) f) (sym s.2) in
+    let w : (Whole (wrapped n (row k.between Nil)) ∷ keep (rest_of_opener k.opener c) k.front) ≡ (Whole (wrapped m (row h.between Nil)) ∷ keep (rest_of_opener h.opener c) h.front) = cc in
     let i = one_course ms ns (rest_of_closer h.opener c) d e (Whole (wrapped m (row h.between Nil)) ∷ keep (rest_of_opener h.opener c) h.front) qs rs h.so (subst (λ xs. Closes (rest_of_closer h.opener c) xs ns e rs) w (subst (λ x. Closes x (Whole (wrapped n (row k.between Nil)) ∷ keep (rest_of_opener k.opener c) k.front) ns e rs) l k.so)) in
     (ap (λ x. x ∷ ms) p ∙ ap (λ l. n ∷ l) i.0, i.1, i.2)
 
@@ -47,6 +43,4 @@ one_result (Delimiter c ∷ ts) ps qs pairs h =
     (h.cut ∙ ap (λ m. m ++ h.others) s.0 ∙ ap (λ o. (closed c ps).pairs ++ o) i.0, i.1)
 
 pub one : (ts : List Sibling) (pairs : List Pair) (f : Spans) → IsEmphasis ts pairs f → (pairs ≡ pairs_of ts) × (f ≡ spans_of ts)
-one ts pairs f h =
-    let i = one_result ts [] h.last pairs h.are in
-    (i.0, h.become ∙ ap (λ ps. row ps Nil) i.1)
+one ts pairs f h = grind (arith, one_result)

@@ -1,16 +1,12 @@
 -- The model's pairs and spans are those of the definition.
-use Rattle.std.proofs.Common.{◌≡◌, ◌⊎◌, inl, inr, ◌-◌, Bool, true, false, ◌&&◌, nat_lt, List, [], ◌∷◌, ◌++◌, Option, Some, None, refl, sym, subst, arith, append_assoc}
+use Rattle.std.proofs.Common.{◌≡◌, ◌⊎◌, ◌-◌, Bool, true, false, nat_lt, List, [], ◌∷◌, ◌++◌, Option, Some, None, refl, arith, append_assoc, rules}
 use Rattle.cmark_grammar.specs.Spans.{Spans, Nil, Single}
-use Rattle.cmark_grammar.specs.Emphasis.{Run, Sibling, Plain, Delimiter, Piece, Whole, Standing, agrees, paired_count, pair_of, rest_of_opener, rest_of_closer, wrapped, before, row, keep, left_open, stand, Misses, Closes, Pairs, IsEmphasis}
+use Rattle.cmark_grammar.specs.Emphasis.{Run, Sibling, Plain, Delimiter, Piece, Whole, Standing, agrees, pair_of, rest_of_opener, rest_of_closer, wrapped, before, row, keep, left_open, stand, Misses, Closes, Pairs, IsEmphasis}
 use Rattle.cmark_inline_model.specs.EmphasisModel.{Closed, paired, close, or_none, closed, resolve, pairs_of, spans_of}
 
 pub agrees-empty : (o c : Run) → c.left ≡ 0 → agrees o c ≡ false
 unfolding agrees
-agrees-empty o c e = rw e (go c.closes)
-  where
-    go : (b : Bool) → (b && false) ≡ false
-    go true = refl
-    go false = refl
+agrees-empty o c e = grind arith
 
 pub misses-empty : (c : Run) (ps : List Piece) → c.left ≡ 0 → Misses c ps
 misses-empty c [] e = tt
@@ -35,11 +31,7 @@ close-empty c (Standing o ∷ ps) inside e =
 -- either the opener or the closer is used up
 pub one_empty : (o c : Run) → ((rest_of_opener o c).left ≡ 0) ⊎ ((rest_of_closer o c).left ≡ 0)
 unfolding rest_of_opener rest_of_closer
-one_empty o c = go (nat_lt o.left c.left) refl
-  where
-    go : (b : Bool) → nat_lt o.left c.left ≡ b → (o.left - paired_count o c ≡ 0) ⊎ (c.left - paired_count o c ≡ 0)
-    go true e = inl (rw e (omega arith))
-    go false e = inr (rw e (omega arith))
+one_empty o c = grind (arith, nat_lt)
 
 pub keep-empty : (o : Run) (ps : List Piece) → o.left ≡ 0 → keep o ps ≡ ps
 keep-empty o ps e = rw e refl
@@ -50,21 +42,14 @@ Comes c ps None = Misses c ps
 Comes c ps (Some d) = Closes c ps d.pairs d.rest d.pieces
 
 comes_kept : (o c : Run) (w : Spans) (ps : List Piece) (inside : Spans) → Comes (rest_of_closer o c) (Whole w ∷ ps) (close (rest_of_closer o c) ps inside) → Comes (rest_of_closer o c) (Whole w ∷ keep (rest_of_opener o c) ps) (close (rest_of_closer o c) ps inside)
-comes_kept o c w ps inside h = go (one_empty o c)
-  where
-    go : ((rest_of_opener o c).left ≡ 0) ⊎ ((rest_of_closer o c).left ≡ 0) → Comes (rest_of_closer o c) (Whole w ∷ keep (rest_of_opener o c) ps) (close (rest_of_closer o c) ps inside)
-    go (inl e) = subst (λ qs. Comes (rest_of_closer o c) (Whole w ∷ qs) (close (rest_of_closer o c) ps inside)) (sym (keep-empty (rest_of_opener o c) ps e)) h
-    go (inr e) = subst (λ r. Comes (rest_of_closer o c) (Whole w ∷ keep (rest_of_opener o c) ps) r) (sym (close-empty (rest_of_closer o c) ps inside e)) (misses-empty (rest_of_closer o c) (Whole w ∷ keep (rest_of_opener o c) ps) e)
+comes_kept o c w ps inside h = grind (arith, one_empty, keep-empty, close-empty, misses-empty)
 
 abbrev stops_at : Run → Run → Spans → List Piece → Closed
 stops_at o c inside ps = record { rest = rest_of_closer o c; pieces = left_open (rest_of_closer o c) (Whole (wrapped (pair_of o c) inside) ∷ keep (rest_of_opener o c) ps); pairs = pair_of o c ∷ [] }
 
 pub comes : (c : Run) (passed ps : List Piece) → Misses c passed → Comes c (passed ++ ps) (close c ps (row passed Nil))
 comes c passed [] m = misses-append c passed [] m tt
-comes c passed (Whole f ∷ ps) m =
-    let h = comes c (passed ++ Whole f ∷ []) ps (misses-append c passed (Whole f ∷ []) m tt) in
-    subst (λ g. Comes c (passed ++ (Whole f ∷ ps)) (close c ps g)) (row-snoc passed (Whole f) Nil)
-    (subst (λ qs. Comes c qs (close c ps (row (passed ++ Whole f ∷ []) Nil))) (append_assoc passed (Whole f ∷ []) ps) h)
+comes c passed (Whole f ∷ ps) m = search (rules, misses-append, row-snoc, append_assoc, comes c (passed ++ Whole f ∷ []) ps (misses-append c passed (Whole f ∷ []) m tt))
 comes c passed (Standing o ∷ ps) m =
     go (agrees o c) refl
     (λ e. comes c (passed ++ Standing o ∷ []) ps (misses-append c passed (Standing o ∷ []) m (e, tt)))
@@ -76,10 +61,7 @@ comes c passed (Standing o ∷ ps) m =
 
     go : (b : Bool) → agrees o c ≡ b → (agrees o c ≡ false → Comes c ((passed ++ Standing o ∷ []) ++ ps) (close c ps (row (passed ++ Standing o ∷ []) Nil))) → Comes (rest_of_closer o c) (Whole (wrapped (pair_of o c) (row passed Nil)) ∷ ps) (close (rest_of_closer o c) ps (before (Whole (wrapped (pair_of o c) (row passed Nil))) Nil)) → Comes c (passed ++ (Standing o ∷ ps)) (close c (Standing o ∷ ps) (row passed Nil))
     go true e pass on = rw e (take _ e (comes_kept o c (wrapped (pair_of o c) (row passed Nil)) ps (before (Whole (wrapped (pair_of o c) (row passed Nil))) Nil) on))
-    go false e pass on =
-        rw e
-        (subst (λ g. Comes c (passed ++ (Standing o ∷ ps)) (close c ps g)) (row-snoc passed (Standing o) Nil)
-        (subst (λ qs. Comes c qs (close c ps (row (passed ++ Standing o ∷ []) Nil))) (append_assoc passed (Standing o ∷ []) ps) (pass e)))
+    go false e pass on = grind (arith, row-snoc, append_assoc)
 
 pub closed-closes : (c : Run) (ps : List Piece) → Closes c ps (closed c ps).pairs (closed c ps).rest (closed c ps).pieces
 unfolding closed
@@ -92,15 +74,7 @@ closed-closes c ps = go (close c ps Nil) (comes c [] ps tt)
 pub resolve-pairs : (ts : List Sibling) (ps : List Piece) → Pairs ts ps (resolve ts ps).pairs (resolve ts ps).pieces
 resolve-pairs [] ps = (refl, refl)
 resolve-pairs (Plain at ∷ ts) ps = resolve-pairs ts (Whole (Single at Nil) ∷ ps)
-resolve-pairs (Delimiter c ∷ ts) ps = record {
-  own = (closed c ps).pairs;
-  others = (resolve ts (stand (closed c ps).rest (closed c ps).pieces)).pairs;
-  rest = (closed c ps).rest;
-  now = (closed c ps).pieces;
-  cut = refl;
-  closes = closed-closes c ps;
-  so = resolve-pairs ts (stand (closed c ps).rest (closed c ps).pieces);
-}
+resolve-pairs (Delimiter c ∷ ts) ps = search (rules, closed-closes, resolve-pairs ts (stand (closed c ps).rest (closed c ps).pieces))
 
 pub sound : (ts : List Sibling) → IsEmphasis ts (pairs_of ts) (spans_of ts)
 sound ts = record { last = (resolve ts []).pieces; are = resolve-pairs ts []; become = refl }

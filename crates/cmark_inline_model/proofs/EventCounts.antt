@@ -1,9 +1,9 @@
 -- The number of events of a text: those of its blocks, and at most three for each byte of a leaf.
-use Rattle.std.specs.Prelude.{if◌then◌else◌, get_or, nat_le, ◌==◌, max, drop, encode_utf8}
+use Rattle.std.specs.Prelude.{if◌then◌else◌, get_or, drop, encode_utf8}
 use Rattle.std.proofs.Common.{◌≡◌, ℕ, zero, suc, ◌+◌, ◌*◌, ◌<◌, ◌≤◌, Bool, true, false, List, [], ◌∷◌, ◌++◌, length, refl, ap, ◌∙◌, arith, Some, None}
 use Rattle.std.proofs.lemmas.List.{length-append}
 use Rattle.cmark_grammar.specs.BlockDocument.{BlockKind, BlockNode, BlockDocument, Nil as NoNodes, Node}
-use Rattle.cmark_grammar.specs.BlockReading.{Reads as ReadsAs, Around as AroundNode, Inside, First, first_event, is_leaf, read_as, over, starts_before}
+use Rattle.cmark_grammar.specs.BlockReading.{Reads as ReadsAs, Around as AroundNode, first_event, over}
 use Rattle.cmark_grammar.specs.BracketDecisions.{decide}
 use Rattle.cmark_grammar.specs.BracketReading.{Reads}
 use Rattle.cmark_grammar.specs.BracketStates.{State, StaysText, Forms, moved, opened}
@@ -12,7 +12,7 @@ use Rattle.cmark_inline_model.specs.EmphasisModel.{pairs_of, spans_of}
 use Rattle.cmark_grammar.specs.Event.{End, Ranged}
 use Rattle.cmark_grammar.specs.InlineReading.{inline_events}
 use Rattle.cmark_grammar.specs.InlineTokens.{token}
-use Rattle.cmark_grammar.specs.Items.{ItemKind, Plain, Own, Written, Quoted, Delimiters, Code, InlineMath, DisplayMath, Autolink, Html, OwnedHtml, FootnoteReference, SoftBreak, HardBreak, Item, Bracket}
+use Rattle.cmark_grammar.specs.Items.{ItemKind, Written, Delimiters, Item, Bracket}
 use Rattle.cmark_grammar.specs.LeafReading.{Between, entering, ReadsLeaf}
 use Rattle.cmark_grammar.specs.LeafText.{Leaf, InTurn, end_of}
 use Rattle.cmark_grammar.specs.Options.{Options}
@@ -24,7 +24,7 @@ use Rattle.cmark_grammar.specs.Readers.{Reader}
 use Rattle.cmark_grammar.specs.Siblings.{Inline, Nil, Single, Around, item, quote_as, with_characters, with_quotes, item_then, footnote_then, from_place, display_from, quotes_of}
 use Rattle.cmark_inline_model.specs.RunSpans.{runs_from}
 use Rattle.cmark_inline_model.specs.SiblingsModel.{dress, siblings_of, spans_in}
-use Rattle.cmark_grammar.specs.SpanDocuments.{Segment, Given, Content, IsReading, Profile, ReadsAll, at_start, first_of_segments, inside_of, leaf_of, node_segments, reader_of, segments, with_first_segment}
+use Rattle.cmark_grammar.specs.SpanDocuments.{Segment, Given, Content, IsReading, Profile, ReadsAll, at_start, first_of_segments, leaf_of, node_segments, reader_of, segments, with_first_segment}
 use Rattle.cmark_grammar.specs.TagEnd.{end_of as end_of_tag}
 use Rattle.cmark_block_model.proofs.CountLaws.{derived-count}
 use Rattle.cmark_inline_model.proofs.EmphasisSound.{sound}
@@ -44,7 +44,6 @@ use Rattle.cmark_inline_model.proofs.ReadingLaws.{reading-stands}
 use Rattle.cmark_inline_model.proofs.SiblingsOne.{spans-one}
 use Rattle.cmark_inline_model.proofs.SlotCells.{laid-out}
 use Rattle.cmark_inline_model.proofs.SlotLaws.{marks-make}
-use Rattle.cmark_inline_model.proofs.SpanRanges.{Fills}
 use Rattle.cmark_inline_model.proofs.TokenItems.{OfItems}
 
 -- ## Spans have no more events than their siblings have slots
@@ -52,12 +51,7 @@ use Rattle.cmark_inline_model.proofs.TokenItems.{OfItems}
 events-slots : (source : List ℕ) (spans : Inline) → length (inline_events source spans) ≡ length (slots_of spans)
 events-slots source Nil = refl
 events-slots source (Single x after) = let i = events-slots source after in omega arith
-events-slots source (Around tag start end inside after) =
-    let i = events-slots source inside in
-    let a = events-slots source after in
-    let e = length-append (slots_of inside) (EndSlot ∷ slots_of after) in
-    let f = length-append (inline_events source inside) (record { event = End (end_of_tag tag); start = start; end = end } ∷ inline_events source after) in
-    omega arith
+events-slots source (Around tag start end inside after) = grind (arith, length-append, events-slots source inside, events-slots source after)
 
 seen-few : (slots : List Slot) → length (seen slots) ≤ length slots
 seen-few [] = omega arith
@@ -87,11 +81,7 @@ around-size inside after = let e = length-append (slots_of inside) (EndSlot ∷ 
 
 quoted-size : (siblings : Inline) (cs : List ℕ) → size (with_characters siblings cs) ≡ size siblings
 quoted-size Nil cs = refl
-quoted-size (Around tag start end inside after) cs =
-    let i = quoted-size after cs in
-    let a = around-size inside (row_of (with_characters after cs)) in
-    let b = around-size inside (row_of after) in
-    omega arith
+quoted-size (Around tag start end inside after) cs = grind (arith, around-size, quoted-size after cs)
 quoted-size (Single x after) cs =
     let a = item-size x.kind x (row_of (with_characters after cs)) in
     let b = item-size x.kind x (row_of after) in
@@ -100,23 +90,7 @@ quoted-size (Single x after) cs =
   where
     by-kind : size (with_characters after (drop 1 cs)) ≡ size after → size (Single x (with_characters after cs)) ≡ size (Single x after) → (kind : ItemKind) → x.kind ≡ kind
         → size (quote_as (λ cs. Single (item (Written (encode_utf8 (get_or cs 0 0))) x.start x.end) (with_characters after (drop 1 cs))) (λ cs. Single x (with_characters after cs)) kind cs) ≡ size (Single x after)
-    by-kind i other (Quoted quote) e =
-        let b = item-size x.kind x (row_of after) in
-        let s : slots-for x.kind ≡ 1 = ap slots-for e in
-        omega arith
-    by-kind i other Plain e = other
-    by-kind i other Own e = other
-    by-kind i other (Written text) e = other
-    by-kind i other (Delimiters run) e = other
-    by-kind i other (Code text) e = other
-    by-kind i other (InlineMath text) e = other
-    by-kind i other (DisplayMath text) e = other
-    by-kind i other (Autolink uri) e = other
-    by-kind i other Html e = other
-    by-kind i other (OwnedHtml text) e = other
-    by-kind i other (FootnoteReference label) e = other
-    by-kind i other SoftBreak e = other
-    by-kind i other HardBreak e = other
+    by-kind i other kind e = grind (arith, item-size)
 
 dress-few : (options : Options) (siblings : Inline) → length (slots_of (dress options siblings)) ≤ size siblings
 dress-few options siblings =
@@ -135,49 +109,15 @@ dress-few options siblings =
 -- the siblings after a pipe, and an empty text if there are none
 from-size : (place : ℕ) (siblings : Inline) → size (from_place place siblings) ≤ size siblings
 from-size place Nil = omega arith
-from-size place (Single x after) = go (from-size place after) (nat_le x.end place)
-  where
-    go : size (from_place place after) ≤ size after → (b : Bool) → size (if b then from_place place after else Single (item x.kind (max x.start place) x.end) after) ≤ size (Single x after)
-    go i true = let a = item-size x.kind x (row_of after) in omega arith
-    go i false =
-        let a = item-size x.kind x (row_of after) in
-        let b = item-size x.kind (item x.kind (max x.start place) x.end) (row_of after) in
-        omega arith
-from-size place (Around tag start end inside after) = go (from-size place after) (nat_le end place)
-  where
-    go : size (from_place place after) ≤ size after → (b : Bool) → size (if b then from_place place after else Around tag (max start place) end inside after) ≤ size (Around tag start end inside after)
-    go i true = let a = around-size inside (row_of after) in omega arith
-    go i false = let a = around-size inside (row_of after) in omega arith
+from-size place (Single x after) = grind (arith, item-size, from-size place after)
+from-size place (Around tag start end inside after) = grind (arith, around-size, from-size place after)
 
 display-size : (place end : ℕ) (siblings : Inline) → size (display_from place end siblings) ≤ suc (size siblings)
-display-size place end siblings = go (place == end)
-  where
-    go : (b : Bool) → size (if b then Single (item Own place place) Nil else from_place place siblings) ≤ suc (size siblings)
-    go true = omega arith
-    go false = let i = from-size place siblings in omega arith
+display-size place end siblings = grind (arith, from-size)
 
 -- a run has a slot for each byte, an autolink has three, and any other item has one
 item-few : (x : Item) (after : Inline) (at resume : ℕ) → at ≤ x.start → x.end ≤ resume → at < resume → FillsItem x → size (item_then x.kind x after) + 3 * at ≤ 3 * resume + size after
-item-few x after at resume low high on fills = go x.kind refl fills
-  where
-    one : (kind : ItemKind) → x.kind ≡ kind → slots-for kind ≡ 1 → size (Single x after) + 3 * at ≤ 3 * resume + size after
-    one kind e f = let a = item-size x.kind x (row_of after) in let s : slots-for x.kind ≡ slots-for kind = ap slots-for e in omega arith
-
-    go : (kind : ItemKind) → x.kind ≡ kind → Fills kind x.start x.end → size (item_then kind x after) + 3 * at ≤ 3 * resume + size after
-    go (Delimiters run) e f = let a = item-size x.kind x (row_of after) in let s : slots-for x.kind ≡ run.run_length = ap slots-for e in omega (arith, a, s, f, low, high)
-    go (Autolink uri) e f = omega arith
-    go Plain e f = one Plain e refl
-    go Own e f = one Own e refl
-    go (Written text) e f = one (Written text) e refl
-    go (Quoted quote) e f = one (Quoted quote) e refl
-    go (Code text) e f = one (Code text) e refl
-    go (InlineMath text) e f = one (InlineMath text) e refl
-    go (DisplayMath text) e f = one (DisplayMath text) e refl
-    go Html e f = one Html e refl
-    go (OwnedHtml text) e f = one (OwnedHtml text) e refl
-    go (FootnoteReference label) e f = one (FootnoteReference label) e refl
-    go SoftBreak e f = one SoftBreak e refl
-    go HardBreak e f = one HardBreak e refl
+item-few x after at resume low high on fills = grind (arith, item-size)
 
 footnote-few : (is_image : Bool) (start : ℕ) (label : List ℕ) (end : ℕ) (after : Inline) → size (footnote_then is_image start label end after) ≤ 2 + size after
 footnote-few true start label end after = omega arith
@@ -186,10 +126,7 @@ footnote-few false start label end after = omega arith
 module _ (reader : Reader) (leaf : Leaf) (most : ℕ) (turn : InTurn 0 leaf.stretches most) (Says : Saying) where
   -- a construct that two brackets form, with its two slots and the slots of its content
   formed-few : (siblings : Inline) (after : List Slot) → length (slots_of (dress reader.options siblings) ++ (EndSlot ∷ after)) ≤ suc (size siblings + length after)
-  formed-few siblings after =
-      let a = around-size (dress reader.options siblings) after in
-      let b = dress-few reader.options siblings in
-      omega arith
+  formed-few siblings after = grind (arith, around-size, dress-few)
 
   -- an opening bracket and a closing one take a byte each
   between : (s : State) (opener : Bracket) (inside : Parts) (closer : Bracket) (formed : Formed) (after : Parts) (t : State) (h : Reads (token reader leaf) (decide reader leaf) Says s (Form opener inside closer formed after) t)
@@ -270,10 +207,7 @@ givens (Content leaf ∷ others) = givens others
 all-few : (reader : Reader) (most : ℕ) (Says : Saying) (others : List Segment) (before after : Between) (events : List Ranged) → AreLeavesInTurn most others → ReadsAll reader Says others before events after
     → length events ≤ givens others + 3 * extents others
 all-few reader most Says [] before after events turn h = let e = ap length h.0 in omega arith
-all-few reader most Says (Given r ∷ others) before after events turn h =
-    let i = all-few reader most Says others before after h.0 turn h.1 in
-    let e = ap length h.2 in
-    omega arith
+all-few reader most Says (Given r ∷ others) before after events turn h = grind (arith, all-few reader most Says others before after h.0 turn h.1)
 all-few reader most Says (Content leaf ∷ others) before after events turn h =
     let l = leaf-few reader leaf most turn.0 Says before h.2 h.0 h.3 in
     let i = all-few reader most Says others h.2 after h.1 turn.1 h.4 in
@@ -297,10 +231,7 @@ first-givens (suc starts) r (Given x ∷ others) = let i = first-givens starts r
 first-givens (suc starts) r (Content leaf ∷ others) = first-givens starts r others
 
 with-givens : (r : ReadsAs) (starts : ℕ) (n : BlockNode) (l others : List Segment) → givens (with_first_segment (first_event r) starts n (node_segments r n l ++ others)) ≤ 2 + (givens l + givens others)
-with-givens (AroundNode tag) starts n l others = let e = givens-append (node_segments (AroundNode tag) n l) others in let f = node-givens (AroundNode tag) n l in omega arith
-with-givens Inside starts n l others = let e = givens-append l others in omega arith
-with-givens (First event) starts n l others = let f = first-givens starts (over n event) others in omega arith
-with-givens _ starts n l others = omega arith
+with-givens r starts n l others = grind (arith, givens-append, node-givens, first-givens)
 
 inside-givens : (kind : BlockKind) (b : Bool) (content : BlockDocument) (others : List Segment) → givens (if b then Content (leaf_of kind content) ∷ [] else others) ≤ givens others
 inside-givens kind true content others = omega arith
@@ -309,13 +240,7 @@ inside-givens kind false content others = omega arith
 -- two for each node at most
 nodes-givens : (document : BlockDocument) → givens (segments document) ≤ 2 * count_nodes document
 nodes-givens NoNodes = omega arith
-nodes-givens (Node n inside after) =
-    let own = inside_of n.kind inside (segments inside) in
-    let f = with-givens (read_as n.kind) (starts_before after) n own (segments after) in
-    let g = inside-givens n.kind (is_leaf n.kind) inside (segments inside) in
-    let i = nodes-givens inside in
-    let a = nodes-givens after in
-    omega (arith, f, g, i, a)
+nodes-givens (Node n inside after) = grind (arith, with-givens, inside-givens, nodes-givens inside, nodes-givens after)
 
 pub reading-few : (text : List ℕ) (profile : Profile) (document : BlockDocument) (exchanges : List Exchange) (events : List Ranged) → Derives text profile.options profile.lookup document → IsReading text profile exchanges events
     → length events ≤ 11 * length text + 524288 * count_tables document

@@ -2,7 +2,7 @@
 -- Markup that is searched in the source ends after an ASCII byte.
 use Rattle.std.specs.Prelude.{option_map, ◌&&◌, not}
 use Rattle.std.specs.List.{prefix_len}
-use Rattle.std.proofs.Common.{◌≡◌, ◌⊎◌, inl, inr, ⊎_elim, ℕ, zero, suc, ◌+◌, ◌<◌, ◌≤◌, Bool, true, false, ◌==◌, ◌||◌, if◌then◌else◌, List, [], ◌∷◌, length, drop, get_or, Option, None, Some, refl, sym, ap, subst, ◌∙◌, arith, eqb-true, length-drop, drop-drop}
+use Rattle.std.proofs.Common.{◌≡◌, ◌⊎◌, inl, inr, ⊎_elim, ℕ, zero, suc, ◌+◌, ◌<◌, ◌≤◌, Bool, true, false, ◌==◌, ◌||◌, if◌then◌else◌, List, [], ◌∷◌, length, drop, get_or, Option, None, Some, refl, sym, ap, subst, ◌∙◌, arith, eqb-true, length-drop, drop-drop, rules}
 use Rattle.std.proofs.lemmas.List.{get_or-drop}
 use Rattle.cmark_grammar.specs.Autolinks.{closed_by, has_address, is_uri_byte, autolink_in}
 use Rattle.cmark_grammar.specs.CodeSpans.{is_backtick, backticks, up_to_run, after_run, code_in}
@@ -11,7 +11,7 @@ use Rattle.cmark_grammar.specs.Formulas.{is_dollar, is_ink, Braces, context_of, 
 use Rattle.cmark_grammar.specs.Letters.{is_letter, first_is, after_while, after_if, and_then}
 use Rattle.cmark_grammar.specs.Lines.{is_content}
 use Rattle.cmark_grammar.specs.LinkDefinitions.{Parsed, put, escapes_next}
-use Rattle.cmark_grammar.specs.Tags.{is_name_byte, is_attribute_start, is_attribute_byte, is_value_byte, is_space_byte, after_line_feed, after_ending, after_tag_name, after_attribute_name, after_bare_value, after_greater, after_open_end, after_closing_tag, without_prefix, on_next_line, after_space, prefix_after, after_quotation_mark, after_value, after_assigned, after_attribute, after_attributes, after_open_tag, after_tag_start, after_tag, no_prefix}
+use Rattle.cmark_grammar.specs.Tags.{is_name_byte, is_attribute_start, is_attribute_byte, is_value_byte, after_line_feed, after_ending, after_tag_name, after_attribute_name, after_bare_value, after_greater, after_open_end, after_closing_tag, without_prefix, on_next_line, after_space, prefix_after, after_quotation_mark, after_value, after_assigned, after_attribute, after_attributes, after_open_tag, after_tag_start, after_tag, no_prefix}
 use Rattle.cmark_block_model.proofs.RowEdges.{Front}
 use Rattle.cmark_inline_model.proofs.WordBytes.{and-left, and-right, IsWord, Leads, prefix-leads, word-is}
 
@@ -44,9 +44,7 @@ following-rest bs s r h i =
     byte h i = sym (get_or-drop h.0 bs i.place 0) ∙ ap (λ (l : List ℕ). get_or l i.place 0) (sym h.1)
 
 pub byte_after : (b c : ℕ) (bs : List ℕ) → is_content c ≡ true → c < 128 → (b == c) ≡ true → IsAfter (b ∷ bs) bs
-byte_after b c bs k a e =
-    let same = eqb-true b c e in
-    record { place = 0; inside = omega arith; content = subst (λ x. is_content x ≡ true) (sym same) k; ascii = subst (λ x. x < 128) (sym same) a; rest = refl }
+byte_after b c bs k a e = grind (arith, eqb-true)
 
 -- the result came from one of the branches, or from the first part
 pub branch : {A : Type 0} (z : Bool) (x y : Option A) (r : A) → (if z then x else y) ≡ Some r → ((z ≡ true) × (x ≡ Some r)) ⊎ (y ≡ Some r)
@@ -125,9 +123,7 @@ module _ (prefix : List ℕ → ℕ) where
       onward bs spaced r (space-rest bs) (onward spaced h.0 r (then-all is_attribute_start is_attribute_byte spaced h.0 h.1) (assigned-rest h.0 (after_space prefix h.0) r (space-rest h.0) h.2))
 
   attribute-rest : (bs r : List ℕ) → after_attribute prefix bs ≡ Some r → IsRest bs r
-  attribute-rest bs r e =
-      ⊎_elim (λ f. named-rest bs r f.1) (λ n. cc)
-      (branch (first_is is_space_byte bs) (and_then (after_attribute_name (after_space prefix bs)) (λ name. after_assigned prefix name (after_space prefix name))) None r e)
+  attribute-rest bs r e = grind (arith, named-rest, branch)
 
   attributes-rest : (most : ℕ) (bs : List ℕ) → IsRest bs (after_attributes prefix most bs)
   attributes-rest zero bs = (0, refl)
@@ -142,9 +138,7 @@ greater-following [] r e = cc
 greater-following (b ∷ bs) r e = ⊎_elim (λ f. subst (IsAfter (b ∷ bs)) (sym (same bs r f.1)) (byte_after b 62 bs refl (omega arith) f.0)) (λ n. cc) (branch (b == 62) (Some bs) None r e)
 
 open_end-following : (bs r : List ℕ) → after_open_end bs ≡ Some r → IsAfter bs r
-open_end-following [] r e = cc
-open_end-following (b ∷ bs) r e =
-    ⊎_elim (λ f. following-rest (b ∷ bs) bs r (1, refl) (greater-following bs r f.1)) (λ f. greater-following (b ∷ bs) r f) (branch (b == 47) (after_greater bs) (after_greater (b ∷ bs)) r e)
+open_end-following bs r e = search (rules, following-rest, greater-following, branch)
 
 closing-following : (bs r : List ℕ) → after_closing_tag bs ≡ Some r → IsAfter bs r
 closing-following bs r e =
@@ -189,12 +183,7 @@ put_run size b bs (Some found) h = (onward (b ∷ bs) bs found.following (1, ref
 
 run_rest : (size : ℕ) (goes_on : Bool) (bs : List ℕ) → RunRest size bs (up_to_run size goes_on bs)
 run_rest size goes_on [] = tt
-run_rest size goes_on (b ∷ bs) =
-    let after_it : Option Parsed = up_to_run size (is_backtick b) bs in
-    let here : Option Parsed = Some (record { bytes = []; following = b ∷ bs }) in
-    when (RunRest size (b ∷ bs)) (is_backtick b && (not goes_on && (backticks (b ∷ bs) == size))) here (put b after_it)
-    (λ e. ((0, refl), eqb-true (backticks (b ∷ bs)) size (and-right (not goes_on) (backticks (b ∷ bs) == size) (and-right (is_backtick b) (not goes_on && (backticks (b ∷ bs) == size)) e))))
-    (λ e. put_run size b bs after_it (run_rest size (is_backtick b) bs))
+run_rest size goes_on (b ∷ bs) = search (rules, when, eqb-true, and-right, put_run, run_rest size (is_backtick b) bs)
 
 -- the last of some bytes at the front
 front_last : (Q : ℕ → Type 0) (m : ℕ) (l : List ℕ) → suc m ≤ length l → Front Q (suc m) l → Q (get_or l m 0)
@@ -206,10 +195,7 @@ backtick_word : (b : ℕ) → is_backtick b ≡ true → IsWord b
 backtick_word b e = word-is b 96 refl (omega arith) e
 
 pub leads_after : (n : ℕ) (l : List ℕ) → 0 < n → Leads IsWord n l → IsAfter l (drop n l)
-leads_after zero l some h = absurd (omega arith)
-leads_after (suc m) l some h =
-    let w = front_last IsWord m l h.fits h.front in
-    record { place = m; inside = h.fits; content = w.content; ascii = w.ascii; rest = refl }
+leads_after n l some h = grind (arith, front_last)
 
 run_after : (bs l : List ℕ) (n : ℕ) → 0 < n → IsRest bs l → backticks l ≡ n → IsAfter bs (drop n l)
 run_after bs l n some h e =

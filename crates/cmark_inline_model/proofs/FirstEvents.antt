@@ -1,27 +1,26 @@
 -- A leaf with a byte has some event, and an empty leaf has no event; the events of a leaf never begin with the end of an element.
-use Rattle.std.specs.Prelude.{zero, suc, ◌-◌, ◌==◌, ◌&&◌, ◌||◌, max, get_or}
-use Rattle.std.proofs.Common.{◌≡◌, ◌≢◌, ℕ, ◌+◌, ◌<◌, ◌≤◌, Bool, true, false, List, [], ◌∷◌, ◌++◌, length, Option, Some, None, refl, sym, ap, subst, ◌∙◌, arith, true≢false}
+use Rattle.std.specs.Prelude.{◌-◌, ◌&&◌, ◌||◌, max, get_or}
+use Rattle.std.proofs.Common.{◌≡◌, ◌≢◌, ℕ, ◌+◌, ◌<◌, ◌≤◌, Bool, true, false, List, [], ◌∷◌, ◌++◌, length, Option, Some, None, refl, sym, ap, subst, ◌∙◌, arith, rules}
 use Rattle.cmark_grammar.specs.BracketDecisions.{decide}
 use Rattle.cmark_grammar.specs.BracketReading.{Reads}
 use Rattle.cmark_grammar.specs.BracketStates.{State}
 use Rattle.cmark_grammar.specs.Emphasis.{places_taken}
-use Rattle.cmark_inline_model.specs.EmphasisModel.{spans_of}
 use Rattle.cmark_grammar.specs.Event.{Ranged}
 use Rattle.cmark_grammar.specs.Flanking.{is_delimiter_run}
 use Rattle.cmark_grammar.specs.InlineReading.{event_of, inline_events}
 use Rattle.cmark_grammar.specs.InlineTokens.{from, token}
-use Rattle.cmark_grammar.specs.Items.{ItemKind, Plain, Own, Written, Quoted, Delimiters, Code, InlineMath, DisplayMath, Autolink, Html, OwnedHtml, FootnoteReference, SoftBreak, HardBreak, Item, Ends}
-use Rattle.cmark_grammar.specs.LeafReading.{Between, ReadsLeaf, entering, leaving}
+use Rattle.cmark_grammar.specs.Items.{ItemKind, Delimiters, Item, Ends}
+use Rattle.cmark_grammar.specs.LeafReading.{Between, ReadsLeaf, entering}
 use Rattle.cmark_grammar.specs.LeafText.{Leaf, Stretch, InTurn, begin_of, bytes_from}
 use Rattle.cmark_grammar.specs.Options.{Options}
 use Rattle.cmark_grammar.specs.Parts.{Parts, Nil as NoParts, Single as SinglePart, Form, Closing, Opening, Linking, Footnote, Wiki}
 use Rattle.cmark_grammar.specs.Questions.{Saying}
 use Rattle.cmark_grammar.specs.Quotes.{quote_characters}
 use Rattle.cmark_grammar.specs.Readers.{Reader}
-use Rattle.cmark_grammar.specs.Siblings.{Inline, Nil, Single, Around, append, quotes_of, quote_as, with_characters, with_quotes, element, item_then, footnote_then, AreSiblings, AreSpans, siblings_from, one_by_one, with_spans}
-use Rattle.cmark_inline_model.specs.RunSpans.{run_then, runs_from, run_bytes, put_gap, gap_then, gaps_of, no_item, dressed, dressed_all, IsDressedByRuns}
+use Rattle.cmark_grammar.specs.Siblings.{Inline, Nil, Single, Around, append, quotes_of, with_characters, with_quotes, element, item_then, footnote_then, AreSiblings, AreSpans}
+use Rattle.cmark_inline_model.specs.RunSpans.{runs_from, put_gap, gaps_of, dressed_all, IsDressedByRuns}
 use Rattle.cmark_grammar.specs.Spans as spans
-use Rattle.cmark_grammar.specs.Spans.{span_tag, span_width, Spans, TakePlaces}
+use Rattle.cmark_grammar.specs.Spans.{Spans, TakePlaces}
 use Rattle.cmark_grammar.specs.Tag.{Tag}
 use Rattle.cmark_grammar.specs.Tokens.{slice}
 use Rattle.cmark_inline_model.proofs.EmphasisOne.{one}
@@ -30,7 +29,7 @@ use Rattle.cmark_inline_model.proofs.SpanPlacing.{by-runs}
 use Rattle.cmark_inline_model.specs.FirstEvents.{IsEnd, BeginWithEnd}
 use Rattle.cmark_inline_model.specs.OptionRules.{IsRead, AllItems}
 use Rattle.cmark_inline_model.specs.TextPlaces.{text_of}
-use Rattle.cmark_inline_model.proofs.KindViews.{KindView, AQuote, ARun, AnAutolink, AText, kind-view}
+use Rattle.cmark_inline_model.proofs.KindViews.{kind-view}
 use Rattle.cmark_inline_model.proofs.SpanCosts.{runs-stand}
 use Rattle.cmark_inline_model.proofs.SpanElements.{quoted_then, other_then}
 use Rattle.cmark_inline_model.proofs.TokenOptions.{leaf-items}
@@ -50,13 +49,7 @@ or_none : (a b c d : Bool) → a ≡ false → b ≡ false → c ≡ false → d
 or_none a b c d e f g h = ap (λ x. x || (b || (c || d))) e ∙ ap (λ x. x || (c || d)) f ∙ ap (λ x. x || d) g ∙ h
 
 run_size : (options : Options) (delimiter size : ℕ) → is_delimiter_run options delimiter size ≡ true → 0 < size
-run_size options delimiter (suc size) e = omega arith
-run_size options delimiter zero e = absurd (true≢false (sym e ∙ none))
-  where
-    none : is_delimiter_run options delimiter 0 ≡ false
-    none =
-        or_none _ _ _ _ (and_none ((delimiter == 42) || (delimiter == 95)) false refl) (and_none (delimiter == 126) _ (and_none (options.strikethrough || options.subscript) false refl))
-        (and_none (delimiter == 94) _ (and_none options.superscript false refl)) (and_none (delimiter == 61) _ (and_none options.highlight false refl))
+run_size options delimiter size e = search (rules, or_none, and_none)
 
 read_size : (options : Options) (kind : ItemKind) → IsRead options kind → HasSize kind
 read_size options (Delimiters run) h = run_size options run.delimiter run.run_length h
@@ -71,13 +64,7 @@ AreSome (Single x after) = HasSize x.kind
 AreSome (Around tag start end inside after) = Unit {0}
 
 item_some : (x : Item) (after : Inline) → HasSize x.kind → AreSome (item_then x.kind x after)
-item_some x after h = go x.kind (kind-view x.kind)
-  where
-    go : (kind : ItemKind) → KindView kind → AreSome (item_then kind x after)
-    go _ (AQuote quote) = h
-    go _ (ARun run) = h
-    go _ (AnAutolink uri) = tt
-    go _ (AText kind t) = subst AreSome (sym (t.item x after)) h
+item_some x after h = grind (arith, kind-view)
 
 footnote_some : (is_image : Bool) (start : ℕ) (label : List ℕ) (end : ℕ) (others : Inline) → AreSome (footnote_then is_image start label end others)
 footnote_some true start label end others = tt
@@ -93,15 +80,7 @@ siblings_some options (Form opener inside closer (Wiki name (Some place) end) af
 siblings_some options _ siblings some read h = subst AreSome (sym h.2) tt
 
 quoted_some : (siblings : Inline) (cs : List ℕ) → AreSome siblings → AreSome (with_characters siblings cs)
-quoted_some Nil cs h = h
-quoted_some (Around tag start end inside after) cs h = tt
-quoted_some (Single x after) cs h = go x.kind (kind-view x.kind)
-  where
-    go : (kind : ItemKind) → KindView kind → AreSome (quote_as (quoted_then x after) (other_then x after) kind cs)
-    go _ (AQuote quote) = tt
-    go _ (ARun run) = h
-    go _ (AnAutolink uri) = h
-    go _ (AText kind t) = subst AreSome (sym (t.quote (quoted_then x after) (other_then x after) cs)) h
+quoted_some siblings cs h = grind (arith, kind-view, quoted_then, other_then)
 
 -- ## Some siblings become some spans
 
@@ -127,30 +106,12 @@ element_span None start end inside after = tt
 
 -- if no byte of a run is left over, the first sibling comes before the runs
 first_span : (siblings : Inline) → AreSome siblings → 0 ≡ places_taken (runs_from siblings 0) → IsSpan (get_or (gaps_of siblings) 0 Nil)
-first_span Nil h e = absurd h
-first_span (Around tag start end inside after) h e = put_span (Around tag start end inside) (gaps_of after) (λ gap. tt)
-first_span (Single x after) h e = go x.kind (kind-view x.kind) h e
-  where
-    put : IsSpan (get_or (put_gap (Single x) (gaps_of after)) 0 Nil)
-    put = put_span (Single x) (gaps_of after) (λ gap. tt)
-
-    go : (kind : ItemKind) → KindView kind → HasSize kind → 0 ≡ places_taken (run_then 0 kind (runs_from after)) → IsSpan (get_or (gap_then kind x (gaps_of after)) 0 Nil)
-    go _ (ARun run) s f = absurd (let d : ⊥ = omega (arith, s, f) in d)
-    go _ (AText kind t) s f = subst (λ l. IsSpan (get_or l 0 Nil)) (sym (t.gap x (gaps_of after))) put
-    go _ _ s f = put
+first_span siblings h e = grind (arith, put_span, kind-view)
 
 dressed_span : (options : Options) (siblings : Inline) (f : Spans) → AreSome siblings → TakePlaces 0 f (places_taken (runs_from siblings 0)) → IsSpan (dressed_all options siblings f)
 dressed_span options siblings spans.Nil h t = span_left (get_or (gaps_of siblings) 0 Nil) Nil (first_span siblings h t)
-dressed_span options siblings (spans.Single at after) h t =
-    let gaps = gaps_of siblings in
-    let bytes = run_bytes siblings in
-    span_right (get_or gaps 0 Nil) (Single (get_or bytes at no_item) (append (get_or gaps (suc at) Nil) (dressed options gaps bytes after))) tt
-dressed_span options siblings (spans.Around span inside after) h t =
-    let gaps = gaps_of siblings in
-    let bytes = run_bytes siblings in
-    span_right (get_or gaps 0 Nil) (dressed options gaps bytes (spans.Around span inside after))
-    (element_span (span_tag options span.kind) (get_or bytes span.start no_item).start (get_or bytes (span.end - 1) no_item).end
-    (append (get_or gaps (span.start + span_width span.kind) Nil) (dressed options gaps bytes inside)) (append (get_or gaps span.end Nil) (dressed options gaps bytes after)))
+dressed_span options siblings (spans.Single at after) h t = grind (arith, span_right)
+dressed_span options siblings (spans.Around span inside after) h t = grind (arith, span_right, element_span)
 
 dress_span : (options : Options) (siblings result : Inline) → AreSome siblings → IsDressedByRuns options siblings result → IsSpan result
 dress_span options siblings result h d =
@@ -166,20 +127,7 @@ event_some source Nil h e = h
 event_some source _ h e = cc
 
 item_no_end : (source : List ℕ) (x : Item) (kind : ItemKind) → IsEnd (event_of source x kind) → ⊥
-item_no_end source x Plain h = h
-item_no_end source x Own h = h
-item_no_end source x (Written text) h = h
-item_no_end source x (Quoted quote) h = h
-item_no_end source x (Delimiters run) h = h
-item_no_end source x (Code text) h = h
-item_no_end source x (InlineMath text) h = h
-item_no_end source x (DisplayMath text) h = h
-item_no_end source x (Autolink uri) h = h
-item_no_end source x Html h = h
-item_no_end source x (OwnedHtml text) h = h
-item_no_end source x (FootnoteReference label) h = h
-item_no_end source x SoftBreak h = h
-item_no_end source x HardBreak h = h
+item_no_end source x kind h = grind arith
 
 first_no_end : (source : List ℕ) (f : Inline) → BeginWithEnd (inline_events source f) → ⊥
 first_no_end source (Single x after) h = item_no_end source x x.kind h
@@ -214,31 +162,18 @@ module _ (reader : Reader) (Says : Saying) (leaf : Leaf) (before : Between) (eve
   no_part e (Opening opener more) t h = absurd (let f = sym e ∙ h.0 in let d : ⊥ = cc in d)
 
   no_span : (parts : Parts) (f : Inline) → parts ≡ NoParts → AreSpans reader.options parts f → f ≡ Nil
-  no_span parts f e h = h.dressed_so.result_is ∙ ap (λ (l : Inline). with_spans reader.options (one_by_one (with_quotes l)) h.dressed_so.spans_are) none ∙ ap (with_spans reader.options []) spans_none
-    where
-      none : h.siblings ≡ Nil
-      none = subst (λ p. AreSiblings reader.options p h.siblings) e h.are
-
-      spans_none : h.dressed_so.spans_are ≡ spans.Nil
-      spans_none = (one (siblings_from (with_quotes h.siblings) 0) h.dressed_so.pairs h.dressed_so.spans_are h.dressed_so.emphasis).1 ∙ ap (λ (l : Inline). spans_of (siblings_from (with_quotes l) 0)) none
+  no_span parts f e h = grind (arith, one)
 
   pub leaf-none : InTurn 0 leaf.stretches (length reader.source) → text_of reader leaf ≡ [] → ReadsLeaf reader Says leaf before events after → events ≡ []
-  leaf-none turn empty h =
-      let begin : from reader leaf first.at ≡ [] = begin_bytes reader.source leaf.stretches (length reader.source) turn ∙ empty in
-      h.events_are ∙ ap (inline_events reader.source) (no_span h.parts h.spans (no_part (ends-following-bytes reader leaf first.at begin) h.parts h.last h.reads.reads) h.are)
+  leaf-none turn empty h = grind (arith, begin_bytes, no_span, no_part, ends-following-bytes)
 
   -- nothing is asked there
   pub leaf-same : InTurn 0 leaf.stretches (length reader.source) → text_of reader leaf ≡ [] → ReadsLeaf reader Says leaf before events after → after ≡ before
-  leaf-same turn empty h =
-      let begin : from reader leaf first.at ≡ [] = begin_bytes reader.source leaf.stretches (length reader.source) turn ∙ empty in
-      let none = no_part (ends-following-bytes reader leaf first.at begin) h.parts h.last h.reads.reads in
-      h.after_is ∙ ap leaving (subst (λ p. Reads (token reader leaf) (decide reader leaf) Says first p h.last) none h.reads.reads)
+  leaf-same turn empty h = grind (arith, begin_bytes, no_part, ends-following-bytes)
 
   -- a text with a byte has a part
   some_part : from reader leaf first.at ≢ [] → (parts : Parts) (t : State) → Reads (token reader leaf) (decide reader leaf) Says first parts t → token reader leaf t.at ≡ Ends → parts ≢ NoParts
-  some_part some parts t h ends e =
-      let same : t ≡ first = subst (λ p. Reads (token reader leaf) (decide reader leaf) Says first p t) e h in
-      no-end-at-a-byte reader leaf first.at some (ap (λ (s : State). token reader leaf s.at) (sym same) ∙ ends)
+  some_part some parts t h ends e = grind (arith, no-end-at-a-byte)
 
   pub leaf-some : InTurn 0 leaf.stretches (length reader.source) → text_of reader leaf ≢ [] → ReadsLeaf reader Says leaf before events after → events ≢ []
   leaf-some turn some h e =

@@ -1,19 +1,18 @@
 -- Tokens and decisions of a leaf lead forward in it and are inside it.
-use Rattle.std.specs.Prelude.{◌==◌}
-use Rattle.std.proofs.Common.{◌≡◌, ◌⊎◌, inl, inr, ◌<◌, ◌≤◌, ℕ, List, length, Option, Some, None, sym, subst, arith}
+use Rattle.std.proofs.Common.{◌≡◌, inl, inr, ◌<◌, ◌≤◌, ℕ, List, length, Option, Some, None, subst, arith}
 use Rattle.cmark_grammar.specs.BracketDecisions.{following, place, decide}
 use Rattle.cmark_grammar.specs.BracketStates.{State, StaysText, Forms, Result, Outcome}
 use Rattle.cmark_grammar.specs.InlineTokens.{token}
 use Rattle.cmark_grammar.specs.Items.{Bracket, Closes}
 use Rattle.cmark_grammar.specs.LeafText.{Leaf, end_of, InTurn}
-use Rattle.cmark_grammar.specs.LinkTails.{LinkTail, link_tail_in}
+use Rattle.cmark_grammar.specs.LinkTails.{LinkTail}
 use Rattle.cmark_grammar.specs.Questions.{Exchange}
 use Rattle.cmark_grammar.specs.Readers.{Reader}
 use Rattle.cmark_inline_model.proofs.ShorterRests.{TailBelow, link_tail-shorter}
 use Rattle.cmark_inline_model.specs.PartRanges.{ReachesBy, Reaches, KeepsRanges}
 use Rattle.cmark_inline_model.specs.Progress.{Always, IsForward}
 use Rattle.cmark_inline_model.proofs.DecisionLaws.{always-by, decide-fits}
-use Rattle.cmark_inline_model.proofs.DecisionShape.{IsPlace, Shape, Stays, ToInline, ToReference, ToFootnote, ToWiki}
+use Rattle.cmark_inline_model.proofs.DecisionShape.{IsPlace, Shape}
 use Rattle.cmark_inline_model.proofs.LeafPlaces.{place-within, place-from, some-fit}
 use Rattle.cmark_inline_model.proofs.TokenLaws.{Onward, token-onward, token-ends}
 use Rattle.cmark_inline_model.proofs.TokenSizes.{first-size}
@@ -36,26 +35,7 @@ module _ (reader : Reader) (leaf : Leaf) (size : ℕ) (turn : InTurn 0 leaf.stre
   tail_rest n (Some other) tail h e = subst (λ (o : Option LinkTail). TailBelow n o) e h
 
   shape_reaches : (s : State) (closer : Bracket) → closer.end ≤ end → (asked : List Exchange) (o : Outcome) → Shape reader leaf s closer asked o → Reaches closer.end end o
-  shape_reaches s closer w asked o (Stays label os h e) = subst (Reaches closer.end end) (sym e) (record { following = omega arith; within = w })
-  shape_reaches s closer w asked o (ToInline label os taken tail h t found e) =
-      let below = tail_rest (length (following reader leaf closer.end)) (link_tail_in (following reader leaf closer.end)) tail (link_tail-shorter (following reader leaf closer.end)) found in
-      let r = rest_place closer tail.following w (omega arith) in
-      let x = r.0 in let y = r.1 in
-      subst (Reaches closer.end end) (sym e) (record { following = (x, omega arith); within = y })
-  shape_reaches s closer w asked o (ToReference label os taken named link_type found h t n some l e) =
-      let a = is-place closer named.end w n.ends in
-      let b = is-place closer named.resume w n.passes in
-      let x = a.0 in let y = b.0 in let z = b.1 in
-      subst (Reaches closer.end end) (sym e) (record { following = (x, order n.order y); within = z })
-    where
-      order : (named.end ≡ named.resume) ⊎ (named.end ≡ closer.end) → closer.end ≤ named.resume → named.end ≤ named.resume
-      order (inl q) y = omega arith
-      order (inr q) y = omega arith
-  shape_reaches s closer w asked o (ToFootnote label os taken name h t on e) = subst (Reaches closer.end end) (sym e) (record { following = (omega arith, omega arith); within = w })
-  shape_reaches s closer w asked o (ToWiki label os first far h t on next touched e) =
-      let some = first-size (λ b. b == 93) (following reader leaf closer.end) next in
-      let f = some-fit reader.source leaf.stretches size turn closer.end some in
-      subst (Reaches closer.end end) (sym e) (record { following = (omega arith, omega arith); within = omega arith })
+  shape_reaches s closer w asked o h = grind (arith, tail_rest, link_tail-shorter, rest_place, is-place, first-size, some-fit)
 
   pub closer-is : (at : ℕ) (closer : Bracket) → token reader leaf at ≡ Closes closer → Onward reader leaf size turn at (Closes closer)
   closer-is at closer e = subst (Onward reader leaf size turn at) e (token-onward reader leaf size turn at)
@@ -78,18 +58,7 @@ module _ (reader : Reader) (leaf : Leaf) (size : ℕ) (turn : InTurn 0 leaf.stre
       (λ asked o h. (let r = shape_reaches s closer (omega arith) asked o h in let m = following_at closer.end o.after.at o.result r.following in omega arith))
 
   pub leaf-forward : IsForward (token reader leaf) (decide reader leaf) end
-  leaf-forward = record {
-    ends = token-ends reader leaf size turn;
-    stands = λ at resume item e. (let h = subst (Onward reader leaf size turn at) e (token-onward reader leaf size turn at) in h.1);
-    opens = λ at opener e. (let h = subst (Onward reader leaf size turn at) e (token-onward reader leaf size turn at) in h.1);
-    comes = comes_after;
-    fits = decide-fits reader leaf;
-  }
+  leaf-forward = grind (arith, token-ends, token-onward, comes_after, decide-fits)
 
   pub leaf-ranges : KeepsRanges (token reader leaf) (decide reader leaf) end
-  leaf-ranges = record {
-    stands = λ at resume item e. (let h = subst (Onward reader leaf size turn at) e (token-onward reader leaf size turn at) in (h.0, h.2));
-    opens = λ at opener e. (let h = subst (Onward reader leaf size turn at) e (token-onward reader leaf size turn at) in h.0);
-    closes = λ at closer e. (let h = closer-is at closer e in let x = h.0 in let y = h.1 in let z = h.2 in (record { begins = omega arith; ordered = omega arith; ends = omega arith }, omega arith));
-    comes = reaches;
-  }
+  leaf-ranges = grind (arith, token-onward, closer-is, reaches)

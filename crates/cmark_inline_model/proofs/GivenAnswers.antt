@@ -1,5 +1,5 @@
 -- A reading is determined by the answers alone: they determine which questions are put.
-use Rattle.std.proofs.Common.{◌≡◌, ℕ, List, [], ◌∷◌, ◌++◌, Option, None, refl, sym, ap, ◌∙◌, subst}
+use Rattle.std.proofs.Common.{◌≡◌, ℕ, List, [], ◌∷◌, ◌++◌, Option, None, refl, sym, ap, ◌∙◌, subst, arith, rules}
 use Rattle.cmark_grammar.specs.Answers.{Destination}
 use Rattle.cmark_grammar.specs.BlockDocument.{BlockDocument}
 use Rattle.cmark_grammar.specs.BracketDecisions.{decide}
@@ -48,29 +48,13 @@ module _ (Says Other : Saying) (wider : (asked : List Exchange) (question : Ques
     reads-wider : (s : State) (parts : Parts) (t : State) → Reads token decide Says s parts t → Reads token decide Other s parts t
     reads-wider s Nil t h = h
     reads-wider s (Single item after) t h = (h.0, h.1, reads-wider (moved h.0 s) after t h.2)
-    reads-wider s (Form opener inside closer formed after) t h = record {
-      until = h.until;
-      next = h.next;
-      opens = h.opens;
-      inside = reads-wider (opened opener s) inside h.until h.inside;
-      closes = h.closes;
-      comes = comes-wider h.until.asked (decide h.until closer) _ h.comes;
-      after = reads-wider h.next after t h.after;
-    }
+    reads-wider s (Form opener inside closer formed after) t h = search (rules, comes-wider, reads-wider (opened opener s) inside h.until h.inside, reads-wider h.next after t h.after)
     reads-wider s (Closing closer after) t h = record { next = h.next; closes = h.closes; comes = comes-wider s.asked (decide s closer) _ h.comes; after = reads-wider h.next after t h.after }
     reads-wider s (Opening opener after) t h = (h.0, reads-wider (opened opener s) after t h.1)
 
   module _ (reader : Reader) where
     pub leaf-wider : (leaf : Leaf) (before after : Between) (events : List Ranged) → ReadsLeaf reader Says leaf before events after → ReadsLeaf reader Other leaf before events after
-    leaf-wider leaf before after events h = record {
-      parts = h.parts;
-      last = h.last;
-      spans = h.spans;
-      reads = record { reads = reads-wider (token reader leaf) (decide reader leaf) (entering leaf before) h.parts h.last h.reads.reads; ends = h.reads.ends };
-      are = h.are;
-      events_are = h.events_are;
-      after_is = h.after_is;
-    }
+    leaf-wider leaf before after events h = grind (arith, reads-wider)
 
     pub all-wider : (others : List Segment) (before after : Between) (events : List Ranged) → ReadsAll reader Says others before events after → ReadsAll reader Other others before events after
     all-wider [] before after events h = h
@@ -96,9 +80,7 @@ module _ (reader : Reader) (plan : Plan) where
   pub all-one : (others : List Segment) (before : Between) (first second : List Ranged) (one other : Between) → ReadsAll reader (ByPlan plan) others before first one → ReadsAll reader (ByPlan plan) others before second other
       → (first ≡ second) × (one ≡ other)
   all-one [] before first second one other h k = (h.0 ∙ sym k.0, h.1 ∙ sym k.1)
-  all-one (Given r ∷ others) before first second one other h k =
-      let i = all-one others before h.0 k.0 one other h.1 k.1 in
-      (h.2 ∙ ap (λ l. r ∷ l) i.0 ∙ sym k.2, i.1)
+  all-one (Given r ∷ others) before first second one other h k = grind (arith, all-one others before h.0 k.0 one other h.1 k.1)
   all-one (Content leaf ∷ others) before first second one other h k =
       let e = leaf-one leaf before h.0 k.0 h.2 k.2 h.3 k.3 in
       let i = all-one others k.2 h.1 k.1 one other (subst (λ m. ReadsAll reader (ByPlan plan) others m h.1 one) e.after h.4) k.4 in
@@ -114,11 +96,7 @@ answered-one text profile asked others first second e h k =
   where
     go : (a b : BlockDocument) → a ≡ b → ReadsAll (reader_of text profile a) (ByPlan (plan-in (answers_of others))) (segments a) (at_start profile) first h.after
         → ReadsAll (reader_of text profile b) (ByPlan (plan-in (answers_of others))) (segments b) (at_start profile) second k.after → (first ≡ second) × (asked ≡ others)
-    go a b e r s =
-        let i =
-        all-one (reader_of text profile b) (plan-in (answers_of others)) (segments b) (at_start profile) first second h.after k.after
-        (subst (λ x. ReadsAll (reader_of text profile x) (ByPlan (plan-in (answers_of others))) (segments x) (at_start profile) first h.after) e r) s in
-        (i.0, sym h.asked ∙ ap (λ (x : Between). x.asked) i.1 ∙ k.asked)
+    go a b e r s = grind (arith, all-one)
 
 -- the readings of a leaf with the same answers
 pub leaf-answered : (reader : Reader) (leaf : Leaf) (before one other : Between) (asked others : List Exchange) (first second : List Ranged) → answers_of asked ≡ answers_of others

@@ -1,6 +1,6 @@
 -- An offset of the source divides the bytes of a leaf into those before it and those from there on.
-use Rattle.std.specs.Prelude.{◌-◌, nat_lt, max, min, get_or, drop, take}
-use Rattle.std.proofs.Common.{◌≡◌, ◌⊎◌, inl, inr, Bool, true, false, ℕ, suc, ◌+◌, ◌<◌, ◌≤◌, List, [], ◌∷◌, ◌++◌, length, refl, sym, ap, ◌∙◌, subst, arith, length-drop, drop-drop, append_assoc}
+use Rattle.std.specs.Prelude.{◌-◌, max, min, get_or, drop, take}
+use Rattle.std.proofs.Common.{◌≡◌, ◌⊎◌, inl, inr, ℕ, suc, ◌+◌, ◌<◌, ◌≤◌, List, [], ◌∷◌, ◌++◌, length, refl, sym, ap, ◌∙◌, subst, arith, length-drop, drop-drop, append_assoc}
 use Rattle.std.proofs.Math.Seq.{drop-cons, drop-append_seam, take-append_seam}
 use Rattle.std.proofs.lemmas.Bool.{ltb-true, ltb-false}
 use Rattle.std.proofs.lemmas.List.{length-append, length-take, take-append-drop, take-take, drop-take, append-nil}
@@ -16,18 +16,10 @@ use Rattle.cmark_inline_model.proofs.LeafSteps.{all_bytes, all-size, at-next, by
 use Rattle.cmark_inline_model.proofs.TextPlaces.{text-places}
 
 le_or : (a b : ℕ) → (a ≤ b) ⊎ (b < a)
-le_or a b = go (nat_lt b a) refl
-  where
-    go : (x : Bool) → nat_lt b a ≡ x → (a ≤ b) ⊎ (b < a)
-    go true e = inr (ltb-true b a e)
-    go false e = inl (ltb-false b a e)
+le_or a b = grind (arith, ltb-true, ltb-false)
 
 slice_none : (source : List ℕ) (start end : ℕ) → end ≤ start → slice source start end ≡ []
-slice_none source start end h = none (slice source start end) (let t = length-take (end - start) (drop start source) in omega arith)
-  where
-    none : (l : List ℕ) → length l ≡ 0 → l ≡ []
-    none [] e = refl
-    none (b ∷ l) e = cc
+slice_none source start end h = grind (arith, length-take)
 
 -- two slices that touch are one
 slice_joined : (source : List ℕ) (start mid end : ℕ) → start ≤ mid → mid ≤ end → slice source start mid ++ slice source mid end ≡ slice source start end
@@ -49,49 +41,23 @@ slice_joined source start mid end h k =
 -- after the offset no byte of earlier stretches is left, and before it no byte of later ones
 none_before : (source : List ℕ) (low : ℕ) (st : List Stretch) (size at : ℕ) → at ≤ low → InTurn low st size → bytes_before source st at ≡ []
 none_before source low [] size at h k = refl
-none_before source low (s ∷ more) size at h k =
-    let x = k.0 in let y = k.1 in
-    ap (λ l. l ++ bytes_before source more at) (slice_none source s.start (min at s.end) (omega arith)) ∙ none_before source s.end more size at (omega arith) k.2
+none_before source low (s ∷ more) size at h k = cc (slice_none source s.start (min at s.end) (omega arith), none_before source s.end more size at (omega arith) k.2)
 
 cut : (source : List ℕ) (low : ℕ) (st : List Stretch) (size at : ℕ) → InTurn low st size → bytes_before source st at ++ bytes_from source st at ≡ all_bytes source st
 cut source low [] size at h = refl
 cut source low (s ∷ more) size at h = go (le_or s.end at) (cut source s.end more size at h.2)
   where
     go : (s.end ≤ at) ⊎ (at < s.end) → bytes_before source more at ++ bytes_from source more at ≡ all_bytes source more → bytes_before source (s ∷ more) at ++ bytes_from source (s ∷ more) at ≡ all_bytes source (s ∷ more)
-    go (inl e) i =
-        let m : min at s.end ≡ s.end = omega arith in
-        ap (λ l. (slice source s.start (min at s.end) ++ bytes_before source more at) ++ (l ++ bytes_from source more at)) (slice_none source (max at s.start) s.end (omega arith))
-        ∙ ap (λ n. (slice source s.start n ++ bytes_before source more at) ++ bytes_from source more at) m
-        ∙ append_assoc (slice source s.start s.end) (bytes_before source more at) (bytes_from source more at)
-        ∙ ap (λ l. slice source s.start s.end ++ l) i
-    go (inr e) i =
-        let m : min at s.end ≡ at = omega arith in
-        let x = h.1 in
-        ap (λ l. (slice source s.start (min at s.end) ++ l) ++ (slice source (max at s.start) s.end ++ bytes_from source more at)) (none_before source s.end more size at (omega arith) h.2)
-        ∙ ap (λ l. l ++ (slice source (max at s.start) s.end ++ bytes_from source more at)) (append-nil (slice source s.start (min at s.end)))
-        ∙ ap (λ n. slice source s.start n ++ (slice source (max at s.start) s.end ++ bytes_from source more at)) m
-        ∙ sym (append_assoc (slice source s.start at) (slice source (max at s.start) s.end) (bytes_from source more at))
-        ∙ ap (λ l. l ++ bytes_from source more at) (front (le_or at s.start))
-        ∙ ap (λ l. slice source s.start s.end ++ l) (bytes-low source at s.end more size (omega arith) h.2)
+    go (inl e) i = grind (arith, slice_none, append_assoc)
+    go (inr e) i = grind (arith, none_before, append-nil, append_assoc, front, le_or, bytes-low)
       where
         front : (at ≤ s.start) ⊎ (s.start < at) → slice source s.start at ++ slice source (max at s.start) s.end ≡ slice source s.start s.end
-        front (inl k) =
-            ap (λ l. l ++ slice source (max at s.start) s.end) (slice_none source s.start at k) ∙ ap (λ n. slice source n s.end) (let q : max at s.start ≡ s.start = omega arith in q)
-        front (inr k) =
-            ap (λ n. slice source s.start at ++ slice source n s.end) (let q : max at s.start ≡ at = omega arith in q) ∙ slice_joined source s.start at s.end (omega arith) (omega arith)
+        front h = grind (arith, slice_none, slice_joined)
 
 -- further on fewer bytes are left
 fewer : (source : List ℕ) (st : List Stretch) (a b : ℕ) → a ≤ b → length (bytes_from source st b) ≤ length (bytes_from source st a)
 fewer source [] a b h = omega arith
-fewer source (s ∷ more) a b h =
-    let i = fewer source more a b h in
-    let la = length-append (slice source (max a s.start) s.end) (bytes_from source more a) in
-    let lb = length-append (slice source (max b s.start) s.end) (bytes_from source more b) in
-    let ta = length-take (s.end - max a s.start) (drop (max a s.start) source) in
-    let tb = length-take (s.end - max b s.start) (drop (max b s.start) source) in
-    let da = length-drop (max a s.start) source in
-    let db = length-drop (max b s.start) source in
-    omega arith
+fewer source (s ∷ more) a b h = grind (arith, length-append, length-take, length-drop, fewer source more a b h)
 
 module _ (reader : Reader) (leaf : Leaf) (size : ℕ) (turn : InTurn 0 leaf.stretches size) (within : size ≤ length reader.source) (lines : HaveLineEnds reader.source leaf.stretches) where
   abbrev text : List ℕ

@@ -1,6 +1,6 @@
 -- The line endings of a leaf's text are whole: a stretch begins with no line feed that belongs to a carriage return before it.
 use Rattle.std.specs.Prelude.{◌-◌, get_or}
-use Rattle.std.proofs.Common.{◌≡◌, ℕ, suc, ◌<◌, ◌≤◌, false, List, [], ◌∷◌, length, sym, ap, ◌∙◌, arith, length-drop, true≢false}
+use Rattle.std.proofs.Common.{◌≡◌, ℕ, suc, ◌<◌, ◌≤◌, false, List, [], ◌∷◌, length, sym, ap, ◌∙◌, arith, length-drop, rules}
 use Rattle.cmark_grammar.specs.Answers.{Lookup}
 use Rattle.cmark_grammar.specs.BlockDocument.{BlockDocument}
 use Rattle.cmark_grammar.specs.Derivation.{Derives}
@@ -35,14 +35,10 @@ ending_at source from (s ∷ (t ∷ more)) size n h l g k c p =
     following rest i = i.1
 
     here : size_of (t ∷ more) < suc n → is_content (get_or source (place_with n (s ∷ (t ∷ more))) 0) ≡ false → suc (s.end - (suc n - size_of (t ∷ more))) ≡ place_with n (s ∷ (t ∷ more))
-    here lt =
-        by_size (λ q. is_content (get_or source q 0) ≡ false → suc (s.end - (suc n - size_of (t ∷ more))) ≡ q) (size_of (t ∷ more)) n (s.end - (n - size_of (t ∷ more))) (place_with n (t ∷ more))
-        (λ m d. (let x = h.1 in omega arith)) (λ m d. absurd (first (let e : n ≡ size_of (t ∷ more) = omega arith in e) d))
+    here lt = search (rules, by_size, first)
       where
         first : n ≡ size_of (t ∷ more) → is_content (get_or source (place_with n (t ∷ more)) 0) ≡ false → ⊥
-        first e d =
-            let at : place_with n (t ∷ more) ≡ t.start = ap (λ i. place_with i (t ∷ more)) e ∙ place-first source t more l.2 in
-            true≢false (sym g.0 ∙ ap (λ i. is_content (get_or source i 0)) (sym at) ∙ d)
+        first e d = cc (place-first source t more l.2)
 
     later : suc n ≤ size_of (t ∷ more) → (is_content (get_or source (place_with n (t ∷ more)) 0) ≡ false → 0 < n → suc (place_with (suc n) (t ∷ more)) ≡ place_with n (t ∷ more))
         → is_content (get_or source (place_with n (s ∷ (t ∷ more))) 0) ≡ false → suc (place_with (suc n) (t ∷ more)) ≡ place_with n (s ∷ (t ∷ more))
@@ -83,6 +79,4 @@ all_placed reader (Given r ∷ others) a b c = all_placed reader others a b c
 all_placed reader (Content leaf ∷ others) a b c = (leaf-placed reader leaf a.0 b.0 c.0, all_placed reader others a.1 b.1 c.1)
 
 pub derived-placed : (reader : Reader) (options : Options) (lookup : Lookup) (document : BlockDocument) → Derives reader.source options lookup document → AreLeavesPlaced reader (segments document)
-derived-placed reader options lookup document h =
-    all_placed reader (segments document) (segments-turn (length reader.source) 0 document (length reader.source) (omega arith) (derived-order reader.source options lookup document h))
-    (derived-lines reader.source options lookup document h) (derived-fronts reader.source options lookup document h)
+derived-placed reader options lookup document h = search (rules, all_placed, segments-turn, derived-order, derived-lines, derived-fronts)

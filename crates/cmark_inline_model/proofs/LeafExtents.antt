@@ -29,10 +29,7 @@ turn-extent from (s ∷ more) to h =
 pub rise-extents : (from : ℕ) (others : List Segment) (to : ℕ) → LeavesRise from others to → from + extents others ≤ to
 rise-extents from [] to h = omega arith
 rise-extents from (Given r ∷ others) to h = rise-extents from others to h
-rise-extents from (Content leaf ∷ others) to h =
-    let a = turn-extent from leaf.stretches h.0 h.1 in
-    let b = rise-extents h.0 others to h.2 in
-    omega arith
+rise-extents from (Content leaf ∷ others) to h = grind (arith, turn-extent, rise-extents h.0 others to h.2)
 
 pub derived-extents : (text : List ℕ) (options : Options) (lookup : Lookup) (document : BlockDocument) → Derives text options lookup document → extents (segments document) ≤ length text
 derived-extents text options lookup document derives =

@@ -1,6 +1,6 @@
 -- In the leaves of a document that is derived only the first stretch may begin with a line ending: a line of a paragraph is not blank.
-use Rattle.std.specs.Prelude.{◌==◌, nat_lt, if◌then◌else◌, cond, get_or, take_while}
-use Rattle.std.proofs.Common.{◌≡◌, ℕ, zero, suc, ◌+◌, Bool, true, false, List, [], ◌∷◌, ◌++◌, length, drop, refl, sym, ap, ◌∙◌, subst, arith, append_assoc, Option, Some, None, true≢false, length-append, get_or-append-add}
+use Rattle.std.specs.Prelude.{◌==◌, if◌then◌else◌, cond, get_or}
+use Rattle.std.proofs.Common.{◌≡◌, ℕ, zero, suc, ◌+◌, Bool, true, false, List, [], ◌∷◌, ◌++◌, length, drop, refl, sym, ap, ◌∙◌, subst, arith, append_assoc, Option, Some, None, true≢false, length-append, get_or-append-add, rules}
 use Rattle.std.proofs.lemmas.List.Sums.{take_while-cons}
 use Rattle.cmark_grammar.specs.Characters.{tab}
 use Rattle.cmark_grammar.specs.Answers.{Lookup}
@@ -12,10 +12,10 @@ use Rattle.cmark_grammar.specs.Derivation.{Derives}
 use Rattle.cmark_grammar.specs.LeafText.{Stretch}
 use Rattle.cmark_grammar.specs.Lines.{lines, content, is_content}
 use Rattle.cmark_grammar.specs.Options.{Options}
-use Rattle.cmark_grammar.specs.Rows.{Row, rows, rows_from, row_at, begin_of, start_of, is_bare, is_blank_line, shown}
+use Rattle.cmark_grammar.specs.Rows.{Row, rows, rows_from, row_at, begin_of, is_bare, is_blank_line, shown}
 use Rattle.cmark_grammar.specs.SetextAttributes.{texts_before}
 use Rattle.cmark_grammar.specs.SpanDocuments.{stretches_of, segments}
-use Rattle.cmark_grammar.specs.Tokens.{slice, texts_then, stretch_then, stretches, words_end}
+use Rattle.cmark_grammar.specs.Tokens.{stretch_then, stretches, words_end}
 use Rattle.cmark_block_model.proofs.BlockLaws.{texts-words}
 use Rattle.cmark_block_model.proofs.BoundaryLaws.{joined, lines-ended, content-cut}
 use Rattle.cmark_block_model.proofs.RowPlaces.{Runs, drop-Runs, expand-Runs, first_place-Runs, kept-following, after_prefix}
@@ -75,11 +75,7 @@ begins_so text from [] to h k e = absurd (true≢false e)
 begins_so text from (c ∷ cs) to h k e = go (c.part == 0) refl h.0 (begins_so text (suc c.at) cs to h.1 k.2)
   where
     go : (z : Bool) → (c.part == 0) ≡ z → (if z then c.at else suc c.at) ≡ from → (is_bare (without_indent cs) ≡ false → is_content (get_or text (suc c.at) 0) ≡ true) → is_content (get_or text from 0) ≡ true
-    go true q p ih = subst (λ n. is_content (get_or text n 0) ≡ true) p (k.0 q)
-    go false q p ih =
-        let w : is_bare (drop (length (cond (is_blank c) (c ∷ take_while is_blank cs) [])) (c ∷ cs)) ≡ false = subst (λ l. is_bare (drop (length l) (c ∷ cs)) ≡ false) (take_while-cons is_blank c cs) e in
-        let v : is_bare (without_indent cs) ≡ false = subst (λ z. is_bare (drop (length (cond z (c ∷ take_while is_blank cs) [])) (c ∷ cs)) ≡ false) (k.1 q) w in
-        subst (λ n. is_content (get_or text n 0) ≡ true) p (ih v)
+    go z q p ih = grind (arith, take_while-cons)
 
 -- ## Rows
 
@@ -153,18 +149,10 @@ all_but_first source [] h = tt
 all_but_first source (s ∷ more) h = h.1
 
 stretch_begins : (text : List ℕ) (start end : ℕ) (after : BlockDocument) → is_content (get_or text start 0) ≡ true → BeginWithText text (stretches_of after) → BeginWithText text (stretches_of (stretch_then text start end after))
-stretch_begins text start end after c h = go (nat_lt start end)
-  where
-    go : (z : Bool) → BeginWithText text (stretches_of (texts_then (if z then record { owned = false; bytes = slice text start end; start = start; end = end } ∷ [] else []) after))
-    go true = (c, h)
-    go false = h
+stretch_begins text start end after c h = grind arith
 
 stretch_goes_on : (text : List ℕ) (start end : ℕ) (after : BlockDocument) → BeginWithText text (stretches_of after) → GoOnWithText text (stretches_of (stretch_then text start end after))
-stretch_goes_on text start end after h = go (nat_lt start end)
-  where
-    go : (z : Bool) → GoOnWithText text (stretches_of (texts_then (if z then record { owned = false; bytes = slice text start end; start = start; end = end } ∷ [] else []) after))
-    go true = h
-    go false = all_but_first text (stretches_of after) h
+stretch_goes_on text start end after h = grind (arith, all_but_first)
 
 -- lines that are not blank
 abbrev AreWords : (text : List ℕ) → List Row → Type 0
@@ -173,38 +161,20 @@ AreWords text (r ∷ rs) = (is_content (get_or text (begin_of r) 0) ≡ true) ×
 
 stretches_begin : (text : List ℕ) (begin : ℕ) (r : Row) (more : List Row) → is_content (get_or text begin 0) ≡ true → AreWords text more → BeginWithText text (stretches_of (stretches text begin r more))
 stretches_begin text begin r [] c h = stretch_begins text begin (words_end r) Nil c tt
-stretches_begin text begin r (s ∷ more) c h = go (begin_of s == r.line_end) (stretches_begin text begin s more c h.1) (stretches_begin text (begin_of s) s more h.0 h.1)
-  where
-    go : (z : Bool) → BeginWithText text (stretches_of (stretches text begin s more)) → BeginWithText text (stretches_of (stretches text (begin_of s) s more))
-        → BeginWithText text (stretches_of (if z then stretches text begin s more else stretch_then text begin r.line_end (stretches text (begin_of s) s more)))
-    go true p q = p
-    go false p q = stretch_begins text begin r.line_end (stretches text (begin_of s) s more) c q
+stretches_begin text begin r (s ∷ more) c h = search (rules, stretch_begins, stretches_begin text begin s more c h.1, stretches_begin text (begin_of s) s more h.0 h.1)
 
 stretches_go_on : (text : List ℕ) (begin : ℕ) (r : Row) (more : List Row) → AreWords text more → GoOnWithText text (stretches_of (stretches text begin r more))
 stretches_go_on text begin r [] h = stretch_goes_on text begin (words_end r) Nil tt
-stretches_go_on text begin r (s ∷ more) h = go (begin_of s == r.line_end) (stretches_go_on text begin s more h.1) (stretches_begin text (begin_of s) s more h.0 h.1)
-  where
-    go : (z : Bool) → GoOnWithText text (stretches_of (stretches text begin s more)) → BeginWithText text (stretches_of (stretches text (begin_of s) s more))
-        → GoOnWithText text (stretches_of (if z then stretches text begin s more else stretch_then text begin r.line_end (stretches text (begin_of s) s more)))
-    go true p q = p
-    go false p q = stretch_goes_on text begin r.line_end (stretches text (begin_of s) s more) q
+stretches_go_on text begin r (s ∷ more) h = grind (arith, stretches_begin, stretch_goes_on, stretches_go_on text begin s more h.1)
 
 -- texts before a place begin as they did
 before_begin : (text : List ℕ) (at : ℕ) (d : BlockDocument) → BeginWithText text (stretches_of d) → BeginWithText text (stretches_of (texts_before text at d))
 before_begin text at Nil h = tt
-before_begin text at (Node n inside after) h = go (nat_lt n.end at) (before_begin text at after h.1)
-  where
-    go : (z : Bool) → BeginWithText text (stretches_of (texts_before text at after)) → BeginWithText text (stretches_of (if z then Node n inside (texts_before text at after) else stretch_then text n.start at Nil))
-    go true ih = (h.0, ih)
-    go false ih = stretch_begins text n.start at Nil h.0 tt
+before_begin text at (Node n inside after) h = grind (arith, stretch_begins, before_begin text at after h.1)
 
 before_go_on : (text : List ℕ) (at : ℕ) (d : BlockDocument) → GoOnWithText text (stretches_of d) → GoOnWithText text (stretches_of (texts_before text at d))
 before_go_on text at Nil h = tt
-before_go_on text at (Node n inside after) h = go (nat_lt n.end at) (before_begin text at after h)
-  where
-    go : (z : Bool) → BeginWithText text (stretches_of (texts_before text at after)) → GoOnWithText text (stretches_of (if z then Node n inside (texts_before text at after) else stretch_then text n.start at Nil))
-    go true ih = ih
-    go false ih = stretch_goes_on text n.start at Nil tt
+before_go_on text at (Node n inside after) h = grind (arith, before_begin, stretch_goes_on)
 
 -- ## Leaves
 
@@ -214,14 +184,7 @@ words_are text options [] rest h t = tt
 words_are text options (r ∷ more) rest h t = (row_begins text r h.0 (texts-words options r (shown (more ++ rest)) t.0.0), words_are text options more rest h.1 t.1)
 
 pub keeps_fronts : (text : List ℕ) (options : Options) → KeepsStretches text options (GoOnWithText text) (AreRows text)
-keeps_fronts text options = record {
-  none = tt;
-  one = λ start end lt. tt;
-  paragraph = λ first more rest h others. stretches_go_on text (start_of first) first more (words_are text options more rest (rows_front text (first ∷ more) rest h).1 others);
-  cut = before_go_on text;
-  following = λ r rs h. h.1;
-  inside = λ k first more rest h. rows_inside text k first more (rows_front text (first ∷ more) rest h);
-}
+keeps_fronts text options = grind (arith, stretches_go_on, words_are, rows_front, before_go_on, rows_inside)
 
 pub derived-fronts : (text : List ℕ) (options : Options) (lookup : Lookup) (document : BlockDocument) → Derives text options lookup document → AllLeaves (GoOnWithText text) (segments document)
 derived-fronts text options lookup document h = derived-leaves text options (GoOnWithText text) (AreRows text) (keeps_fronts text options) lookup document h (rows_are text)

@@ -1,6 +1,6 @@
 -- Between the offsets of a byte of a leaf's text and of the next byte there are only prefixes of containers, and no pipe.
 use Rattle.std.specs.Prelude.{◌-◌, ◌==◌, get_or}
-use Rattle.std.proofs.Common.{◌≡◌, ℕ, suc, ◌<◌, ◌≤◌, Bool, true, false, List, [], ◌∷◌, length, refl, sym, ap, ◌∙◌, subst, arith, eqb-true, true≢false, length-drop}
+use Rattle.std.proofs.Common.{◌≡◌, ℕ, suc, ◌<◌, ◌≤◌, true, false, List, [], ◌∷◌, length, ap, ◌∙◌, subst, arith, eqb-true, length-drop, rules}
 use Rattle.cmark_grammar.specs.Answers.{Lookup}
 use Rattle.cmark_grammar.specs.BlockDocument.{BlockDocument}
 use Rattle.cmark_grammar.specs.Derivation.{Derives}
@@ -32,14 +32,7 @@ between source from (s ∷ (t ∷ more)) size n x h l g k p low high =
     following rest i = i.1
 
     here : size_of (t ∷ more) < suc n → s.end - (suc n - size_of (t ∷ more)) < x → x < place_with n (s ∷ (t ∷ more)) → is_prefix_byte (get_or source x 0) ≡ true
-    here lt =
-        by_size (λ q. s.end - (suc n - size_of (t ∷ more)) < x → x < q → is_prefix_byte (get_or source x 0) ≡ true) (size_of (t ∷ more)) n (s.end - (n - size_of (t ∷ more))) (place_with n (t ∷ more))
-        (λ m a b. absurd (let y = h.1 in omega arith)) (λ m a b. first (let e : n ≡ size_of (t ∷ more) = omega arith in e) a b)
-      where
-        first : n ≡ size_of (t ∷ more) → s.end - (suc n - size_of (t ∷ more)) < x → x < place_with n (t ∷ more) → is_prefix_byte (get_or source x 0) ≡ true
-        first e a b =
-            let at : place_with n (t ∷ more) ≡ t.start = ap (λ i. place_with i (t ∷ more)) e ∙ place-first source t more l.2 in
-            g.0 x (let y : s.end ≤ x = omega arith in y) (let y : x < t.start = omega arith in y)
+    here lt = search (rules, by_size, place-first)
 
     later : suc n ≤ size_of (t ∷ more) → (place_with (suc n) (t ∷ more) < x → x < place_with n (t ∷ more) → is_prefix_byte (get_or source x 0) ≡ true)
         → place_with (suc n) (t ∷ more) < x → x < place_with n (s ∷ (t ∷ more)) → is_prefix_byte (get_or source x 0) ≡ true
@@ -63,11 +56,7 @@ leaf_between reader leaf turn lines gaps k x lt low high =
 
 -- a prefix has no pipe
 no_pipe : (b : ℕ) → is_prefix_byte b ≡ true → (b == 124) ≡ false
-no_pipe b e = go (b == 124) refl
-  where
-    go : (z : Bool) → (b == 124) ≡ z → z ≡ false
-    go true q = absurd (true≢false (sym e ∙ ap is_prefix_byte (eqb-true b 124 q)))
-    go false q = refl
+no_pipe b e = grind (arith, eqb-true)
 
 pub all_between : (reader : Reader) (others : List Segment) → AreLeavesPlaced reader others → AllLeaves (HaveGaps reader.source) others → HavePrefixesBetween reader others
 all_between reader [] p g = tt

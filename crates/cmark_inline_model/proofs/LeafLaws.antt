@@ -1,5 +1,5 @@
 -- A leaf has a reading for each plan of answers, and only one for each list of answers.
-use Rattle.std.proofs.Common.{◌≡◌, List, ◌++◌, refl, sym, ap, ◌∙◌}
+use Rattle.std.proofs.Common.{◌≡◌, List, ◌++◌, refl, sym, ap, ◌∙◌, arith}
 use Rattle.cmark_grammar.specs.BracketDecisions.{decide}
 use Rattle.cmark_grammar.specs.Event.{Ranged}
 use Rattle.cmark_grammar.specs.InlineReading.{inline_events}
@@ -37,18 +37,7 @@ module _ (reader : Reader) (leaf : Leaf) where
   -- a reading with any answers is a reading with the list of the answers that it got, followed by any others
   pub leaf-next : IsRecorded (decide reader leaf) → (Says : Saying) (before after : Between) (events : List Ranged) (all rest : List Exchange) → all ≡ after.asked ++ rest
       → ReadsLeaf reader Says leaf before events after → ReadsLeaf reader (IsNext all) leaf before events after
-  leaf-next recorded Says before after events all rest e h = record {
-    parts = h.parts;
-    last = h.last;
-    spans = h.spans;
-    reads = record {
-      reads = reads-next (token reader leaf) (decide reader leaf) Says recorded all rest (entering leaf before) h.parts h.last (e ∙ ap (λ (b : Between). b.asked ++ rest) h.after_is) h.reads.reads;
-      ends = h.reads.ends;
-    };
-    are = h.are;
-    events_are = h.events_are;
-    after_is = h.after_is;
-  }
+  leaf-next recorded Says before after events all rest e h = grind (arith, reads-next)
 
   -- a leaf has only one reading for each list of answers
   pub leaf-same : (all : List Exchange) (before : Between) (first second : List Ranged) (a b : Between) → ReadsLeaf reader (IsNext all) leaf before first a → ReadsLeaf reader (IsNext all) leaf before second b → (first ≡ second) × (a ≡ b)

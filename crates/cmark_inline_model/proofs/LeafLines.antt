@@ -1,17 +1,16 @@
 -- In the leaves of a document that is derived each stretch but the last ends with a line ending.
-use Rattle.std.specs.Prelude.{◌-◌, ◌==◌, nat_lt, if◌then◌else◌, get_or}
-use Rattle.std.proofs.Common.{◌≡◌, ◌⊎◌, inl, inr, ⊎_elim, ℕ, ◌+◌, ◌<◌, Bool, true, false, not, ◌&&◌, ◌||◌, List, [], ◌∷◌, ◌++◌, length, refl, sym, ap, ◌∙◌, subst, arith, append_assoc, true≢false, length-append, get_or-append-add}
-use Rattle.cmark_grammar.specs.Characters.{carriage_return, line_feed}
+use Rattle.std.specs.Prelude.{◌-◌, if◌then◌else◌, get_or}
+use Rattle.std.proofs.Common.{◌≡◌, ◌⊎◌, inl, inr, ⊎_elim, ℕ, ◌+◌, Bool, true, false, List, [], ◌∷◌, ◌++◌, length, refl, sym, ap, ◌∙◌, subst, arith, append_assoc, length-append, get_or-append-add, rules}
 use Rattle.cmark_grammar.specs.Answers.{Lookup}
 use Rattle.cmark_grammar.specs.BlockDocument.{BlockDocument, Nil, Node}
-use Rattle.cmark_grammar.specs.Containers.{Container, is_alert, unless_tag, enter, strips, is_bare_start, insides}
+use Rattle.cmark_grammar.specs.Containers.{Container, enter, strips, insides}
 use Rattle.cmark_grammar.specs.Derivation.{Derives}
-use Rattle.cmark_grammar.specs.Lines.{lines, ends_line, onto, is_content, begins_with_line_feed}
+use Rattle.cmark_grammar.specs.Lines.{lines, ends_line, onto, is_content}
 use Rattle.cmark_grammar.specs.Options.{Options}
 use Rattle.cmark_grammar.specs.Rows.{Row, rows, rows_from, begin_of, start_of}
 use Rattle.cmark_grammar.specs.SetextAttributes.{texts_before}
 use Rattle.cmark_grammar.specs.SpanDocuments.{Segment, Given, Content, stretches_of, segments}
-use Rattle.cmark_grammar.specs.Tokens.{slice, texts_then, stretch_then, stretches, words_end}
+use Rattle.cmark_grammar.specs.Tokens.{stretch_then, stretches, words_end}
 use Rattle.cmark_block_model.proofs.BoundaryLaws.{joined}
 use Rattle.cmark_block_model.proofs.RowPlaces.{strip-line_end}
 use Rattle.cmark_inline_model.specs.LeafModel.{EndsLine, HaveLineEnds, AreLeavesOfLines}
@@ -42,12 +41,7 @@ onto_joined b [] = refl
 onto_joined b (l ∷ ls) = refl
 
 no_content : (b : ℕ) (bs : List ℕ) → ends_line b bs ≡ true → is_content b ≡ false
-no_content b bs e = go (b == line_feed) (b == carriage_return) (begins_with_line_feed bs) e
-  where
-    go : (x y z : Bool) → (x || (y && not z)) ≡ true → (not x && not y) ≡ false
-    go true y z e = refl
-    go false true z e = refl
-    go false false z e = absurd (true≢false (sym e))
+no_content b bs e = grind arith
 
 pub lines_are : (bs : List ℕ) → AreLines (lines bs) × (joined (lines bs) ≡ bs)
 lines_are [] = (tt, refl)
@@ -77,18 +71,7 @@ rows_strip text k bare (r ∷ (s ∷ rs)) h =
 
 rows_inside : (text : List ℕ) (k : Container) (first : Row) (more : List Row) → RowsEnd text (first ∷ more) → RowsEnd text (insides k first more)
 unfolding enter
-rows_inside text k first more h = go (is_alert k) (begins more h)
-  where
-    others : RowsEnd text (strips k (is_bare_start k first) more)
-    others = rows_strip text k (is_bare_start k first) more h.1
-
-    begins : (more : List Row) → RowsEnd text (first ∷ more) → (strips k (is_bare_start k first) more ≡ []) ⊎ EndsLine text (enter k first).line_end
-    begins [] h = inl refl
-    begins (r ∷ more) h = ⊎_elim (λ e. absurd (let d : ⊥ = cc in d)) inr h.0
-
-    go : (is_tag : Bool) → (strips k (is_bare_start k first) more ≡ []) ⊎ EndsLine text (enter k first).line_end → RowsEnd text (unless_tag is_tag (enter k first) (strips k (is_bare_start k first) more))
-    go true e = others
-    go false e = (e, others)
+rows_inside text k first more h = grind (arith, rows_strip)
 
 last_ends : (text before line after : List ℕ) → text ≡ before ++ (line ++ after) → LastEnds line → EndsLine text (length before + length line)
 last_ends text before [] after e a = absurd (let z : ⊥ = a in z)
@@ -116,34 +99,17 @@ rows_end text = let h = lines_are text in rows_of_lines text [] (lines text) 0 (
 -- ## Stretches
 
 stretch_ends : (text : List ℕ) (start end : ℕ) (after : BlockDocument) → (stretches_of after ≡ []) ⊎ EndsLine text end → HaveLineEnds text (stretches_of after) → HaveLineEnds text (stretches_of (stretch_then text start end after))
-stretch_ends text start end after e h = go (nat_lt start end) refl
-  where
-    go : (z : Bool) → nat_lt start end ≡ z → HaveLineEnds text (stretches_of (texts_then (if z then record { owned = false; bytes = slice text start end; start = start; end = end } ∷ [] else []) after))
-    go true q = ((let l : start < end = grind (arith) in l), e, h)
-    go false q = h
+stretch_ends text start end after e h = grind arith
 
 stretches_end : (text : List ℕ) (begin : ℕ) (r : Row) (more : List Row) → RowsEnd text (r ∷ more) → HaveLineEnds text (stretches_of (stretches text begin r more))
 stretches_end text begin r [] h = stretch_ends text begin (words_end r) Nil (inl refl) tt
-stretches_end text begin r (s ∷ more) h = go (begin_of s == r.line_end) (stretches_end text begin s more h.1) (stretches_end text (begin_of s) s more h.1)
-  where
-    go : (z : Bool) → HaveLineEnds text (stretches_of (stretches text begin s more)) → HaveLineEnds text (stretches_of (stretches text (begin_of s) s more))
-        → HaveLineEnds text (stretches_of (if z then stretches text begin s more else stretch_then text begin r.line_end (stretches text (begin_of s) s more)))
-    go true p q = p
-    go false p q = stretch_ends text begin r.line_end (stretches text (begin_of s) s more) (⊎_elim (λ n. absurd (let d : ⊥ = cc in d)) inr h.0) q
+stretches_end text begin r (s ∷ more) h = search (rules, stretch_ends, stretches_end text begin s more h.1, stretches_end text (begin_of s) s more h.1)
 
 -- texts before an offset end as they did, except the last
 before_ends : (text : List ℕ) (at : ℕ) (d : BlockDocument) → HaveLineEnds text (stretches_of d) → HaveLineEnds text (stretches_of (texts_before text at d))
 before_ends text at Nil h = tt
-before_ends text at (Node n inside Nil) h = go (nat_lt n.end at)
-  where
-    go : (z : Bool) → HaveLineEnds text (stretches_of (if z then Node n inside Nil else stretch_then text n.start at Nil))
-    go true = h
-    go false = stretch_ends text n.start at Nil (inl refl) tt
-before_ends text at (Node n inside (Node m i a)) h = go (nat_lt n.end at) (before_ends text at (Node m i a) h.2)
-  where
-    go : (z : Bool) → HaveLineEnds text (stretches_of (texts_before text at (Node m i a))) → HaveLineEnds text (stretches_of (if z then Node n inside (texts_before text at (Node m i a)) else stretch_then text n.start at Nil))
-    go true ih = (h.0, ⊎_elim (λ none. absurd (let d : ⊥ = cc in d)) inr h.1, ih)
-    go false ih = stretch_ends text n.start at Nil (inl refl) tt
+before_ends text at (Node n inside Nil) h = grind (arith, stretch_ends)
+before_ends text at (Node n inside (Node m i a)) h = search (rules, stretch_ends, before_ends text at (Node m i a) h.2)
 
 -- ## Leaves
 

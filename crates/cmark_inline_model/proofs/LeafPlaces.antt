@@ -1,6 +1,6 @@
 -- Offsets in a leaf whose stretches are in order: the bytes that are left after an offset are after it, and end with the leaf.
 use Rattle.std.specs.Prelude.{◌-◌, nat_lt, max, if◌then◌else◌, drop}
-use Rattle.std.proofs.Common.{◌≡◌, ◌⊎◌, inl, inr, Bool, true, false, ℕ, suc, ◌+◌, ◌<◌, ◌≤◌, List, [], ◌∷◌, length, refl, ap, arith, length-drop}
+use Rattle.std.proofs.Common.{◌≡◌, ◌⊎◌, inl, inr, ℕ, suc, ◌+◌, ◌<◌, ◌≤◌, List, [], ◌∷◌, length, refl, arith, length-drop, rules}
 use Rattle.std.proofs.lemmas.Bool.{ltb-true, ltb-false}
 use Rattle.std.proofs.lemmas.List.{length-append, length-take}
 use Rattle.cmark_grammar.specs.LeafText.{Stretch, bytes_from, size_of, place_with, begin_of, end_of, InTurn}
@@ -11,12 +11,7 @@ slice_size source start end = let e = length-take (end - start) (drop start sour
 
 -- at most one byte is between an offset and the next
 slice_next : (source : List ℕ) (at start end : ℕ) → length (slice source (max at start) end) ≤ suc (length (slice source (max (suc at) start) end))
-slice_next source at start end =
-    let a = length-take (end - max at start) (drop (max at start) source) in
-    let b = length-take (end - max (suc at) start) (drop (max (suc at) start) source) in
-    let c = length-drop (max at start) source in
-    let d = length-drop (max (suc at) start) source in
-    omega arith
+slice_next source at start end = grind (arith, length-take, length-drop)
 
 pub lower : (from low : ℕ) (st : List Stretch) (size : ℕ) → low ≤ from → InTurn from st size → InTurn low st size
 lower from low [] size h k = omega arith
@@ -24,26 +19,14 @@ lower from low (s ∷ more) size h k = (omega arith, k.1, k.2)
 
 -- which part of a place is taken, by a comparison
 pub by_size : (P : ℕ → Type 0) (n m x y : ℕ) → (n < m → P x) → (m ≤ n → P y) → P (if nat_lt n m then x else y)
-by_size P n m x y h k = go (nat_lt n m) refl
-  where
-    go : (b : Bool) → nat_lt n m ≡ b → P (if b then x else y)
-    go true e = h (ltb-true n m e)
-    go false e = k (ltb-false n m e)
+by_size P n m x y h k = grind (arith, ltb-true, ltb-false)
 
 le_or : (a b : ℕ) → (a ≤ b) ⊎ (b < a)
-le_or a b = go (nat_lt b a) refl
-  where
-    go : (x : Bool) → nat_lt b a ≡ x → (a ≤ b) ⊎ (b < a)
-    go true e = inr (ltb-true b a e)
-    go false e = inl (ltb-false b a e)
+le_or a b = grind (arith, ltb-true, ltb-false)
 
 pub bytes-size : (source : List ℕ) (st : List Stretch) (at : ℕ) → length (bytes_from source st at) ≤ size_of st
 bytes-size source [] at = omega arith
-bytes-size source (s ∷ more) at =
-    let e = length-append (slice source (max at s.start) s.end) (bytes_from source more at) in
-    let a = slice_size source (max at s.start) s.end in
-    let b = bytes-size source more at in
-    omega arith
+bytes-size source (s ∷ more) at = grind (arith, length-append, slice_size, bytes-size source more at)
 
 start_up_to : (from : ℕ) (s : Stretch) (more : List Stretch) (size left : ℕ) → InTurn from (s ∷ more) size → left ≤ size_of (s ∷ more) → s.start ≤ place_with left (s ∷ more)
 start_up_to from s [] size left h k = let x = h.1 in omega arith
@@ -57,11 +40,7 @@ end_more s t more = by_size (λ p. p ≡ end_of (t ∷ more)) (size_of (t ∷ mo
 
 ends_after : (from : ℕ) (s : Stretch) (more : List Stretch) (size : ℕ) → InTurn from (s ∷ more) size → (s.end ≤ end_of (s ∷ more)) × (end_of (s ∷ more) ≤ size)
 ends_after from s [] size h = (omega arith, let x : s.end ≤ size = h.2 in omega arith)
-ends_after from s (t ∷ more) size h =
-    let e = end_more s t more in
-    let i = ends_after s.end t more size h.2 in
-    let x = h.2.0 in let y = h.2.1 in let a = i.0 in let b = i.1 in
-    (omega arith, omega arith)
+ends_after from s (t ∷ more) size h = grind (arith, end_more, ends_after s.end t more size h.2)
 
 pub end-within : (st : List Stretch) (size : ℕ) → InTurn 0 st size → end_of st ≤ size
 end-within [] size h = h
@@ -127,25 +106,14 @@ fits_from source from s (t ∷ more) size at h e =
 -- before all stretches the next offset has the same bytes after it
 same_from : (source : List ℕ) (at : ℕ) (st : List Stretch) (size : ℕ) → InTurn (suc at) st size → length (bytes_from source st at) ≡ length (bytes_from source st (suc at))
 same_from source at [] size h = refl
-same_from source at (s ∷ more) size h =
-    let l = length-append (slice source (max at s.start) s.end) (bytes_from source more at) in
-    let m = length-append (slice source (max (suc at) s.start) s.end) (bytes_from source more (suc at)) in
-    let x = h.0 in let y = h.1 in
-    let e : max at s.start ≡ max (suc at) s.start = omega arith in
-    let f : length (slice source (max at s.start) s.end) ≡ length (slice source (max (suc at) s.start) s.end) = ap (λ n. length (slice source n s.end)) e in
-    let i = same_from source at more size (lower s.end (suc at) more size (omega arith) h.2) in
-    omega arith
+same_from source at (s ∷ more) size h = search (rules, length-append, lower, same_from source at more size (lower s.end (suc at) more size (omega arith) h.2))
 
 next_from : (source : List ℕ) (from : ℕ) (st : List Stretch) (size at : ℕ) → InTurn from st size → length (bytes_from source st at) ≤ suc (length (bytes_from source st (suc at)))
 next_from source from [] size at h = omega arith
 next_from source from (s ∷ more) size at h = go (le_or s.end at) (next_from source s.end more size at h.2)
   where
     go : (s.end ≤ at) ⊎ (at < s.end) → length (bytes_from source more at) ≤ suc (length (bytes_from source more (suc at))) → length (bytes_from source (s ∷ more) at) ≤ suc (length (bytes_from source (s ∷ more) (suc at)))
-    go (inl e) i =
-        let l = length-append (slice source (max at s.start) s.end) (bytes_from source more at) in
-        let m = length-append (slice source (max (suc at) s.start) s.end) (bytes_from source more (suc at)) in
-        let a = slice_size source (max at s.start) s.end in
-        omega arith
+    go (inl e) i = grind (arith, length-append, slice_size)
     go (inr e) k =
         let l = length-append (slice source (max at s.start) s.end) (bytes_from source more at) in
         let m = length-append (slice source (max (suc at) s.start) s.end) (bytes_from source more (suc at)) in
@@ -179,11 +147,7 @@ module _ (source : List ℕ) (st : List Stretch) (size : ℕ) (turn : InTurn 0 s
   next-size at = next_from source 0 st size at turn
 
   pub place-following : (left at : ℕ) → left < length (bytes_from source st at) → at < place_with left st
-  place-following left at h =
-      let f = some-fit at (omega arith) in
-      let n = next_from source 0 st size at turn in
-      let p = place-from left (suc at) (omega arith) (omega arith) in
-      omega arith
+  place-following left at h = grind (arith, some-fit, next_from, place-from)
 
 -- a leaf does not end before it begins
 pub leaf-up : (st : List Stretch) (size : ℕ) → InTurn 0 st size → begin_of st ≤ end_of st

@@ -1,6 +1,6 @@
 -- Between two stretches of a leaf of a document that is derived there are only prefixes of containers: blanks, and `>` of block quotes.
-use Rattle.std.specs.Prelude.{◌==◌, nat_lt, if◌then◌else◌, get_or}
-use Rattle.std.proofs.Common.{◌≡◌, ℕ, zero, suc, ◌+◌, ◌≤◌, ◌<◌, Bool, true, false, ◌&&◌, ◌||◌, nat_le, List, [], ◌∷◌, ◌++◌, length, drop, refl, sym, ap, ◌∙◌, subst, arith, append_assoc, Option, Some, None, true≢false, length-append, get_or-append-add}
+use Rattle.std.specs.Prelude.{◌==◌, if◌then◌else◌, get_or}
+use Rattle.std.proofs.Common.{◌≡◌, ℕ, zero, suc, ◌+◌, ◌≤◌, ◌<◌, Bool, true, false, ◌&&◌, ◌||◌, nat_le, List, [], ◌∷◌, ◌++◌, length, drop, refl, sym, ap, ◌∙◌, subst, arith, append_assoc, Option, Some, None, true≢false, length-append, get_or-append-add, rules}
 use Rattle.std.proofs.lemmas.Bool.{ltb-true, ltb-false}
 use Rattle.cmark_grammar.specs.Characters.{tab}
 use Rattle.cmark_grammar.specs.Answers.{Lookup}
@@ -11,10 +11,10 @@ use Rattle.cmark_grammar.specs.Derivation.{Derives}
 use Rattle.cmark_grammar.specs.LeafText.{Stretch}
 use Rattle.cmark_grammar.specs.Lines.{lines, content}
 use Rattle.cmark_grammar.specs.Options.{Options}
-use Rattle.cmark_grammar.specs.Rows.{Row, rows, rows_from, row_at, first_place, begin_of, start_of, is_bare, is_blank_line, indent_of, without, hold}
+use Rattle.cmark_grammar.specs.Rows.{Row, rows, rows_from, row_at, first_place, begin_of, start_of, is_bare, is_blank_line, indent_of, without}
 use Rattle.cmark_grammar.specs.SetextAttributes.{texts_before}
 use Rattle.cmark_grammar.specs.SpanDocuments.{stretches_of, segments}
-use Rattle.cmark_grammar.specs.Tokens.{slice, texts_then, stretch_then, stretches, words_end}
+use Rattle.cmark_grammar.specs.Tokens.{stretch_then, stretches, words_end}
 use Rattle.cmark_block_model.proofs.BoundaryLaws.{joined, lines-ended, content-cut}
 use Rattle.cmark_block_model.proofs.RowEdges.{Front, front-add, front-less, prefix-front}
 use Rattle.cmark_block_model.proofs.RowPlaces.{Runs, drop-Runs, expand-Runs, first_place-Runs, after_prefix, strip-line_end}
@@ -31,21 +31,13 @@ none_between : (text : List ℕ) (start end : ℕ) → end ≤ start → ArePref
 none_between text start end le x low high = absurd (omega arith)
 
 both_parts : (text : List ℕ) (a b c d : ℕ) → c ≤ b → ArePrefixes text a b → ArePrefixes text c d → ArePrefixes text a d
-both_parts text a b c d le p q x low high = go (nat_lt x b) refl
-  where
-    go : (z : Bool) → nat_lt x b ≡ z → is_prefix_byte (get_or text x 0) ≡ true
-    go true e = p x low (ltb-true x b e)
-    go false e = let l = ltb-false x b e in q x (omega arith) high
+both_parts text a b c d le p q x low high = grind (arith, ltb-true, ltb-false)
 
 blank_prefix : (b : ℕ) → is_blank_byte b ≡ true → is_prefix_byte b ≡ true
 blank_prefix b e = ap (λ z. z || (b == 62)) e
 
 mark_prefix : (b : ℕ) → (b == 62) ≡ true → is_prefix_byte b ≡ true
-mark_prefix b e = go (is_blank_byte b) (b == 62) e
-  where
-    go : (x y : Bool) → y ≡ true → (x || y) ≡ true
-    go true y e = refl
-    go false y e = e
+mark_prefix b e = grind arith
 
 -- ## Columns
 
@@ -118,19 +110,10 @@ bare_front n cs e = front-less IsPrefixColumn n (indent cs + n) cs (omega arith)
 
 mark_front : (text : List ℕ) (cs : List Column) → AreBytes text cs → begins_with 62 (bytes_of cs) ≡ true → Front IsPrefixColumn 1 cs
 mark_front text [] a e = tt
-mark_front text (c ∷ cs) a e = go (c.part == 0) refl e
-  where
-    go : (z : Bool) → (c.part == 0) ≡ z → begins_with 62 (if z then c.byte ∷ bytes_of cs else bytes_of cs) ≡ true → (is_prefix_byte c.byte ≡ true) × Front IsPrefixColumn 0 cs
-    go true q m = (mark_prefix c.byte m, front_zero cs)
-    go false q m = (blank_prefix c.byte (a.1 q), front_zero cs)
+mark_front text (c ∷ cs) a e = grind (arith, mark_prefix, front_zero, blank_prefix)
 
 one_blank_front : (cs : List Column) → Front IsPrefixColumn (one_blank cs) cs
-one_blank_front [] = tt
-one_blank_front (c ∷ cs) = go (is_blank c) refl
-  where
-    go : (z : Bool) → is_blank c ≡ z → Front IsPrefixColumn (if z then 1 else 0) (c ∷ cs)
-    go true e = (blank_prefix c.byte e, front_zero cs)
-    go false e = tt
+one_blank_front cs = grind (arith, blank_prefix, front_zero)
 
 quote_front : (text : List ℕ) (r : Row) → AreBytes text r.columns → is_block_quote r ≡ true → Front IsPrefixColumn (block_quote_width r) r.columns
 quote_front text r a e =
@@ -165,11 +148,7 @@ kept_as text (BlockQuote alert) r s a e = go (is_block_quote r) refl e
     go : (z : Bool) → is_block_quote r ≡ z → (if z then Some (without (block_quote_width r) r) else None) ≡ Some s → IsKept r s
     go true q f = let p : without (block_quote_width r) r ≡ s = cc in (block_quote_width r, (r.held, (p, quote_front text r a q)))
     go false q f = absurd (let p : None ≡ Some s = f in cc)
-kept_as text (Footnote label true size) r s a e = go (is_blank_line r) e
-  where
-    go : (z : Bool) → (if z then None else Some (hold r)) ≡ Some s → IsKept r s
-    go true f = absurd (let p : None ≡ Some s = f in cc)
-    go false f = let p : hold r ≡ s = cc in (0, (true, (p, front_zero r.columns)))
+kept_as text (Footnote label true size) r s a e = grind (arith, front_zero)
 kept_as text (Footnote label false size) r s a e = wide_kept 4 r s e
 kept_as text (Item delimiter number width task) r s a e = wide_kept width r s e
 kept_as text (ListDefinition width) r s a e = wide_kept width r s e
@@ -278,11 +257,7 @@ gaps_between text line_end (s ∷ more) h = h.1
 
 stretch_gaps : (text : List ℕ) (line_end start end : ℕ) (after : BlockDocument) → ArePrefixes text line_end start → (end ≤ start → HaveGapsFrom text line_end (stretches_of after)) → HaveGapsFrom text end (stretches_of after)
     → HaveGapsFrom text line_end (stretches_of (stretch_then text start end after))
-stretch_gaps text line_end start end after p none h = go (nat_lt start end) refl
-  where
-    go : (z : Bool) → nat_lt start end ≡ z → HaveGapsFrom text line_end (stretches_of (texts_then (if z then record { owned = false; bytes = slice text start end; start = start; end = end } ∷ [] else []) after))
-    go true e = (p, h)
-    go false e = none (ltb-false start end e)
+stretch_gaps text line_end start end after p none h = grind (arith, ltb-false)
 
 further : (text : List ℕ) (line_end begin middle : ℕ) (st : List Stretch) → begin ≤ middle → ArePrefixes text line_end middle → HaveGapsFrom text begin st → HaveGapsFrom text line_end st
 further text line_end begin middle [] le p h = tt
@@ -301,19 +276,11 @@ stretches_gaps text line_end begin r (s ∷ more) p h = go (begin_of s == r.line
 -- texts before a place begin as they did
 before_from : (text : List ℕ) (line_end at : ℕ) (d : BlockDocument) → HaveGapsFrom text line_end (stretches_of d) → HaveGapsFrom text line_end (stretches_of (texts_before text at d))
 before_from text line_end at Nil h = tt
-before_from text line_end at (Node n inside after) h = go (nat_lt n.end at) (before_from text n.end at after h.1)
-  where
-    go : (z : Bool) → HaveGapsFrom text n.end (stretches_of (texts_before text at after)) → HaveGapsFrom text line_end (stretches_of (if z then Node n inside (texts_before text at after) else stretch_then text n.start at Nil))
-    go true i = (h.0, i)
-    go false i = stretch_gaps text line_end n.start at Nil h.0 (λ le. tt) tt
+before_from text line_end at (Node n inside after) h = grind (arith, stretch_gaps, before_from text n.end at after h.1)
 
 before_gaps : (text : List ℕ) (at : ℕ) (d : BlockDocument) → HaveGaps text (stretches_of d) → HaveGaps text (stretches_of (texts_before text at d))
 before_gaps text at Nil h = tt
-before_gaps text at (Node n inside after) h = go (nat_lt n.end at) (before_from text n.end at after h)
-  where
-    go : (z : Bool) → HaveGapsFrom text n.end (stretches_of (texts_before text at after)) → HaveGaps text (stretches_of (if z then Node n inside (texts_before text at after) else stretch_then text n.start at Nil))
-    go true i = i
-    go false i = let none = none_between text n.start n.start (omega arith) in gaps_between text n.start (stretches_of (stretch_then text n.start at Nil)) (stretch_gaps text n.start n.start at Nil none (λ le. tt) tt)
+before_gaps text at (Node n inside after) h = search (rules, before_from, none_between, gaps_between, stretch_gaps)
 
 -- ## Leaves
 

@@ -1,13 +1,13 @@
 -- A leaf, byte by byte: the bytes after the offset of a byte, and the offset of the next byte, which follows directly if the byte does not
 -- end a line.
 use Rattle.std.specs.Prelude.{◌-◌, max, get_or, drop, take}
-use Rattle.std.proofs.Common.{◌≡◌, ◌⊎◌, inl, inr, ℕ, suc, ◌+◌, ◌<◌, ◌≤◌, true, List, [], ◌∷◌, ◌++◌, length, refl, sym, ap, ◌∙◌, subst, arith, length-drop, append-nil, true≢false, drop-drop}
+use Rattle.std.proofs.Common.{◌≡◌, ℕ, suc, ◌+◌, ◌<◌, ◌≤◌, true, List, [], ◌∷◌, ◌++◌, length, refl, sym, ap, ◌∙◌, subst, arith, length-drop, append-nil, drop-drop, rules}
 use Rattle.std.proofs.Math.Seq.{drop-append-add, drop-cons, drop-nil}
 use Rattle.std.proofs.lemmas.List.{length-append, length-take, drop-append-le, drop-take, get_or-drop}
 use Rattle.cmark_grammar.specs.LeafText.{Stretch, bytes_from, size_of, place_with, InTurn}
 use Rattle.cmark_grammar.specs.Lines.{is_content}
 use Rattle.cmark_grammar.specs.Tokens.{slice}
-use Rattle.cmark_inline_model.specs.LeafModel.{EndsLine, HaveLineEnds}
+use Rattle.cmark_inline_model.specs.LeafModel.{HaveLineEnds}
 use Rattle.cmark_inline_model.proofs.LeafPlaces.{by_size}
 
 -- the bytes of all stretches
@@ -31,19 +31,12 @@ slice_drop source start mid end h k =
     dropped n = drop-drop n start source
 
 slice_none : (source : List ℕ) (start end : ℕ) → end ≤ start → slice source start end ≡ []
-slice_none source start end h = none (slice source start end) (let t = length-take (end - start) (drop start source) in omega arith)
-  where
-    none : (l : List ℕ) → length l ≡ 0 → l ≡ []
-    none [] e = refl
-    none (b ∷ l) e = cc
+slice_none source start end h = grind (arith, length-take)
 
 -- before all stretches all their bytes come after an offset
 pub bytes-low : (source : List ℕ) (at from : ℕ) (st : List Stretch) (size : ℕ) → at ≤ from → InTurn from st size → bytes_from source st at ≡ all_bytes source st
 bytes-low source at from [] size h k = refl
-bytes-low source at from (s ∷ more) size h k =
-    let x = k.0 in let y = k.1 in
-    let e : max at s.start ≡ s.start = omega arith in
-    ap (λ n. slice source n s.end ++ bytes_from source more at) e ∙ ap (λ l. slice source s.start s.end ++ l) (bytes-low source at s.end more size (omega arith) k.2)
+bytes-low source at from (s ∷ more) size h k = search (rules, bytes-low source at s.end more size (omega arith) k.2)
 
 -- the last bytes begin after the start of the stretches
 pub place-low : (from : ℕ) (s : Stretch) (more : List Stretch) (size left : ℕ) → InTurn from (s ∷ more) size → left ≤ size_of (s ∷ more) → s.start ≤ place_with left (s ∷ more)
@@ -54,10 +47,7 @@ place-low from s (t ∷ more) size left h k =
 
 -- the stretches begin at the offset at which all their bytes are left
 pub place-first : (source : List ℕ) (s : Stretch) (more : List Stretch) → HaveLineEnds source (s ∷ more) → place_with (size_of (s ∷ more)) (s ∷ more) ≡ s.start
-place-first source s [] l = let x = l.0 in omega arith
-place-first source s (t ∷ more) l =
-    by_size (λ p. p ≡ s.start) (size_of (t ∷ more)) (size_of (s ∷ (t ∷ more))) (s.end - (size_of (s ∷ (t ∷ more)) - size_of (t ∷ more))) (place_with (size_of (s ∷ (t ∷ more))) (t ∷ more))
-    (λ lt. (let x = l.0 in omega arith)) (λ le. absurd (let x = l.0 in omega arith))
+place-first source s more l = grind (arith, by_size)
 
 bytes_at : (source : List ℕ) (from : ℕ) (st : List Stretch) (size left : ℕ) → InTurn from st size → size ≤ length source → left ≤ size_of st
     → bytes_from source st (place_with left st) ≡ drop (size_of st - left) (all_bytes source st)
@@ -113,11 +103,7 @@ bytes_at source from (s ∷ (t ∷ more)) size left h w k =
 
 pub all-size : (source : List ℕ) (from : ℕ) (st : List Stretch) (size : ℕ) → InTurn from st size → size ≤ length source → length (all_bytes source st) ≡ size_of st
 all-size source from [] size h w = refl
-all-size source from (s ∷ more) size h w =
-    let i = all-size source s.end more size h.2 w in
-    let e = length-append (slice source s.start s.end) (all_bytes source more) in
-    let l = slice-size source s.start s.end (up s.end more h.2) in
-    omega arith
+all-size source from (s ∷ more) size h w = grind (arith, length-append, slice-size, up, all-size source s.end more size h.2 w)
   where
     up : (low : ℕ) (st : List Stretch) → InTurn low st size → low ≤ length source
     up low [] i = let x : low ≤ size = i in omega arith
@@ -153,14 +139,7 @@ byte_at source from (s ∷ more) size n h w k = go more refl (λ e. byte_at sour
 
     go : (l : List Stretch) → more ≡ l → (suc n ≤ size_of more → (place_with (suc n) more < length source) × (get_or source (place_with (suc n) more) 0 ≡ get_or (all_bytes source more) (size_of more - suc n) 0))
         → Goal l (place_with (suc n) (s ∷ l))
-    go [] e ih =
-        let x = h.1 in
-        let m : size_of more ≡ 0 = ap size_of e in
-        let i : ℕ = (s.end - s.start) - suc n in
-        let f = first i (omega arith) in
-        let a : s.start + i ≡ s.end - suc n = omega arith in
-        let b : i ≡ size_of (s ∷ []) - suc n = omega arith in
-        subst (λ p. Goal [] p) a (subst (λ j. (s.start + i < length source) × (get_or source (s.start + i) 0 ≡ get_or (all_bytes source (s ∷ more)) j 0)) b f)
+    go [] e ih = grind (arith, first, Goal)
     go (t ∷ rest) e ih = by_size (Goal (t ∷ rest)) (size_of (t ∷ rest)) (suc n) (s.end - (suc n - size_of (t ∷ rest))) (place_with (suc n) (t ∷ rest)) here later
       where
         here : size_of (t ∷ rest) < suc n → Goal (t ∷ rest) (s.end - (suc n - size_of (t ∷ rest)))
@@ -200,13 +179,7 @@ next_at source from (s ∷ (t ∷ more)) size n h l k c =
     (λ lt d. here lt d) (λ le d. later le (next_at source s.end (t ∷ more) size n h.2 l.2 le d)) c
   where
     here : size_of (t ∷ more) < suc n → is_content (get_or source (s.end - (suc n - size_of (t ∷ more))) 0) ≡ true → suc (s.end - (suc n - size_of (t ∷ more))) ≡ place_with n (s ∷ (t ∷ more))
-    here lt d =
-        by_size (λ p. suc (s.end - (suc n - size_of (t ∷ more))) ≡ p) (size_of (t ∷ more)) n (s.end - (n - size_of (t ∷ more))) (place_with n (t ∷ more)) (λ m. (let x = h.1 in omega arith))
-        (λ m. absurd (ended l.1 (let e : suc n - size_of (t ∷ more) ≡ 1 = omega arith in subst (λ j. is_content (get_or source (s.end - j) 0) ≡ true) e d)))
-      where
-        ended : ((t ∷ more) ≡ []) ⊎ EndsLine source s.end → is_content (get_or source (s.end - 1) 0) ≡ true → ⊥
-        ended (inl e) f = cc
-        ended (inr e) f = true≢false (sym f ∙ e.1)
+    here lt d = search (rules, by_size)
 
     later : suc n ≤ size_of (t ∷ more) → suc (place_with (suc n) (t ∷ more)) ≡ place_with n (t ∷ more) → suc (place_with (suc n) (t ∷ more)) ≡ place_with n (s ∷ (t ∷ more))
     later le i =
@@ -218,12 +191,7 @@ module _ (source : List ℕ) (st : List Stretch) (size : ℕ) (turn : InTurn 0 s
   IsAt left at = (left ≤ size_of st) × (at ≡ place_with left st)
 
   pub at-size : (left at : ℕ) → IsAt left at → length (bytes_from source st at) ≡ left
-  at-size left at h =
-      let e = ap length (ap (bytes_from source st) h.1 ∙ bytes_at source 0 st size left turn within h.0) in
-      let d = length-drop (size_of st - left) (all_bytes source st) in
-      let s = all-size source 0 st size turn within in
-      let x = h.0 in
-      omega arith
+  at-size left at h = grind (arith, bytes_at, length-drop, all-size)
 
   pub at-bytes : (left at : ℕ) → IsAt left at → bytes_from source st at ≡ drop (size_of st - left) (all_bytes source st)
   at-bytes left at h = ap (bytes_from source st) h.1 ∙ bytes_at source 0 st size left turn within h.0
@@ -246,11 +214,7 @@ module _ (source : List ℕ) (st : List Stretch) (size : ℕ) (turn : InTurn 0 s
       let bytes : drop (size_of st - suc (length bs)) (all_bytes source st) ≡ b ∷ bs =
       ap (λ n. drop (size_of st - n) (all_bytes source st)) size_is ∙ sym (at-bytes left at h) ∙ e in
       let z : (size_of st - suc (length bs)) + 0 ≡ size_of st - suc (length bs) = omega arith in
-      let byte : get_or source (place_with (suc (length bs)) st) 0 ≡ b =
-      k.1
-      ∙ ap (λ j. get_or (all_bytes source st) j 0) (sym z)
-      ∙ sym (get_or-drop (size_of st - suc (length bs)) (all_bytes source st) 0 0)
-      ∙ ap (λ l. get_or l 0 0) bytes in
+      let byte : get_or source (place_with (suc (length bs)) st) 0 ≡ b = cc (get_or-drop (size_of st - suc (length bs)) (all_bytes source st) 0 0) in
       let one : size_of st - length bs ≡ (size_of st - suc (length bs)) + 1 = omega arith in
       record {
         inside = subst (λ p. p < length source) (sym place) k.0;

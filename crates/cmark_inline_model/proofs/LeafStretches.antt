@@ -1,12 +1,12 @@
 -- A property of the stretches of each paragraph holds of each leaf of a document that is derived, if it also holds of at most one stretch,
 -- and of stretches that are cut at an offset.
-use Rattle.std.specs.Prelude.{◌==◌, nat_lt, if◌then◌else◌, take_while}
-use Rattle.std.proofs.Common.{◌≡◌, ℕ, zero, suc, ◌+◌, ◌<◌, Bool, true, false, List, [], ◌∷◌, ◌++◌, length, drop, refl, sym, ◌∙◌, subst, arith, Option, Some, None, true≢false}
+use Rattle.std.specs.Prelude.{if◌then◌else◌}
+use Rattle.std.proofs.Common.{◌≡◌, ℕ, zero, suc, ◌+◌, ◌<◌, Bool, true, false, List, [], ◌∷◌, ◌++◌, length, drop, refl, sym, ◌∙◌, subst, arith, Option, Some, None, true≢false, rules}
 use Rattle.cmark_grammar.specs.Answers.{Lookup}
-use Rattle.cmark_grammar.specs.BlockDocument.{BlockKind, ListItem, Text, OwnedText, Html, BlockNode, BlockDocument, Nil, Node, node, BlockList, DefinitionList, DefinitionListTitle, DefinitionListDefinition}
-use Rattle.cmark_grammar.specs.BlockReading.{Reads, Around, Inside, First, starts_before, over, first_event, read_as}
+use Rattle.cmark_grammar.specs.BlockDocument.{BlockKind, ListItem, BlockNode, BlockDocument, Nil, Node, node, DefinitionList, DefinitionListTitle, DefinitionListDefinition}
+use Rattle.cmark_grammar.specs.BlockReading.{Reads, First, starts_before, over, first_event, read_as}
 use Rattle.cmark_grammar.specs.Blocks.{Blocks, Nil as NoBlocks, BlankLine, Paragraph as ParagraphBlock, SetextHeading, LeafBlock, ContainerBlock, AreText, Body, after_leaf, place_in}
-use Rattle.cmark_grammar.specs.Columns.{Column, is_blank_byte, drop_end}
+use Rattle.cmark_grammar.specs.Columns.{Column}
 use Rattle.cmark_grammar.specs.Containers.{Container, BlockQuote, Item, Footnote, ListDefinition, insides}
 use Rattle.cmark_grammar.specs.Derivation.{leaf_then, item_then, task_then, document_of, Derives, list_kind, paragraph_kind}
 use Rattle.cmark_grammar.specs.Event.{Ranged}
@@ -17,12 +17,12 @@ use Rattle.cmark_grammar.specs.Openings.{Leaf, AtxHeading as AtxHeadingLeaf, Ind
 use Rattle.cmark_grammar.specs.Options.{Options}
 use Rattle.cmark_grammar.specs.Places.{Place, Apart, AfterTitle, over_blank}
 use Rattle.cmark_grammar.specs.Rows.{Row, rows, without, first_place, begin_of, start_of, last_line_end, words_of}
-use Rattle.cmark_grammar.specs.SetextAttributes.{content_of, ends_in_braces, attributes_place, texts_before, texts_if, without_braces, setext_tokens}
-use Rattle.cmark_grammar.specs.SpanDocuments.{Segment, Given, Content, stretches_of, leaf_of, is_leaf, inside_of, node_segments, first_of_segments, with_first_segment, segments}
+use Rattle.cmark_grammar.specs.SetextAttributes.{content_of, texts_before, without_braces, setext_tokens}
+use Rattle.cmark_grammar.specs.SpanDocuments.{Segment, Given, Content, stretches_of, is_leaf, inside_of, node_segments, first_of_segments, with_first_segment, segments}
 use Rattle.cmark_grammar.specs.TableRows.{cells_start, cells_of}
-use Rattle.cmark_grammar.specs.TableTokens.{cell_tokens, cells_then, row_cells, row_tokens, table_tokens}
+use Rattle.cmark_grammar.specs.TableTokens.{cells_then, row_cells, row_tokens, table_tokens}
 use Rattle.cmark_grammar.specs.TaskItems.{after_box}
-use Rattle.cmark_grammar.specs.Tokens.{Piece, slice, texts_then, text_kind_of, html_kind_of, html_then, code_tokens, html_tokens, fenced_lines, lines_before, piece_if, stretch_then, stretches, end_place, words_end, paragraph_tokens, heading_tokens, after_hashes, heading_columns}
+use Rattle.cmark_grammar.specs.Tokens.{Piece, texts_then, text_kind_of, html_kind_of, html_then, code_tokens, html_tokens, fenced_lines, lines_before, piece_if, stretch_then, stretches, end_place, words_end, paragraph_tokens, heading_tokens, after_hashes, heading_columns}
 
 -- ## Texts are no leaves
 
@@ -31,18 +31,10 @@ AreTexts Nil = Unit {0}
 AreTexts (Node node inside after) = (is_leaf node.kind ≡ false) × (inside ≡ Nil) × AreTexts after
 
 text_kind : (p : Piece) → is_leaf (text_kind_of p) ≡ false
-text_kind p = go p.owned
-  where
-    go : (b : Bool) → is_leaf (if b then OwnedText p.bytes else Text p.bytes) ≡ false
-    go true = refl
-    go false = refl
+text_kind p = grind arith
 
 html_kind : (p : Piece) → is_leaf (html_kind_of p) ≡ false
-html_kind p = go p.owned
-  where
-    go : (b : Bool) → is_leaf (if b then OwnedText p.bytes else Html p.bytes) ≡ false
-    go true = refl
-    go false = refl
+html_kind p = grind arith
 
 pieces_are_texts : (ps : List Piece) (after : BlockDocument) → AreTexts after → AreTexts (texts_then ps after)
 pieces_are_texts [] after h = h
@@ -53,37 +45,19 @@ html_are_texts [] after h = h
 html_are_texts (p ∷ ps) after h = (html_kind p, refl, html_are_texts ps after h)
 
 list_no_leaf : (delimiter : ℕ) (number : Option ℕ) (tight : Bool) → is_leaf (list_kind delimiter number tight) ≡ false
-list_no_leaf delimiter number tight = go (delimiter == definition_delimiter)
-  where
-    go : (z : Bool) → is_leaf (if z then DefinitionList tight else BlockList number tight) ≡ false
-    go true = refl
-    go false = refl
+list_no_leaf delimiter number tight = grind arith
 
 module _ (text : List ℕ) where
   stretches_are_texts : (begin : ℕ) (r : Row) (more : List Row) → AreTexts (stretches text begin r more)
   stretches_are_texts begin r [] = pieces_are_texts (piece_if text begin (words_end r) []) Nil tt
-  stretches_are_texts begin r (s ∷ more) = go (begin_of s == r.line_end) (stretches_are_texts begin s more) (stretches_are_texts (begin_of s) s more)
-    where
-      go : (z : Bool) → AreTexts (stretches text begin s more) → AreTexts (stretches text (begin_of s) s more)
-          → AreTexts (if z then stretches text begin s more else stretch_then text begin r.line_end (stretches text (begin_of s) s more))
-      go true p q = p
-      go false p q = pieces_are_texts (piece_if text begin r.line_end []) (stretches text (begin_of s) s more) q
+  stretches_are_texts begin r (s ∷ more) = search (rules, pieces_are_texts, stretches_are_texts begin s more, stretches_are_texts (begin_of s) s more)
 
   before_are_texts : (at : ℕ) (d : BlockDocument) → AreTexts d → AreTexts (texts_before text at d)
   before_are_texts at Nil h = tt
-  before_are_texts at (Node n inside after) h = go (nat_lt n.end at) (before_are_texts at after h.2)
-    where
-      go : (z : Bool) → AreTexts (texts_before text at after) → AreTexts (if z then Node n inside (texts_before text at after) else stretch_then text n.start at Nil)
-      go true ih = (h.0, h.1, ih)
-      go false ih = pieces_are_texts (piece_if text n.start at []) Nil tt
+  before_are_texts at (Node n inside after) h = grind (arith, pieces_are_texts, before_are_texts at after h.2)
 
   braces_are_texts : (attributes : Bool) (cs : List Column) (d : BlockDocument) → AreTexts d → AreTexts (without_braces text attributes cs d)
-  braces_are_texts false cs d h = h
-  braces_are_texts true cs d h = go (ends_in_braces cs)
-    where
-      go : (z : Bool) → AreTexts (texts_if z text (attributes_place cs) d)
-      go true = before_are_texts (attributes_place cs) d h
-      go false = h
+  braces_are_texts attributes cs d h = grind (arith, before_are_texts)
 
   heading_are_texts : (attributes : Bool) (level : ℕ) (r : Row) → AreTexts (heading_tokens text attributes level r)
   heading_are_texts attributes level r =
@@ -128,30 +102,15 @@ module _ (text : List ℕ) (options : Options) (Holds : List Stretch → Type 0)
   texts_held (Node node inside after) h = ((λ e. absurd (true≢false (sym e ∙ h.0))), subst AreHeld (sym h.1) tt, texts_held after h.2)
 
   stretch_held : (start end : ℕ) → Holds (stretches_of (stretch_then text start end Nil))
-  stretch_held start end = go (nat_lt start end) refl
-    where
-      go : (z : Bool) → nat_lt start end ≡ z → Holds (stretches_of (texts_then (if z then record { owned = false; bytes = slice text start end; start = start; end = end } ∷ [] else []) Nil))
-      go true q = keeps.one start end (let l : start < end = grind (arith) in l)
-      go false q = keeps.none
+  stretch_held start end = grind arith
 
   braces_held : (attributes : Bool) (cs : List Column) (d : BlockDocument) → Holds (stretches_of d) → Holds (stretches_of (without_braces text attributes cs d))
-  braces_held false cs d h = h
-  braces_held true cs d h = go (ends_in_braces cs)
-    where
-      go : (z : Bool) → Holds (stretches_of (texts_if z text (attributes_place cs) d))
-      go true = keeps.cut (attributes_place cs) d h
-      go false = h
+  braces_held attributes cs d h = grind arith
 
   cells_held : (columns at line_end : ℕ) (cells : List (List ℕ)) → AreHeld (cells_then text columns at line_end cells)
   cells_held zero at line_end cells = tt
   cells_held (suc columns) at line_end [] = ((λ e. keeps.none), tt, cells_held columns at line_end [])
-  cells_held (suc columns) at line_end (cell ∷ cells) =
-      let start = at + length (take_while is_blank_byte cell) in
-      let end = at + length (drop_end is_blank_byte cell) in (
-        (λ e. stretch_held start end),
-        texts_held (cell_tokens text at cell) (pieces_are_texts (piece_if text start end []) Nil tt),
-        cells_held columns (suc (at + length cell)) line_end cells,
-      )
+  cells_held (suc columns) at line_end (cell ∷ cells) = search (rules, stretch_held, texts_held, pieces_are_texts, cells_held columns (suc (at + length cell)) line_end cells)
 
   row_held : (columns : ℕ) (r : Row) → AreHeld (row_cells text columns r)
   row_held columns r = cells_held columns (cells_start r) r.line_end (cells_of (words_of r))
@@ -161,10 +120,7 @@ module _ (text : List ℕ) (options : Options) (Holds : List Stretch → Type 0)
   rows_held columns (r ∷ rs) = (no_leaf (row_cells text columns r), row_held columns r, rows_held columns rs)
 
   leaf_held : (lookup : Lookup) (leaf : Leaf) (first : Row) (more : List Row) (after : BlockDocument) → AreHeld after → AreHeld (leaf_then text options lookup leaf first more after)
-  leaf_held lookup (AtxHeadingLeaf level) first more after a =
-      let attributes = options.heading_attributes in
-      let start = first_place first.content_end (after_hashes level first) in
-      ((λ e. stretch_held start (end_place start (heading_columns attributes level first))), texts_held (heading_tokens text attributes level first) (heading_are_texts text attributes level first), a)
+  leaf_held lookup (AtxHeadingLeaf level) first more after a = grind (arith, stretch_held, texts_held, heading_are_texts)
   leaf_held lookup IndentedCodeLeaf first more after a =
       let inside = code_tokens text 4 (first ∷ more) in (no_leaf inside, texts_held inside (pieces_are_texts _ Nil tt), a)
   leaf_held lookup (FencedCodeLeaf fence) first more after a =
@@ -179,9 +135,7 @@ module _ (text : List ℕ) (options : Options) (Holds : List Stretch → Type 0)
 
   item_held : (joins : Bool) (list : BlockKind) (item : BlockNode) (inside after : BlockDocument) → is_leaf list ≡ false → (is_leaf item.kind ≡ true → Holds (stretches_of inside)) → AreHeld inside → AreHeld after
       → AreHeld (item_then joins list item inside after)
-  item_held false list item inside after l e i a = ((λ f. absurd (true≢false (sym f ∙ l))), (e, i, tt), a)
-  item_held true list item inside Nil l e i a = ((λ f. absurd (true≢false (sym f ∙ l))), (e, i, tt), tt)
-  item_held true list item inside (Node others items after) l e i a = ((λ f. absurd (true≢false (sym f ∙ l))), (e, i, a.1), a.2)
+  item_held joins list item inside after l e i a = grind arith
 
   -- a paragraph, as a title or as itself
   title_held : (is_title tight : Bool) (other : BlockKind) (start end : ℕ) (inside after following : BlockDocument) → Holds (stretches_of inside) → AreHeld inside → AreHeld after → AreHeld following
@@ -259,16 +213,10 @@ module _ (text : List ℕ) (options : Options) (Holds : List Stretch → Type 0)
   leaves_append (Content leaf ∷ a) b h k = (h.0, leaves_append a b h.1 k)
 
   inside_leaves : (kind : BlockKind) (content : BlockDocument) (others : List Segment) → (is_leaf kind ≡ true → Holds (stretches_of content)) → AllLeaves Holds others → AllLeaves Holds (inside_of kind content others)
-  inside_leaves kind content others h k = go (is_leaf kind) refl
-    where
-      go : (z : Bool) → is_leaf kind ≡ z → AllLeaves Holds (if z then Content (leaf_of kind content) ∷ [] else others)
-      go true e = (h e, tt)
-      go false e = k
+  inside_leaves kind content others h k = grind arith
 
   node_leaves : (reads : Reads) (node : BlockNode) (inside : List Segment) → AllLeaves Holds inside → AllLeaves Holds (node_segments reads node inside)
-  node_leaves (Around tag) node inside h = leaves_append inside (Given _ ∷ []) h tt
-  node_leaves Inside node inside h = h
-  node_leaves _ node inside h = tt
+  node_leaves reads node inside h = grind (arith, leaves_append)
 
   first_leaves : (element : ℕ) (r : Ranged) (others : List Segment) → AllLeaves Holds others → AllLeaves Holds (first_of_segments element (Given r) others)
   first_leaves zero r others h = h

@@ -1,8 +1,8 @@
 -- Slots that give the same events, before and after quotes and marks are written into them.
-use Rattle.std.proofs.Common.{◌≡◌, ℕ, zero, suc, ◌-◌, List, [], ◌∷◌, drop, set, get_or, refl, sym, ap, ◌∙◌, subst, Option, Some, None}
+use Rattle.std.proofs.Common.{◌≡◌, ℕ, zero, suc, ◌-◌, List, [], ◌∷◌, drop, set, get_or, refl, sym, ap, ◌∙◌, subst, Option, Some, None, arith, rules}
 use Rattle.cmark_grammar.specs.Event.{Start, End, Ranged}
 use Rattle.cmark_grammar.specs.InlineReading.{event_of, over}
-use Rattle.cmark_grammar.specs.Items.{ItemKind, Own, Item}
+use Rattle.cmark_grammar.specs.Items.{ItemKind, Item}
 use Rattle.cmark_grammar.specs.Options.{Options}
 use Rattle.cmark_grammar.specs.Siblings.{item}
 use Rattle.cmark_grammar.specs.Spans.{span_tag}
@@ -17,18 +17,10 @@ module _ (source : List ℕ) where
   same-slot _ = refl
 
   starts : (s t : Slot) → IsLike source s t → start_in s ≡ start_in t
-  starts (ItemSlot x) (ItemSlot y) h = h.start
-  starts (ItemSlot x) (BeginSlot tag start end) h = absurd h
-  starts (ItemSlot x) EndSlot h = absurd h
-  starts (ItemSlot x) NothingSlot h = absurd h
-  starts _ t h = sym (ap start_in h)
+  starts s t h = grind arith
 
   ends : (s t : Slot) → IsLike source s t → end_in s ≡ end_in t
-  ends (ItemSlot x) (ItemSlot y) h = h.end
-  ends (ItemSlot x) (BeginSlot tag start end) h = absurd h
-  ends (ItemSlot x) EndSlot h = absurd h
-  ends (ItemSlot x) NothingSlot h = absurd h
-  ends _ t h = sym (ap end_in h)
+  ends s t h = grind arith
 
   like-at : (slots others : List Slot) (at : ℕ) → AreLike source slots others → IsLike source (get_or slots at NothingSlot) (get_or others at NothingSlot)
   like-at [] others at h = subst (λ l. IsLike source NothingSlot (get_or l at NothingSlot)) (sym h) refl
@@ -44,9 +36,7 @@ module _ (source : List ℕ) where
 
   -- items of one kind from the same bytes
   like-items : (kind : ItemKind) (start start1 end end1 : ℕ) → start ≡ start1 → end ≡ end1 → IsLike source (ItemSlot (item kind start end)) (ItemSlot (item kind start1 end1))
-  like-items kind start start1 end end1 s e =
-      subst (λ n. IsLike source (ItemSlot (item kind start end)) (ItemSlot (item kind n end1))) s
-      (subst (λ n. IsLike source (ItemSlot (item kind start end)) (ItemSlot (item kind start n))) e (same-slot (ItemSlot (item kind start end))))
+  like-items kind start start1 end end1 s e = grind (arith, same-slot)
 
   like-begins : (tag : Tag) (start start1 end end1 : ℕ) → start ≡ start1 → end ≡ end1 → IsLike source (BeginSlot tag start end) (BeginSlot tag start1 end1)
   like-begins tag start start1 end end1 s e = ap (λ n. BeginSlot tag n end1) (sym s) ∙ ap (λ n. BeginSlot tag start n) (sym e)
@@ -65,16 +55,8 @@ module _ (source : List ℕ) where
   like-used (suc count) at slots others h = like-used count (suc at) (set slots at NothingSlot) (set others at NothingSlot) (like-set slots others at NothingSlot NothingSlot h refl)
 
   like-spanned : (tag : Option Tag) (first last : ℕ) (slots others : List Slot) → AreLike source slots others → AreLike source (spanned tag first last slots) (spanned tag first last others)
-  like-spanned (Some tag) first last slots others h =
-      let f = like-at slots others first h in
-      let l = like-at slots others last h in
-      like-set (set slots last EndSlot) (set others last EndSlot) first _ _ (like-set slots others last EndSlot EndSlot h refl)
-      (like-begins tag (start_in (get_or slots first NothingSlot)) (start_in (get_or others first NothingSlot)) (end_in (get_or slots last NothingSlot)) (end_in (get_or others last NothingSlot)) (starts _ _ f) (ends _ _ l))
-  like-spanned None first last slots others h =
-      let f = like-at slots others first h in
-      let l = like-at slots others last h in
-      like-set (used_up (suc first) (last - first) slots) (used_up (suc first) (last - first) others) first _ _ (like-used (last - first) (suc first) slots others h)
-      (like-items Own (start_in (get_or slots first NothingSlot)) (start_in (get_or others first NothingSlot)) (end_in (get_or slots last NothingSlot)) (end_in (get_or others last NothingSlot)) (starts _ _ f) (ends _ _ l))
+  like-spanned (Some tag) first last slots others h = search (rules, like-at, like-set, like-begins, starts, ends)
+  like-spanned None first last slots others h = search (rules, like-at, like-set, like-used, like-items, starts, ends)
 
   pub like-marked : (options : Options) (bytes : List ℕ) (marks : List Mark) (slots others : List Slot) (begun : List ℕ) → AreLike source slots others → AreLike source (marked options bytes marks slots begun) (marked options bytes marks others begun)
   like-marked options [] marks slots others begun h = h

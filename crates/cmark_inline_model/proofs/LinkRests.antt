@@ -1,14 +1,14 @@
 -- The text after a closing bracket that belongs to a link ends after an ASCII byte that does not end a line. So does markup that is
 -- searched in the source.
-use Rattle.std.specs.Prelude.{option_map, ◌&&◌, not, nat_le, codes, take_while}
+use Rattle.std.specs.Prelude.{option_map, ◌&&◌, not, codes, take_while}
 use Rattle.std.specs.Option.{option_or}
-use Rattle.std.proofs.Common.{◌≡◌, ⊎_elim, ℕ, suc, ◌<◌, Bool, true, false, ◌==◌, ◌||◌, if◌then◌else◌, List, [], ◌∷◌, length, drop, Option, None, Some, refl, sym, subst, arith}
+use Rattle.std.proofs.Common.{◌≡◌, ⊎_elim, ℕ, suc, ◌<◌, Bool, true, false, ◌==◌, ◌||◌, if◌then◌else◌, List, [], ◌∷◌, length, drop, Option, None, Some, refl, sym, subst, arith, rules}
 use Rattle.cmark_grammar.specs.Columns.{is_blank_byte}
 use Rattle.cmark_grammar.specs.Destinations.{link_destination_in}
 use Rattle.cmark_grammar.specs.InlineHtml.{after_comment, declaration_in, cdata_in, opened_in, after_opened, after_markup}
 use Rattle.cmark_grammar.specs.Letters.{is_letter, first_is, starts, after_if, after_start_of, after_first_of, and_then}
 use Rattle.cmark_grammar.specs.Lines.{is_content}
-use Rattle.cmark_grammar.specs.LinkDefinitions.{Parsed, put, escapes_next, is_label, label_if, label_in, up_to, ends_bare, depth_after, bare_in, title_in, after_leading_blanks, after_next_line, after_separator}
+use Rattle.cmark_grammar.specs.LinkDefinitions.{Parsed, put, escapes_next, label_in, up_to, depth_after, bare_in, title_in, after_leading_blanks, after_next_line, after_separator}
 use Rattle.cmark_grammar.specs.LinkTails.{LinkTail, closed_tail, with_title, title_after, tail_inside, link_tail_in, reference_label_in, after_collapsed}
 use Rattle.cmark_grammar.specs.Tags.{after_ending}
 use Rattle.cmark_block_model.proofs.RowEdges.{Front}
@@ -51,19 +51,10 @@ put-following b bs (Some found) h = following-rest (b ∷ bs) bs found.following
 
 up-following : (escaped : Bool) (closer refused : ℕ) (over_lines : Bool) (bs : List ℕ) → is_content closer ≡ true → closer < 128 → ParsedAfter bs (up_to escaped closer refused over_lines bs)
 up-following escaped closer refused over_lines [] c a = tt
-up-following escaped closer refused over_lines (b ∷ bs) c a =
-    let later : Option Parsed = up_to (escapes_next escaped b) closer refused over_lines bs in
-    let ends : Bool = (not escaped && (b == refused)) || (not over_lines && ((b == 10) || (b == 13))) in
-    when (ParsedAfter (b ∷ bs)) (not escaped && (b == closer)) (Some (record { bytes = []; following = bs })) (if ends then None else put b later)
-    (λ e. byte_after b closer bs c a (and-right (not escaped) (b == closer) e))
-    (λ e. when (ParsedAfter (b ∷ bs)) ends None (put b later) (λ f. tt) (λ f. put-following b bs later (up-following (escapes_next escaped b) closer refused over_lines bs c a)))
+up-following escaped closer refused over_lines (b ∷ bs) c a = search (rules, when, byte_after, and-right, put-following, up-following (escapes_next escaped b) closer refused over_lines bs c a)
 
 label-following : (bs : List ℕ) → ParsedAfter bs (label_in bs)
-label-following bs = go (up_to false 93 91 true bs) (up-following false 93 91 true bs refl (omega arith))
-  where
-    go : (o : Option Parsed) → ParsedAfter bs o → ParsedAfter bs (label_if o)
-    go None h = tt
-    go (Some found) h = when (ParsedAfter bs) (is_label found.bytes) (Some found) None (λ e. h) (λ e. tt)
+label-following bs = search (rules, up-following, when)
 
 pub reference_label-following : (bs : List ℕ) → ParsedAfter bs (reference_label_in bs)
 reference_label-following bs = go (after_if (λ b. b == 91) bs) (if-rest (λ b. b == 91) bs)
@@ -74,15 +65,7 @@ reference_label-following bs = go (after_if (λ b. b == 91) bs) (if-rest (λ b. 
 
 bare-rest : (escaped : Bool) (depth : ℕ) (bs : List ℕ) → ParsedRest bs (bare_in escaped depth bs)
 bare-rest escaped depth [] = when (ParsedRest []) (depth == 0) (Some (record { bytes = []; following = [] })) None (λ e. (0, refl)) (λ e. tt)
-bare-rest escaped depth (b ∷ bs) =
-    let later : Option Parsed = bare_in (escapes_next escaped b) (depth_after escaped depth b) bs in
-    let here : Option Parsed = Some (record { bytes = []; following = b ∷ bs }) in
-    let ends : Option Parsed = if depth == 0 then here else None in
-    let on : Option Parsed = if not escaped && ((b == 40) && nat_le 32 depth) then None else put b later in
-    when (ParsedRest (b ∷ bs)) (ends_bare b || (not escaped && ((b == 41) && (depth == 0)))) ends on
-    (λ e. when (ParsedRest (b ∷ bs)) (depth == 0) here None (λ f. (0, refl)) (λ f. tt))
-    (λ e. when (ParsedRest (b ∷ bs)) (not escaped && ((b == 40) && nat_le 32 depth)) None (put b later) (λ f. tt)
-    (λ f. put-rest b bs later (bare-rest (escapes_next escaped b) (depth_after escaped depth b) bs)))
+bare-rest escaped depth (b ∷ bs) = search (rules, when, put-rest, bare-rest (escapes_next escaped b) (depth_after escaped depth b) bs)
 
 destination-rest : (bs : List ℕ) → ParsedRest bs (link_destination_in bs)
 destination-rest bs =
@@ -133,9 +116,7 @@ tail-on bs s None h k = tt
 tail-on bs s (Some tail) h k = following-rest bs s tail.following h k
 
 titled-following : (bs : List ℕ) (destination title : Option Parsed) → ParsedRest bs destination → ParsedRest bs title → TailAfter bs (with_title destination title)
-titled-following bs None title h k = tt
-titled-following bs (Some destination) None h k = tail-on bs destination.following (closed_tail destination.bytes None destination.following) h (closed-tail-following destination.bytes None destination.following)
-titled-following bs (Some destination) (Some title) h k = tail-on bs title.following (closed_tail destination.bytes (Some title.bytes) title.following) k (closed-tail-following destination.bytes (Some title.bytes) title.following)
+titled-following bs destination title h k = grind (arith, tail-on, closed-tail-following)
 
 title-following-rest : (bs : List ℕ) (destination : Option Parsed) → ParsedRest bs destination → ParsedRest bs (title_after destination)
 title-following-rest bs None h = tt

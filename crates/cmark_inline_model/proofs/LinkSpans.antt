@@ -1,24 +1,23 @@
 -- Links and images of a leaf's parts, of its spans, and of its events.
-use Rattle.std.specs.Prelude.{zero, suc, ◌&&◌, ◌||◌, not, ◌<◌, if◌then◌else◌}
-use Rattle.std.proofs.Common.{◌≡◌, inl, inr, ℕ, Bool, true, false, List, [], ◌∷◌, ◌++◌, Some, None, refl, sym, ap, subst, arith, append_assoc}
-use Rattle.cmark_grammar.specs.Autolinks.{has_scheme}
+use Rattle.std.specs.Prelude.{zero, suc, ◌&&◌, ◌||◌, not, ◌<◌}
+use Rattle.std.proofs.Common.{◌≡◌, ℕ, Bool, true, false, List, [], ◌∷◌, ◌++◌, Some, None, refl, sym, subst, arith, append_assoc}
 use Rattle.cmark_grammar.specs.BracketDecisions.{linked}
 use Rattle.cmark_grammar.specs.Event.{Start, End, Ranged}
 use Rattle.cmark_grammar.specs.InlineReading.{event_of, inline_events, over}
-use Rattle.cmark_grammar.specs.Items.{ItemKind, Plain, Own, Written, Quoted, Delimiters, Code, InlineMath, DisplayMath, Autolink as AutolinkItem, Html, OwnedHtml, FootnoteReference, SoftBreak, HardBreak, Item}
-use Rattle.cmark_grammar.specs.LinkType.{Autolink, Email, WikiLink}
+use Rattle.cmark_grammar.specs.Items.{ItemKind, Item}
+use Rattle.cmark_grammar.specs.LinkType.{WikiLink}
 use Rattle.cmark_grammar.specs.Options.{Options}
 use Rattle.cmark_grammar.specs.Parts.{Parts, Nil as NoParts, Single as SinglePart, Form, Closing, Opening, Linking, Footnote, Wiki}
 use Rattle.cmark_grammar.specs.Questions.{Exchange}
 use Rattle.cmark_grammar.specs.Readers.{Reader}
 use Rattle.cmark_grammar.specs.Siblings.{Inline, Nil, Single, Around, tag_by, footnote_then, name_text, display_from, address_type, address_link}
 use Rattle.cmark_inline_model.specs.SiblingsModel.{dress, siblings_of, spans_in}
-use Rattle.cmark_grammar.specs.Spans.{SpanKind, Emphasis, Strong, SingleTilde, DoubleTilde, Caret, DoubleEquals, span_tag}
+use Rattle.cmark_grammar.specs.Spans.{SpanKind, span_tag}
 use Rattle.cmark_grammar.specs.Tag as tag
 use Rattle.cmark_grammar.specs.Tag.{Tag, Linked, Link, Image}
 use Rattle.cmark_grammar.specs.TagEnd.{end_of}
 use Rattle.cmark_inline_model.specs.FormedParts.{AllFormed}
-use Rattle.cmark_inline_model.specs.LinkRules.{IsLed, LeadsBy, IsFormedRightly}
+use Rattle.cmark_inline_model.specs.LinkRules.{IsLed, IsFormedRightly}
 use Rattle.cmark_inline_model.specs.NestedLinks.{holds_link, HasLinksApart}
 use Rattle.cmark_inline_model.specs.OptionRules.{AllItems, IsLinkGiven, IsRead}
 use Rattle.cmark_inline_model.specs.ReadingLinks.{LinkEvent, Begins, Finishes, Neither, of_tag, of_end, link_event, IsOfAutolink, MayBegin, ApartBy, LinksApart, LedBy, AreLed}
@@ -42,36 +41,10 @@ wiki_linked name has_pothole = linked (WikiLink has_pothole) (record { url = nam
 
 -- the elements that delimiter runs become are neither
 pub span-neither : (options : Options) (kind : SpanKind) (t : Tag) → span_tag options kind ≡ Some t → of_tag t ≡ Neither
-span-neither options Emphasis t e = let f : t ≡ tag.Emphasis = cc in ap of_tag f
-span-neither options Strong t e = let f : t ≡ tag.Strong = cc in ap of_tag f
-span-neither options SingleTilde t e = go options.subscript e
-  where
-    go : (b : Bool) → Some (if b then tag.Subscript else tag.Strikethrough) ≡ Some t → of_tag t ≡ Neither
-    go true e = let f : t ≡ tag.Subscript = cc in ap of_tag f
-    go false e = let f : t ≡ tag.Strikethrough = cc in ap of_tag f
-span-neither options DoubleTilde t e = go options.strikethrough e
-  where
-    go : (b : Bool) → (if b then Some tag.Strikethrough else None) ≡ Some t → of_tag t ≡ Neither
-    go true e = let f : t ≡ tag.Strikethrough = cc in ap of_tag f
-    go false e = cc
-span-neither options Caret t e = let f : t ≡ tag.Superscript = cc in ap of_tag f
-span-neither options DoubleEquals t e = let f : t ≡ tag.Highlight = cc in ap of_tag f
+span-neither options kind t e = grind arith
 
 pub item-neither : (source : List ℕ) (x : Item) (kind : ItemKind) → link_event (event_of source x kind) ≡ Neither
-item-neither source x Plain = refl
-item-neither source x Own = refl
-item-neither source x (Written text) = refl
-item-neither source x (Quoted quote) = refl
-item-neither source x (Delimiters run) = refl
-item-neither source x (Code text) = refl
-item-neither source x (InlineMath text) = refl
-item-neither source x (DisplayMath text) = refl
-item-neither source x (AutolinkItem uri) = refl
-item-neither source x Html = refl
-item-neither source x (OwnedHtml text) = refl
-item-neither source x (FootnoteReference label) = refl
-item-neither source x SoftBreak = refl
-item-neither source x HardBreak = refl
+item-neither source x kind = grind arith
 
 -- ## No link in a link
 
@@ -81,11 +54,7 @@ IsAuto (Begins false linked) = IsOfAutolink linked.link_type
 IsAuto _ = Unit {0}
 
 address_auto : (address : List ℕ) → IsOfAutolink (address_type address)
-address_auto address = go (has_scheme address)
-  where
-    go : (z : Bool) → IsOfAutolink (if z then Autolink else Email)
-    go true = inl refl
-    go false = inr refl
+address_auto address = grind arith
 
 abbrev AreAutos : Inline → Type 0
 AreAutos spans = AllElements (λ t inside. IsAuto (of_tag t)) spans
@@ -244,11 +213,7 @@ module _ (reader : Reader) (asked : List Exchange) where
       ended (ALink is_image linked e f) = subst (LedBy reader asked) (sym f) tt
 
   address_led : (address : List ℕ) → IsLinkGiven reader.options (address_type address) → IsLed reader asked (address_link address)
-  address_led address = go (has_scheme address)
-    where
-      go : (z : Bool) → IsLinkGiven reader.options (if z then Autolink else Email) → LeadsBy (if z then Autolink else Email) reader asked (address_link address)
-      go true given = (refl, refl)
-      go false given = (given, refl, refl)
+  address_led address = grind arith
 
   tag_led : (is_image : Bool) (linked : Linked) → IsLed reader asked linked → LedBy reader asked (of_tag (tag_by is_image linked))
   tag_led true linked h = h

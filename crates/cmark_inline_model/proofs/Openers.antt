@@ -3,7 +3,6 @@ use Rattle.std.specs.Prelude.{zero, suc, ◌==◌, ◌&&◌, ◌||◌, not, if�
 use Rattle.std.proofs.Common.{◌≡◌, ◌+◌, ◌≤◌, ℕ, Bool, true, false, List, [], ◌∷◌, length, Option, Some, None, refl, sym, ap, subst, arith, ◌∙◌, eqb-true}
 use Rattle.std.proofs.lemmas.List.{length-drop}
 use Rattle.cmark_grammar.specs.BracketStates.{Opener}
-use Rattle.cmark_grammar.specs.Items.{Bracket}
 use Rattle.cmark_grammar.specs.OpenBrackets.{Taken, one_nearer, nearest, used_up, touches, doubled_after, doubled, undoubled, tried, inactive, after_link, dropped}
 use Rattle.cmark_inline_model.specs.NestedLinks.{Persist, OpenNoLink}
 use Rattle.cmark_inline_model.proofs.LinkNesting.{persist-same}
@@ -43,11 +42,7 @@ alike-persist (o ∷ a) (n ∷ b) h = (h.0, λ e. h.1 ∙ e, alike-persist a b h
 
 pub used-alike : (a : List Opener) → Alike a (used_up a)
 used-alike [] = refl
-used-alike (o ∷ a) = go o.stands (used-alike a)
-  where
-    go : (b : Bool) → Alike a (used_up a) → Alike (o ∷ a) (if b then record o { stands = false } ∷ a else o ∷ used_up a)
-    go true h = (refl, refl, alike-same a)
-    go false h = (refl, refl, h)
+used-alike (o ∷ a) = grind (arith, alike-same, used-alike a)
 
 pub tried-alike : (n : ℕ) (a : List Opener) → Alike a (tried n a)
 tried-alike n [] = refl
@@ -79,19 +74,11 @@ one_nearer_taken o os (Some taken) h = record { opener = h.opener; before = h.be
 
 pub nearest-taken : (os : List Opener) → AreTaken os (nearest os)
 nearest-taken [] = tt
-nearest-taken (o ∷ os) = go o.stands (nearest-taken os)
-  where
-    go : (b : Bool) → AreTaken os (nearest os) → AreTaken (o ∷ os) (if b then Some (record { nearer = 0; opener = o }) else one_nearer (nearest os))
-    go true h = record { opener = o; before = os; there = refl; bracket = refl; inactive = refl }
-    go false h = one_nearer_taken o os (nearest os) h
+nearest-taken (o ∷ os) = grind (arith, one_nearer_taken, nearest-taken os)
 
 doubled_after_taken : (second : Opener) (os : List Opener) → AreTaken (second ∷ os) (doubled_after second os)
 doubled_after_taken second [] = tt
-doubled_after_taken second (first ∷ os) = go (first.doubles && touches second first) (doubled_after_taken first os)
-  where
-    go : (b : Bool) → AreTaken (first ∷ os) (doubled_after first os) → AreTaken (second ∷ (first ∷ os)) (if b then Some (record { nearer = 1; opener = first }) else one_nearer (doubled_after first os))
-    go true h = record { opener = first; before = os; there = refl; bracket = refl; inactive = refl }
-    go false h = one_nearer_taken second (first ∷ os) (doubled_after first os) h
+doubled_after_taken second (first ∷ os) = grind (arith, one_nearer_taken, doubled_after_taken first os)
 
 pub doubled-taken : (os : List Opener) → AreTaken os (doubled os)
 doubled-taken [] = tt
@@ -108,11 +95,7 @@ one_nearer_far (Some taken) = let e : 1 ≤ suc taken.nearer = omega arith in e
 
 doubled_after_far : (second : Opener) (os : List Opener) → IsFar (doubled_after second os)
 doubled_after_far second [] = tt
-doubled_after_far second (first ∷ os) = go (first.doubles && touches second first)
-  where
-    go : (b : Bool) → IsFar (if b then Some (record { nearer = 1; opener = first }) else one_nearer (doubled_after first os))
-    go true = let e : 1 ≤ 1 = omega arith in e
-    go false = one_nearer_far (doubled_after first os)
+doubled_after_far second (first ∷ os) = grind (arith, one_nearer_far)
 
 pub doubled-far : (os : List Opener) → IsFar (doubled os)
 doubled-far [] = tt
@@ -174,14 +157,7 @@ touched-alike a b taken h k = go (drop k.n a) refl (subst (Alike (drop k.n a)) k
   where
     go : (l : List Opener) → drop k.n a ≡ l → Alike l (k.second ∷ k.before) → IsTouched a taken
     go [] e f = absurd (let d : ⊥ = cc in d)
-    go (o ∷ more) e f = record {
-      n = k.n;
-      second = o;
-      before = more;
-      there = e;
-      link = ap (λ (x : Bracket). x.is_image) (sym f.0) ∙ k.link;
-      start = ap (λ (x : Bracket). x.start) (sym f.0) ∙ k.start;
-    }
+    go (o ∷ more) e f = grind arith
 
 -- ## What is left of those before the taken one
 
@@ -207,9 +183,7 @@ link-persist true os = persist-same os
 link-persist false os = inactive-persist os
 
 or_not : (a b : Bool) → ((a || not b) || b) ≡ true
-or_not true b = refl
-or_not false true = refl
-or_not false false = refl
+or_not a b = grind arith
 
 pub inactive-opens-none : (os : List Opener) → OpenNoLink (map inactive os)
 inactive-opens-none [] = tt

@@ -1,5 +1,5 @@
 -- Lists of parts, joined and cut.
-use Rattle.std.proofs.Common.{◌≡◌, ℕ, ◌+◌, Bool, true, false, ◌==◌, if◌then◌else◌, Option, Some, None, refl, sym, ap, arith, ◌∙◌}
+use Rattle.std.proofs.Common.{◌≡◌, ℕ, ◌+◌, Option, Some, None, refl, ap, arith}
 use Rattle.std.proofs.lemmas.Bool.{eq-eqb, eqb-true, ne_eqb}
 use Rattle.cmark_grammar.specs.Items.{Bracket}
 use Rattle.cmark_grammar.specs.Parts.{Parts, Nil, Single, Form, Closing, Opening, openings}
@@ -28,23 +28,11 @@ openings-join (Opening opener after) b = let e = openings-join after b in omega 
 
 -- a list is cut into the parts before the bracket and after it
 pub cut-is : (a : Parts) (opener : Bracket) (b : Parts) → cut_at (openings b) (join a (Opening opener b)) ≡ Some (record { before = a; opener = opener; inside = b })
-cut-is Nil opener b = go (openings b == openings b) (eq-eqb (openings b) (openings b) refl)
-  where
-    go : (x : Bool) → x ≡ true → (if x then Some (record { before = Nil; opener = opener; inside = b }) else following (Opening opener Nil) (cut_at (openings b) b)) ≡ Some (record { before = Nil; opener = opener; inside = b })
-    go true e = refl
-    go false e = absurd (let d : ⊥ = cc in d)
+cut-is Nil opener b = cc (eq-eqb (openings b) (openings b) refl)
 cut-is (Single item after) opener b = ap (following (Single item Nil)) (cut-is after opener b)
 cut-is (Form other inside closer formed after) opener b = ap (following (Form other inside closer formed Nil)) (cut-is after opener b)
 cut-is (Closing closer after) opener b = ap (following (Closing closer Nil)) (cut-is after opener b)
-cut-is (Opening other after) opener b =
-    go (openings (join after (Opening opener b)) == openings b) (ne_eqb (openings (join after (Opening opener b))) (openings b) (λ x. let k = openings-join after (Opening opener b) in let d : ⊥ = omega arith in d))
-    (cut-is after opener b)
-  where
-    go : (x : Bool) → x ≡ false → cut_at (openings b) (join after (Opening opener b)) ≡ Some (record { before = after; opener = opener; inside = b })
-        → (if x then Some (record { before = Nil; opener = other; inside = join after (Opening opener b) }) else following (Opening other Nil) (cut_at (openings b) (join after (Opening opener b))))
-        ≡ Some (record { before = Opening other after; opener = opener; inside = b })
-    go true e k = absurd (let d : ⊥ = cc in d)
-    go false e k = ap (following (Opening other Nil)) k
+cut-is (Opening other after) opener b = grind (arith, ne_eqb, openings-join, cut-is after opener b)
 
 -- and whatever it is cut into is it
 pub record IsCut (nearer : ℕ) (whole : Parts) (cut : Cut) : Type 0 where
@@ -56,20 +44,11 @@ Cuts nearer whole None = ℕ
 Cuts nearer whole (Some cut) = IsCut nearer whole cut
 
 cuts_after : (nearer : ℕ) (piece whole : Parts) (cut : Option Cut) → Cuts nearer whole cut → Cuts nearer (join piece whole) (following piece cut)
-cuts_after nearer piece whole None h = h
-cuts_after nearer piece whole (Some cut) h = record {
-  whole_is = ap (join piece) h.whole_is ∙ sym (join_assoc piece cut.before (Opening cut.opener cut.inside));
-  more_is = h.more_is;
-}
+cuts_after nearer piece whole cut h = grind (arith, join_assoc)
 
 pub cuts : (nearer : ℕ) (whole : Parts) → Cuts nearer whole (cut_at nearer whole)
 cuts nearer Nil = 0
 cuts nearer (Single item after) = cuts_after nearer (Single item Nil) after (cut_at nearer after) (cuts nearer after)
 cuts nearer (Form opener inside closer formed after) = cuts_after nearer (Form opener inside closer formed Nil) after (cut_at nearer after) (cuts nearer after)
 cuts nearer (Closing closer after) = cuts_after nearer (Closing closer Nil) after (cut_at nearer after) (cuts nearer after)
-cuts nearer (Opening opener after) = go (openings after == nearer) refl (cuts nearer after)
-  where
-    go : (x : Bool) → (openings after == nearer) ≡ x → Cuts nearer after (cut_at nearer after)
-        → Cuts nearer (Opening opener after) (if x then Some (record { before = Nil; opener = opener; inside = after }) else following (Opening opener Nil) (cut_at nearer after))
-    go true e k = record { whole_is = refl; more_is = eqb-true (openings after) nearer e }
-    go false e k = cuts_after nearer (Opening opener Nil) after (cut_at nearer after) k
+cuts nearer (Opening opener after) = grind (arith, eqb-true, cuts_after, cuts nearer after)

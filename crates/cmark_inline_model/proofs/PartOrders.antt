@@ -1,13 +1,13 @@
 -- The siblings and the spans of parts are in order, except for cuts by the pipe of a wikilink.
-use Rattle.std.specs.Prelude.{suc, ◌-◌, ◌==◌, nat_le, max, get_or, drop, take, if◌then◌else◌}
+use Rattle.std.specs.Prelude.{suc, ◌-◌, ◌==◌, max, drop, take, if◌then◌else◌}
 use Rattle.std.specs.List.{prefix_len}
-use Rattle.std.proofs.Common.{◌≡◌, inl, inr, ℕ, ◌+◌, ◌<◌, ◌≤◌, Bool, true, false, List, [], ◌∷◌, length, Some, None, refl, sym, ap, ◌∙◌, subst, arith, length-drop, eqb-true, true≢false}
+use Rattle.std.proofs.Common.{◌≡◌, inl, ℕ, ◌+◌, ◌<◌, ◌≤◌, Bool, true, false, List, [], ◌∷◌, length, Some, None, refl, sym, ap, subst, arith, length-drop, eqb-true, rules}
 use Rattle.cmark_grammar.specs.Autolinks.{autolink_in, has_address, is_uri_byte}
 use Rattle.cmark_grammar.specs.BracketDecisions.{decide}
 use Rattle.cmark_grammar.specs.BracketReading.{Reads}
 use Rattle.cmark_grammar.specs.BracketStates.{State}
 use Rattle.cmark_grammar.specs.InlineTokens.{from, place_of, token}
-use Rattle.cmark_grammar.specs.Items.{ItemKind, Plain, Own, Written, Quoted, Delimiters, Code, InlineMath, DisplayMath, Autolink, Html, OwnedHtml, FootnoteReference, SoftBreak, HardBreak, Item}
+use Rattle.cmark_grammar.specs.Items.{ItemKind, Delimiters, Autolink, Item}
 use Rattle.cmark_grammar.specs.LeafText.{Leaf, InTurn}
 use Rattle.cmark_grammar.specs.Letters.{first_is}
 use Rattle.cmark_grammar.specs.LinkDefinitions.{Parsed}
@@ -23,7 +23,7 @@ use Rattle.cmark_inline_model.specs.CutRanges.{IsLinkOrImage, IsAfterPipe}
 use Rattle.cmark_inline_model.proofs.KindViews.{KindView, AQuote, ARun, AnAutolink, AText, kind-view}
 use Rattle.cmark_inline_model.proofs.LeafPlaces.{place-following, next-size}
 use Rattle.cmark_inline_model.proofs.ReadingPlaces.{HavePipes}
-use Rattle.cmark_inline_model.proofs.SpanRanges.{Fills, Begun, begun-up, InlineOrder, SiblingOrder, inline-wide, dress-order}
+use Rattle.cmark_inline_model.proofs.SpanRanges.{Fills, begun-up, InlineOrder, SiblingOrder, inline-wide, dress-order}
 use Rattle.cmark_inline_model.proofs.TokenItems.{HoldsOfItems, HoldsOf, token-holds, OfItems, items-hold}
 use Rattle.cmark_inline_model.proofs.TokenPlaces.{Uncut}
 use Rattle.cmark_inline_model.proofs.WikiGaps.{HaveGaps}
@@ -31,11 +31,7 @@ use Rattle.cmark_inline_model.proofs.WikiGaps.{HaveGaps}
 -- ## Items fill their bytes
 
 autolink_after : (emails : Bool) (bs : List ℕ) (found : Parsed) → autolink_in emails bs ≡ Some found → length found.following < length bs
-autolink_after emails [] found e = by (has_address emails []) e
-  where
-    by : (x : Bool) → (if x then None else None) ≡ Some found → length found.following < 0
-    by true f = cc
-    by false f = cc
+autolink_after emails [] found e = grind arith
 autolink_after emails (b ∷ bs) found e = scheme (has_address emails (b ∷ bs)) e
   where
     size : ℕ
@@ -63,21 +59,7 @@ module _ (reader : Reader) (leaf : Leaf) (size : ℕ) (turn : InTurn 0 leaf.stre
       omega arith
 
   items_fill : HoldsOfItems reader leaf Fills
-  items_fill = record {
-    plain = λ start end. tt;
-    own = λ start end. tt;
-    written = λ text start end. tt;
-    code = λ text start end. tt;
-    html = λ start end. tt;
-    owned_html = λ bytes start end. tt;
-    soft_break = λ start end. tt;
-    hard_break = λ start end. tt;
-    quoted = λ on quote start end. tt;
-    inline_math = λ on text start end. tt;
-    display_math = λ on text start end. tt;
-    run = λ run start is_run. (let e : start + run.run_length ≤ start + run.run_length = omega arith in e);
-    autolink = autolink_fills;
-  }
+  items_fill = search (rules, autolink_fills)
 
   pub parts-fill : (Says : Saying) (s : State) (parts : Parts) (t : State) → Reads (token reader leaf) (decide reader leaf) Says s parts t → OfItems FillsItem parts
   parts-fill Says s parts t h =
@@ -107,13 +89,7 @@ IsFree place (Single x after) = FreeBy x.kind place x.start x.end × IsFree plac
 IsFree place (Around tag start end inside after) = IsFree place after
 
 fills_later : (kind : ItemKind) (place start end : ℕ) → place < end → FreeBy kind place start end → Fills kind start end → Fills kind (max start place) end
-fills_later (Delimiters run) place start end h f k = go (nat_le place start) refl
-  where
-    go : (x : Bool) → nat_le place start ≡ x → max start place + run.run_length ≤ end
-    go true e = let l : place ≤ start = grind (arith) in omega arith
-    go false e = absurd (f (let l : start < place = grind (arith) in omega arith) (omega arith))
-fills_later (Autolink uri) place start end h f k = absurd f
-fills_later _ place start end h f k = tt
+fills_later kind place start end h f k = grind arith
 
 link_tag : (is_image : Bool) (linked : Linked) → IsLinkOrImage (tag_by is_image linked)
 link_tag true linked = tt
@@ -130,33 +106,11 @@ module _ (Pipe : ℕ → Type 0) where
 
   from_order : (place : ℕ) → Pipe place → (from : ℕ) (siblings : Inline) (to : ℕ) → Siblings from siblings to → IsFree place siblings → Siblings from (from_place place siblings) to
   from_order place pipe from Nil to h f = h
-  from_order place pipe from (Single x after) to h f = go (nat_le x.end place) refl (from_order place pipe x.end after to h.3 f.1)
-    where
-      go : (b : Bool) → nat_le x.end place ≡ b → Siblings x.end (from_place place after) to → Siblings from (if b then from_place place after else Single (item x.kind (max x.start place) x.end) after) to
-      go true e i = siblings_lower from x.end (from_place place after) to (let a = h.0 in let b = h.1 in omega arith) i
-      go false e i =
-          let l : place < x.end = grind (arith) in
-          let a = h.0 in let b = h.1 in
-          (omega arith, omega arith, fills_later x.kind place x.start x.end l f.0 h.2, h.3)
-  from_order place pipe from (Around tag start end inside after) to h f = go (nat_le end place) refl (from_order place pipe end after to h.5 f)
-    where
-      go : (b : Bool) → nat_le end place ≡ b → Siblings end (from_place place after) to → Siblings from (if b then from_place place after else Around tag (max start place) end inside after) to
-      go true e i = siblings_lower from end (from_place place after) to (let a = h.1 in let b = begun-up Pipe tag h.0 start h.2 in let c = h.3 in omega arith) i
-      go false e i = (h.0, h.1, begun (nat_le place start) refl, (let l : place < end = grind (arith) in let c = h.3 in omega arith), h.4, h.5, h.6)
-        where
-          begun : (z : Bool) → nat_le place start ≡ z → Begun Pipe tag h.0 (max start place)
-          begun true q = let l : place ≤ start = grind (arith) in subst (Begun Pipe tag h.0) (let m : start ≡ max start place = omega arith in m) h.2
-          begun false q =
-              let l : start < place = grind (arith) in
-              let u = begun-up Pipe tag h.0 start h.2 in
-              subst (Begun Pipe tag h.0) (let m : place ≡ max start place = omega arith in m) (inr (h.6, omega arith, pipe))
+  from_order place pipe from (Single x after) to h f = search (rules, siblings_lower, fills_later, from_order place pipe x.end after to h.3 f.1)
+  from_order place pipe from (Around tag start end inside after) to h f = grind (arith, siblings_lower, begun-up, from_order place pipe end after to h.5 f)
 
   display_order : (place end : ℕ) → Pipe place → (from : ℕ) (siblings : Inline) → from ≤ end → Siblings from siblings end → IsFree place siblings → Siblings from (display_from place end siblings) end
-  display_order place end pipe from siblings w h f = go (place == end) refl
-    where
-      go : (b : Bool) → (place == end) ≡ b → Siblings from (if b then Single (item Own place place) Nil else from_place place siblings) end
-      go true e = let s = eqb-true place end e in (omega arith, omega arith, tt, (let t : place ≤ end = omega arith in t))
-      go false e = from_order place pipe from siblings end h f
+  display_order place end pipe from siblings w h f = grind (arith, eqb-true, from_order)
 
   item_order : (from : ℕ) (x : Item) (after : Inline) (to : ℕ) → from ≤ x.start → x.start ≤ x.end → FillsItem x → Siblings x.end after to → Siblings from (item_then x.kind x after) to
   item_order from x after to a b f k = go x.kind (kind-view x.kind) f
@@ -181,29 +135,7 @@ module _ (reader : Reader) (leaf : Leaf) (size : ℕ) (turn : InTurn 0 leaf.stre
 
   -- no run contains a pipe
   item_free : (place : ℕ) → Pipe place → (x : Item) (after : Inline) → UncutItem x → IsFree place after → IsFree place (item_then x.kind x after)
-  item_free place pipe x after u k = go x.kind refl
-    where
-      go : (kind : ItemKind) → x.kind ≡ kind → IsFree place (item_then kind x after)
-      go (Autolink uri) e = k
-      go (Delimiters run) e = (subst (λ q. FreeBy q place x.start x.end) (sym e) cut, k)
-        where
-          cut : x.start < place → place ≤ x.end → ⊥
-          cut a b =
-              let s = pipe.some in
-              let other : (get_or reader.source (place - 1) 0 == 124) ≡ false = (subst (λ q. Uncut reader leaf size turn within lines q x.start x.end) e u) (place - 1) (omega arith) (omega arith) in
-              true≢false (sym (ap (λ b. b == 124) pipe.pipe) ∙ other)
-      go Plain e = (subst (λ q. FreeBy q place x.start x.end) (sym e) tt, k)
-      go Own e = (subst (λ q. FreeBy q place x.start x.end) (sym e) tt, k)
-      go (Written text) e = (subst (λ q. FreeBy q place x.start x.end) (sym e) tt, k)
-      go (Quoted quote) e = (subst (λ q. FreeBy q place x.start x.end) (sym e) tt, k)
-      go (Code text) e = (subst (λ q. FreeBy q place x.start x.end) (sym e) tt, k)
-      go (InlineMath text) e = (subst (λ q. FreeBy q place x.start x.end) (sym e) tt, k)
-      go (DisplayMath text) e = (subst (λ q. FreeBy q place x.start x.end) (sym e) tt, k)
-      go Html e = (subst (λ q. FreeBy q place x.start x.end) (sym e) tt, k)
-      go (OwnedHtml text) e = (subst (λ q. FreeBy q place x.start x.end) (sym e) tt, k)
-      go (FootnoteReference label) e = (subst (λ q. FreeBy q place x.start x.end) (sym e) tt, k)
-      go SoftBreak e = (subst (λ q. FreeBy q place x.start x.end) (sym e) tt, k)
-      go HardBreak e = (subst (λ q. FreeBy q place x.start x.end) (sym e) tt, k)
+  item_free place pipe x after u k = grind arith
 
   footnote_free : (place : ℕ) (is_image : Bool) (start : ℕ) (label : List ℕ) (end : ℕ) (others : Inline) → IsFree place others → IsFree place (footnote_then is_image start label end others)
   footnote_free place true start label end others k = (tt, (tt, k))

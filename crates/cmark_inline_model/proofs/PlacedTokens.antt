@@ -1,7 +1,7 @@
 -- The token at an offset of a leaf is the token of its text, with offsets of the source.
-use Rattle.std.specs.Prelude.{suc, zero, ◌-◌, ◌==◌, ◌&&◌, ◌||◌, not, nat_lt, if◌then◌else◌, is_none, get_or, drop, take, codes, chars, reverse, min, max}
+use Rattle.std.specs.Prelude.{suc, zero, ◌-◌, ◌==◌, ◌&&◌, ◌||◌, not, nat_lt, if◌then◌else◌, get_or, drop, take, codes, chars, reverse, min}
 use Rattle.std.specs.List.{prefix_len}
-use Rattle.std.proofs.Common.{◌≡◌, ◌⊎◌, inl, inr, ⊎_elim, ◌<◌, ◌≤◌, ◌+◌, ℕ, Bool, true, false, List, [], ◌∷◌, length, Option, Some, None, refl, sym, ap, ◌∙◌, subst, arith, length-drop, drop-drop, eqb-true, true≢false}
+use Rattle.std.proofs.Common.{◌≡◌, ◌⊎◌, inl, inr, ⊎_elim, ◌<◌, ◌≤◌, ◌+◌, ℕ, Bool, true, false, List, [], ◌∷◌, length, Option, Some, None, refl, sym, ap, ◌∙◌, subst, arith, length-drop, drop-drop, eqb-true, true≢false, rules}
 use Rattle.std.proofs.Math.Seq.{drop-cons, take-length}
 use Rattle.std.proofs.lemmas.Bool.{ltb-true, ltb-false, eq-eqb, false_from_ne_true, or_parts}
 use Rattle.std.proofs.lemmas.List.{append-nil, length-take, get_or-drop}
@@ -12,12 +12,12 @@ use Rattle.cmark_grammar.specs.Columns.{is_blank_byte}
 use Rattle.cmark_grammar.specs.Dashes.{dashes_of, dash_text}
 use Rattle.cmark_grammar.specs.Flanking.{Flanking, flanking, is_run_delimiter}
 use Rattle.cmark_grammar.specs.Formulas.{is_dollar, no_braces, braces_after, inline_in, display_in}
-use Rattle.cmark_grammar.specs.InlineHtml.{after_markup, after_opened, opened_in}
+use Rattle.cmark_grammar.specs.InlineHtml.{after_markup}
 use Rattle.cmark_grammar.specs.InlineTokens.{item_at, bracket, as_in, first_of, from, before, place_of, size_to, character_before, character_at, line_begins, read_on, break_to, break_or, code_or, escaped_backtick, escape_at, entity_or, autolink_or, tag_kind, tag_or_text, source_from, markup_or, less_than, run_or, run_at, formula_or, dollar, dots, hyphens, quote_at, smart_or, begins, begins_at}
-use Rattle.cmark_grammar.specs.Items.{ItemKind, Plain, Own, Written, Code, InlineMath, DisplayMath, Autolink, Quoted, Delimiters, SoftBreak, HardBreak, Token, Stands, Opens, Closes}
+use Rattle.cmark_grammar.specs.Items.{ItemKind, Plain, Own, Written, Code, InlineMath, DisplayMath, Autolink, Quoted, SoftBreak, HardBreak, Token, Stands, Opens, Closes}
 use Rattle.cmark_grammar.specs.LabelsOverLines.{piped}
 use Rattle.cmark_grammar.specs.LeafText.{Leaf, end_of}
-use Rattle.cmark_grammar.specs.Letters.{first_is, starts, after_first_of}
+use Rattle.cmark_grammar.specs.Letters.{first_is, starts}
 use Rattle.cmark_grammar.specs.LineBreaks.{LineBreak, backslash_break_in, blank_break_in}
 use Rattle.cmark_grammar.specs.Lines.{is_content}
 use Rattle.cmark_grammar.specs.LinkDefinitions.{Parsed, after_leading_blanks}
@@ -38,24 +38,11 @@ pub content-leads : (n : ℕ) (l : List ℕ) → Leads IsWord n l → Leads Cont
 content-leads n l h = record { front = front-map IsWord Content (λ b w. w.content) n l h.front; fits = h.fits }
 
 le_or : (a b : ℕ) → (a ≤ b) ⊎ (b < a)
-le_or a b = go (nat_lt b a) refl
-  where
-    go : (x : Bool) → nat_lt b a ≡ x → (a ≤ b) ⊎ (b < a)
-    go true e = inr (ltb-true b a e)
-    go false e = inl (ltb-false b a e)
+le_or a b = grind (arith, ltb-true, ltb-false)
 
 -- a blank ends no line, and a line ending is a break
 pub no-break : (b : ℕ) (bs : List ℕ) → (is_blank_byte b || not (is_content b)) ≡ true → blank_break_in (b ∷ bs) ≡ None → Content b
-no-break b bs e none = go (is_content b) refl
-  where
-    go : (x : Bool) → is_content b ≡ x → x ≡ true
-    go true f = refl
-    go false f = absurd (ended (b == 10) (b == 13) refl refl f)
-      where
-        ended : (x y : Bool) → (b == 10) ≡ x → (b == 13) ≡ y → (not x && not y) ≡ false → ⊥
-        ended true y p q r = let z = eqb-true b 10 p in (let k = subst (λ c. blank_break_in (c ∷ bs) ≡ None) z none in cc)
-        ended false true p q r = let z = eqb-true b 13 q in (let k = subst (λ c. blank_break_in (c ∷ bs) ≡ None) z none in cc)
-        ended false false p q r = true≢false r
+no-break b bs e none = grind (arith, eqb-true)
 
 module _ (reader : Reader) (leaf : Leaf) (text : List ℕ) (place : ℕ → ℕ) (h : AreLeafPlaces reader leaf text place) where
   -- the text as a leaf of its own
@@ -66,10 +53,7 @@ module _ (reader : Reader) (leaf : Leaf) (text : List ℕ) (place : ℕ → ℕ)
   alone = one_stretch leaf.is_cell text
 
   pub from-text : (k : ℕ) → from one alone k ≡ drop k text
-  from-text k =
-      append-nil (slice text (max k 0) (length text)) ∙ ap (λ m. slice text m (length text)) (let e : max k 0 ≡ k = omega arith in e)
-      ∙ (let d = length-drop k text in ap (λ n. take n (drop k text)) (let e : length text - k ≡ length (drop k text) = omega arith in e))
-      ∙ take-length (drop k text)
+  from-text k = grind (arith, append-nil, length-drop, take-length)
 
   before-text : (k : ℕ) → k ≤ length text → before one alone k ≡ take k text
   before-text k le = append-nil (slice text 0 (min k (length text))) ∙ ap (λ n. take n text) (let e : min k (length text) - 0 ≡ k = omega arith in e)
@@ -124,10 +108,7 @@ module _ (reader : Reader) (leaf : Leaf) (text : List ℕ) (place : ℕ → ℕ)
   -- an item in other places
   item_is : (kind : ItemKind) (s e p s0 e0 p0 : ℕ) → s ≡ place s0 → e ≡ suc (place (e0 - 1)) → p ≡ place p0
       → Stands (record { kind = kind; start = s; end = e }) p ≡ placed place (Stands (record { kind = kind; start = s0; end = e0 }) p0)
-  item_is kind s e p s0 e0 p0 a b c =
-      ap (λ x. Stands (record { kind = kind; start = x; end = e }) p) a
-      ∙ ap (λ x. Stands (record { kind = kind; start = place s0; end = x }) p) b
-      ∙ ap (λ x. Stands (record { kind = kind; start = place s0; end = suc (place (e0 - 1)) }) x) c
+  item_is kind s e p s0 e0 p0 a b c = cc
 
   -- within bytes that end no line
   words_is : (kind : ItemKind) (k o n : ℕ) (l : List ℕ) → drop k text ≡ l → Leads Content n l → o < n → (s e s0 e0 : ℕ) → s ≡ place k + o → e ≡ place k + n → s0 ≡ k + o → e0 ≡ k + n
@@ -195,9 +176,7 @@ module _ (reader : Reader) (leaf : Leaf) (text : List ℕ) (place : ℕ → ℕ)
   starts_not c prefix l is other = false_from_ne_true (starts prefix l) (λ t. other (ap (λ p. take (length p) l) (sym is) ∙ (bytes_eq-Decides (take (length prefix) l) prefix).0 t ∙ is))
 
   no_markup : (l : List ℕ) → (take 2 l ≡ 60 ∷ 33 ∷ [] → ⊥) → (take 2 l ≡ 60 ∷ 63 ∷ [] → ⊥) → after_markup l ≡ None
-  no_markup l x y =
-      ap (λ z. if z then after_opened (opened_in (drop 2 l)) else if starts (codes "<?") l then after_first_of (codes "?>") (drop 2 l) else None) (starts_not 33 (codes "<!") l refl x)
-      ∙ ap (λ z. if z then after_first_of (codes "?>") (drop 2 l) else None) (starts_not 63 (codes "<?") l refl y)
+  no_markup l x y = cc (starts_not 33 (codes "<!") l refl x, starts_not 63 (codes "<?") l refl y)
 
   -- the source has the leaf's next byte after a byte that does not end a line
   second_of_source : (k c : ℕ) → k < length text → is_content (get_or text k 0) ≡ true → take 2 (source_from reader leaf (place k)) ≡ 60 ∷ c ∷ [] → first_is (λ d. d == c) (drop (suc k) text) ≡ true
@@ -368,9 +347,7 @@ module _ (reader : Reader) (leaf : Leaf) (text : List ℕ) (place : ℕ → ℕ)
     -- no markup opens there
     module _ (none : may_open_markup reader.options.email_autolinks (b ∷ bs) ≡ false) where
       no_second : (b == 60) ≡ true → autolink_in reader.options.email_autolinks bs ≡ None → first_is (λ c. (c == 33) || (c == 63)) bs ≡ false
-      no_second e link =
-          subst (λ m. (is_none m && first_is (λ c. (c == 33) || (c == 63)) bs) ≡ false) link
-          (subst (λ z. (z && (is_none (autolink_in reader.options.email_autolinks bs) && first_is (λ c. (c == 33) || (c == 63)) bs)) ≡ false) e none)
+      no_second e link = cc
 
       parts_of : (l : List ℕ) → first_is (λ c. (c == 33) || (c == 63)) l ≡ false → (first_is (λ c. c == 33) l ≡ false) × (first_is (λ c. c == 63) l ≡ false)
       parts_of [] e = (refl, refl)
@@ -390,15 +367,7 @@ module _ (reader : Reader) (leaf : Leaf) (text : List ℕ) (place : ℕ → ℕ)
           ∙ take-length (drop k text) ∙ here
 
       pub no-own : (b == 60) ≡ true → autolink_in reader.options.email_autolinks bs ≡ None → after_markup (source_from one alone k) ≡ None
-      no-own e link =
-          let p = parts_of bs (no_second e link) in
-          no_markup (source_from one alone k)
-          (λ t. true≢false (sym (second 33 bs (sym (ap (take 2) own_source) ∙ t)) ∙ p.0))
-          (λ t. true≢false (sym (second 63 bs (sym (ap (take 2) own_source) ∙ t)) ∙ p.1))
-        where
-          second : (c : ℕ) (l : List ℕ) → take 2 (b ∷ l) ≡ 60 ∷ c ∷ [] → first_is (λ d. d == c) l ≡ true
-          second c [] t = absurd (let n = ap length t in omega arith)
-          second c (d ∷ l) t = eq-eqb d c (ap (λ m. get_or m 1 0) t)
+      no-own e link = grind (arith, parts_of, no_second, no_markup, own_source, eq-eqb)
 
       tag_is : IsWord b → (found : Option (List ℕ)) → after_tag no_prefix (b ∷ bs) ≡ found → tag_or_text reader leaf (place k) found ≡ placed place (tag_or_text one alone k found)
       tag_is w None e = byte_is Own w.content
@@ -436,10 +405,7 @@ module _ (reader : Reader) (leaf : Leaf) (text : List ℕ) (place : ℕ → ℕ)
       character_at_is x j e le = ap (λ l. first_of (chars l)) (ap (from reader leaf) e ∙ from-place j le ∙ sym (from-text j))
 
       run_or_is : (n : ℕ) (beside : Flanking) → Leads Content n (b ∷ bs) → 0 < n → run_or reader leaf (place k) b n beside ≡ placed place (run_or one alone k b n beside)
-      run_or_is n beside f some =
-          let kind = Delimiters (record { delimiter = b; run_length = n; at = 0; left = n; opens = beside.opens; closes = beside.closes }) in
-          either (beside.opens || beside.closes) (item_at kind (place k) (place k + n)) (item_at Plain (place k) (place k + n)) (item_at kind k (k + n)) (item_at Plain k (k + n))
-          (λ e. bytes_are kind n f some) (λ e. bytes_are Plain n f some)
+      run_or_is n beside f some = search (rules, either, bytes_are)
 
       run_is : Content b → run_at reader leaf (place k) b (prefix_len (λ c. c == b) (b ∷ bs)) ≡ placed place (run_at one alone k b (prefix_len (λ c. c == b) (b ∷ bs)))
       run_is c =
@@ -502,21 +468,10 @@ module _ (reader : Reader) (leaf : Leaf) (text : List ℕ) (place : ℕ → ℕ)
           ∙ byte_is (Quoted (quote_beside (b == 34) (character_before one alone k) (character_at one alone (suc k)))) c
 
       smart_is : Content b → smart_or reader leaf (place k) b ≡ placed place (smart_or one alone k b)
-      smart_is c =
-          let n = prefix_len (λ c. c == 45) (from reader leaf (place k)) in
-          let n0 = prefix_len (λ c. c == 45) (from one alone k) in
-          let plain = item_at Plain (place k) (suc (place k)) in
-          let plain0 = item_at Plain k (suc k) in
-          let quoted = if (b == 34) || (b == 39) then quote_at reader leaf (place k) b else plain in
-          let quoted0 = if (b == 34) || (b == 39) then quote_at one alone k b else plain0 in
-          either (b == 46) (dots reader leaf (place k)) (if b == 45 then hyphens reader leaf (place k) n else quoted) (dots one alone k) (if b == 45 then hyphens one alone k n0 else quoted0) (λ e. dots_is c)
-          (λ e. either (b == 45) (hyphens reader leaf (place k) n) quoted (hyphens one alone k n0) quoted0 hyphens_is
-          (λ f. either ((b == 34) || (b == 39)) (quote_at reader leaf (place k) b) plain (quote_at one alone k b) plain0 (λ g. quote_is c) (λ g. byte_is Plain c)))
+      smart_is c = grind (arith, either, dots_is, hyphens_is, quote_is, byte_is)
 
       both_false : (x y : Bool) → (x || not y) ≡ false → y ≡ true
-      both_false true y e = cc
-      both_false false true e = refl
-      both_false false false e = cc
+      both_false x y e = grind arith
 
       backtick_some : (b == 96) ≡ true → 0 < backticks (b ∷ bs)
       backtick_some e = subst (λ z. 0 < (if z then 1 + backticks bs else 0)) (sym e) (omega arith)
@@ -581,8 +536,4 @@ module _ (reader : Reader) (leaf : Leaf) (text : List ℕ) (place : ℕ → ℕ)
 
   -- the token there, except for markup that is searched in the source
   pub begins-at : (k : ℕ) → k ≤ length text → may_open_markup reader.options.email_autolinks (drop k text) ≡ false → begins_at reader leaf (place k) ≡ placed place (begins_at one alone k)
-  begins-at k le none = ap (begins reader leaf (place k)) (from-place k le) ∙ go (drop k text) refl ∙ ap (λ l. placed place (begins one alone k l)) (sym (from-text k))
-    where
-      go : (l : List ℕ) → drop k text ≡ l → begins reader leaf (place k) l ≡ placed place (begins one alone k l)
-      go [] e = refl
-      go (b ∷ bs) e = begins_is k b bs e (ap (may_open_markup reader.options.email_autolinks) (sym e) ∙ none)
+  begins-at k le none = grind (arith, from-place, from-text, begins_is)

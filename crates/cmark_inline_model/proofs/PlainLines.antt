@@ -1,7 +1,7 @@
 -- A leaf of plain lines is read as their texts, with soft breaks between them.
-use Rattle.std.specs.Prelude.{suc, zero, ◌-◌, ◌==◌, ◌||◌, not, if◌then◌else◌, get_or, drop, take, max, take_while, option_map}
+use Rattle.std.specs.Prelude.{suc, zero, ◌-◌, ◌||◌, not, if◌then◌else◌, get_or, drop, take, max, take_while, option_map}
 use Rattle.std.specs.List.{prefix_len}
-use Rattle.std.proofs.Common.{◌≡◌, ◌⊎◌, inl, inr, ℕ, ◌+◌, ◌<◌, ◌≤◌, Bool, true, false, List, [], ◌∷◌, ◌++◌, ◌&&◌, length, Option, Some, None, refl, sym, ap, ◌∙◌, subst, arith, length-append, length-drop, eqb-true, true≢false, append-nil, take-take, drop-drop}
+use Rattle.std.proofs.Common.{◌≡◌, ◌⊎◌, inl, inr, ℕ, ◌+◌, ◌<◌, ◌≤◌, Bool, true, false, List, [], ◌∷◌, ◌++◌, length, Option, None, refl, sym, ap, ◌∙◌, subst, arith, length-append, length-drop, eqb-true, true≢false, append-nil, take-take, drop-drop, rules}
 use Rattle.std.proofs.Math.Seq.{drop-append_seam, drop-cons, take-append_seam}
 use Rattle.std.proofs.lemmas.List.{get_or-drop}
 use Rattle.cmark_grammar.specs.Answers.{Lookup}
@@ -13,7 +13,7 @@ use Rattle.cmark_grammar.specs.Emphasis.{IsEmphasis}
 use Rattle.cmark_grammar.specs.Event.{Text}
 use Rattle.cmark_grammar.specs.InlineReading.{inline_events}
 use Rattle.cmark_grammar.specs.InlineTokens.{item_at, from, begins, is_plain, break_or, goes_on, line_begins, longest, place_of, read_on, size_to, token}
-use Rattle.cmark_grammar.specs.Items.{Plain, Item, Token, Stands, Ends, SoftBreak, HardBreak}
+use Rattle.cmark_grammar.specs.Items.{Plain, Item, Token, Stands, Ends, SoftBreak}
 use Rattle.cmark_grammar.specs.LeafReading.{Between, ReadsLeaf, entering, leaving}
 use Rattle.cmark_grammar.specs.LeafText.{Leaf}
 use Rattle.cmark_grammar.specs.LineBreaks.{LineBreak, blank_break_in, blank_break}
@@ -28,7 +28,7 @@ use Rattle.cmark_grammar.specs.Readers.{Reader}
 use Rattle.cmark_grammar.specs.Siblings.{Inline, Nil, Single, AreSiblings, AreSpans, append, quotes_of, with_characters, with_quotes}
 use Rattle.cmark_inline_model.specs.RunSpans.{IsDressedByRuns, gaps_of, put_gap, runs_from}
 use Rattle.cmark_grammar.specs.Spans as spans
-use Rattle.cmark_grammar.specs.Tags.{after_ending, after_line_feed}
+use Rattle.cmark_grammar.specs.Tags.{after_ending}
 use Rattle.cmark_grammar.specs.Tokens.{slice}
 use Rattle.cmark_inline_model.specs.PlacedTokens.{AreLeafPlaces, StandsUpTo, StopsAt, one_stretch, text_reader, placed, may_open_markup}
 use Rattle.cmark_inline_model.specs.PlacedLeaves.{StandWhole}
@@ -47,12 +47,7 @@ abbrev IsFull : (bytes : List ℕ) → (size : ℕ) → Type 0
 IsFull bytes size = (is_blank_byte (get_or bytes (size - 1) 0) ≡ false) ⊎ (size ≡ length bytes)
 
 no_ending_at : (b : ℕ) (bs : List ℕ) → is_content b ≡ true → after_ending (b ∷ bs) ≡ None
-no_ending_at b bs = go (b == 10) (b == 13)
-  where
-    go : (x y : Bool) → (not x && not y) ≡ true → (if x then Some bs else if y then Some (after_line_feed bs) else None) ≡ None
-    go true y e = absurd (true≢false (sym e))
-    go false true e = absurd (true≢false (sym e))
-    go false false e = refl
+no_ending_at b bs = grind arith
 
 -- after the first blanks of a line no line ends, or the bytes are over
 no_ending_inside : (l : List ℕ) (size : ℕ) → 0 < size → size ≤ length l → ((j : ℕ) → j < size → is_content (get_or l j 0) ≡ true) → IsFull l size → after_ending (after_leading_blanks l) ≡ None
@@ -87,12 +82,7 @@ no_ending_inside (b ∷ bs) (suc size) some within h full = by (is_blank_byte b)
     by false e go = subst Leads (sym e) (no_ending_at b bs (h 0 (omega arith)))
 
 not_blank : (b : ℕ) → is_content b ≡ false → is_blank_byte b ≡ true → ⊥
-not_blank b e f = go (b == 32) (b == 9) refl refl f
-  where
-    go : (x y : Bool) → (b == 32) ≡ x → (b == 9) ≡ y → (x || y) ≡ true → ⊥
-    go true y p q r = true≢false (ap is_content (sym (eqb-true b 32 p)) ∙ e)
-    go false true p q r = true≢false (ap is_content (sym (eqb-true b 9 q)) ∙ e)
-    go false false p q r = true≢false (sym r)
+not_blank b e f = grind (arith, eqb-true)
 
 if_so : {A : Type 0} (b : Bool) (x y : A) → b ≡ true → (if b then x else y) ≡ x
 if_so b x y e = ap (λ z. if z then x else y) e
@@ -136,17 +126,10 @@ module _ (reader : Reader) (leaf : Leaf) (text : List ℕ) (place : ℕ → ℕ)
       breaks = or_not (is_blank_byte b) (is_content b) e
         where
           or_not : (x y : Bool) → y ≡ false → (x || not y) ≡ true
-          or_not true y f = refl
-          or_not false true f = absurd (true≢false f)
-          or_not false false f = refl
+          or_not x y f = grind arith
 
       go : (found : Option LineBreak) → blank_break_in (b ∷ bs) ≡ found → break_or one alone k found (item_at Plain k (suc k)) ≡ item_at Plain k end → ⊥
-      go None n r = true≢false (sym (no-break b bs breaks n) ∙ e)
-      go (Some found) n r = by found.is_hard r
-        where
-          by : (hard : Bool) {start item_end resume : ℕ} → Stands (record { kind = if hard then HardBreak else SoftBreak; start = start; end = item_end }) resume ≡ item_at Plain k end → ⊥
-          by true r = true≢false (sym (ap is_text r))
-          by false r = true≢false (sym (ap is_text r))
+      go found n r = grind (arith, no-break, breaks)
 
   -- a line of plain bytes, after which no plain byte begins, is one text
   module _ (a b : ℕ) (some : a < b) (within : b ≤ length text) (stand : StandWithin reader.options reader.lookup leaf.is_cell text a b) (full : (is_blank_byte (get_or text (b - 1) 0) ≡ false) ⊎ (b ≡ length text)) where
@@ -200,17 +183,11 @@ module _ (reader : Reader) (leaf : Leaf) (text : List ℕ) (place : ℕ → ℕ)
 
   -- the text is over
   stops_at_end : StopsAt one alone (length text)
-  stops_at_end more = ap (λ l. goes_on one alone (begins one alone (length text) l) (length text) more) (from-text reader leaf text place h (length text) ∙ none_left)
-    where
-      none_left : drop (length text) text ≡ []
-      none_left = let d = length-drop (length text) text in nothing (drop (length text) text) (omega arith)
+  stops_at_end more = grind (arith, from-text, length-drop, nothing)
 
   end_token : token reader leaf (place (length text)) ≡ Ends
   unfolding token
-  end_token = ap (λ l. longest reader leaf (begins reader leaf (place (length text)) l)) (from-place reader leaf text place h (length text) (omega arith) ∙ none_left)
-    where
-      none_left : drop (length text) text ≡ []
-      none_left = let d = length-drop (length text) text in nothing (drop (length text) text) (omega arith)
+  end_token = grind (arith, from-place, length-drop, nothing)
 
   -- a line feed without blanks beside it is a soft break
   module _ (b : ℕ) (bytes : drop b text ≡ 10 ∷ drop (suc b) text) (next : is_blank_byte (get_or text (suc b) 0) ≡ false) where
@@ -224,11 +201,7 @@ module _ (reader : Reader) (leaf : Leaf) (text : List ℕ) (place : ℕ → ℕ)
     stops_at_break more = ap (λ l. goes_on one alone (begins one alone b l) b more) (from-text reader leaf text place h b ∙ bytes)
 
     size_is : size_to one alone b rest ≡ 1
-    size_is =
-        let w = within in
-        let d = ap length (from-text reader leaf text place h b) ∙ length-drop b text in
-        let c = length-drop (suc b) text in
-        omega (arith, d, c, w)
+    size_is = grind (arith, within, from-text, length-drop)
 
     resumes : read_on one alone (suc b) ≡ suc b
     resumes =
@@ -240,12 +213,7 @@ module _ (reader : Reader) (leaf : Leaf) (text : List ℕ) (place : ℕ → ℕ)
         ∙ (let c = ap length whole ∙ length-drop (suc b) text in let q : length text - length (from one alone (suc b)) ≡ suc b = omega (arith, c, w) in q)
 
     break_begins : begins one alone b (10 ∷ rest) ≡ Stands (soft b) (suc b)
-    break_begins =
-        let n : (b + size_to one alone b rest) ≡ suc b = (let s = size_is in omega (arith, s)) in
-        let z : (b + 0) ≡ b = omega arith in
-        ap (λ k. Stands (record { kind = SoftBreak; start = b + 0; end = k }) (read_on one alone k)) n
-        ∙ ap (λ k. Stands (record { kind = SoftBreak; start = k; end = suc b }) (read_on one alone (suc b))) z
-        ∙ ap (Stands (soft b)) resumes
+    break_begins = grind (arith, size_is, resumes)
 
     break_token : token reader leaf (place b) ≡ Stands (record { kind = SoftBreak; start = place b; end = suc (place b) }) (place (suc b))
     unfolding token
@@ -268,9 +236,7 @@ siblings_at start (line ∷ lines) last = Single (plain start (start + length li
 
 are_siblings : (options : Options) (start : ℕ) (lines : List (List ℕ)) (last : List ℕ) → AreSiblings options (parts_at start lines last) (siblings_at start lines last)
 are_siblings options start [] last = (Nil, refl, refl)
-are_siblings options start (line ∷ lines) last =
-    let after = siblings_at (suc (start + length line)) lines last in
-    (Single (soft (start + length line)) after, (after, are_siblings options (suc (start + length line)) lines last, refl), refl)
+are_siblings options start (line ∷ lines) last = search (rules, are_siblings options (suc (start + length line)) lines last)
 
 -- no quote is among them
 characters_same : (start : ℕ) (lines : List (List ℕ)) (last cs : List ℕ) → with_characters (siblings_at start lines last) cs ≡ siblings_at start lines last
@@ -325,11 +291,7 @@ module _ (text : List ℕ) (a : ℕ) (line : List ℕ) where
       sym (drop-drop (length line) a text) ∙ ap (drop (length line)) h.part ∙ drop-append_seam line (10 ∷ drop (suc (a + length line)) text)
 
   last_is : IsLastLine text a line → a + length line ≡ length text
-  last_is h =
-      let e = ap length h.part in
-      let d = length-drop a text in
-      let some = h.some in
-      omega (arith, e, d, some)
+  last_is h = grind (arith, length-drop)
 
 module _ (reader : Reader) (leaf : Leaf) (text : List ℕ) (place : ℕ → ℕ) (h : AreLeafPlaces reader leaf text place) (start end : ℕ) (text_is : text ≡ slice reader.source start end) (within : end ≤ length reader.source) (at_place : (k : ℕ) → k ≤ length text → place k ≡ start + k) (all : List Exchange) where
   abbrev Plain_lines : (at : ℕ) → (lines : List (List ℕ)) → (last : List ℕ) → Type 0
@@ -349,13 +311,7 @@ module _ (reader : Reader) (leaf : Leaf) (text : List ℕ) (place : ℕ → ℕ)
       ∙ ap (Stands (plain p (p + n))) next
 
   break_item : (p b : ℕ) → p ≡ start + b → suc b ≤ length text → drop b text ≡ 10 ∷ drop (suc b) text → is_blank_byte (get_or text (suc b) 0) ≡ false → token reader leaf p ≡ Stands (soft p) (suc p)
-  break_item p b e fits bytes next =
-      let first : place b ≡ p = at_place b (omega (arith, fits)) ∙ sym e in
-      let after : place (suc b) ≡ suc p = (let q = at_place (suc b) fits in omega (arith, q, e)) in
-      ap (token reader leaf) (sym first)
-      ∙ break_token reader leaf text place h b bytes next
-      ∙ ap (λ i. Stands (soft i) (place (suc b))) first
-      ∙ ap (Stands (soft p)) after
+  break_item p b e fits bytes next = grind (arith, break_token)
 
   -- the leaf is read from one line on
   record IsReadOn (s : State) (p : ℕ) (lines : List (List ℕ)) (last : List ℕ) : Type 0 where
@@ -440,9 +396,7 @@ module _ (reader : Reader) (all : List Exchange) (before : Between) (start end :
     text_is = ap (λ n. slice reader.source n end ++ []) (let e : max 0 start ≡ start = omega arith in e) ∙ append-nil (slice reader.source start end)
 
     place_is : (k : ℕ) → k ≤ length (text_of reader leaf_of) → place k ≡ start + k
-    place_is k le =
-        let s = ap length text_is ∙ slice-size reader.source start end within in
-        ap (λ n. end - n) (length-drop k (text_of reader leaf_of)) ∙ (let q : end - (length (text_of reader leaf_of) - k) ≡ start + k = omega (arith, s, le, up) in q)
+    place_is k le = grind (arith, text_is, slice-size, within, length-drop)
 
     placed_so : AreLeafPlaces reader leaf_of (text_of reader leaf_of) place
     placed_so = (leaf-placed reader leaf_of (omega arith, omega arith, within) (up, inl refl, tt) tt).places
@@ -454,10 +408,7 @@ module _ (reader : Reader) (all : List Exchange) (before : Between) (start end :
 
   -- the text is not empty
   some_text : (lines : List (List ℕ)) (last : List ℕ) → ArePlainLines reader.options reader.lookup is_cell (slice reader.source start end) 0 lines last → start < end
-  some_text lines last h =
-      let s = slice-size reader.source start end within in
-      let n = size lines h in
-      omega (arith, s, n)
+  some_text lines last h = grind (arith, slice-size, within, size)
     where
       size : (lines : List (List ℕ)) → ArePlainLines reader.options reader.lookup is_cell (slice reader.source start end) 0 lines last → 0 < length (slice reader.source start end)
       size [] h = let l = last_is (slice reader.source start end) 0 last h.0 in let some = h.0.some in omega (arith, l, some)

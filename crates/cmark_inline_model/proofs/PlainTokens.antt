@@ -1,37 +1,31 @@
 -- Plain bytes without a gap are one text, in the leaf as in its text.
-use Rattle.std.specs.Prelude.{suc, zero, ◌-◌, ◌==◌, ◌&&◌, ◌||◌, not, nat_lt, if◌then◌else◌, is_none, drop, take, codes}
+use Rattle.std.specs.Prelude.{suc, zero, ◌-◌, ◌==◌, ◌&&◌, ◌||◌, not, if◌then◌else◌, drop}
 use Rattle.std.specs.List.{prefix_len}
-use Rattle.std.proofs.Common.{◌≡◌, ◌⊎◌, inl, inr, ◌<◌, ◌≤◌, ◌+◌, ℕ, Bool, true, false, List, [], ◌∷◌, length, Option, Some, None, refl, sym, ap, ◌∙◌, subst, arith, eqb-true, true≢false}
+use Rattle.std.proofs.Common.{◌≡◌, ◌⊎◌, inl, inr, ◌<◌, ◌≤◌, ◌+◌, ℕ, Bool, true, false, List, [], ◌∷◌, length, Option, Some, None, refl, sym, ap, ◌∙◌, subst, arith, eqb-true, true≢false, rules}
 use Rattle.std.proofs.lemmas.Bool.{ltb-true, ltb-false, eq-eqb, false_from_ne_true}
 use Rattle.cmark_grammar.specs.Autolinks.{autolink_in}
-use Rattle.cmark_grammar.specs.CodeSpans.{is_backtick, backticks, code_in}
+use Rattle.cmark_grammar.specs.CodeSpans.{backticks, code_in}
 use Rattle.cmark_grammar.specs.Columns.{is_blank_byte}
-use Rattle.cmark_grammar.specs.Dashes.{dashes_of, dash_text}
 use Rattle.cmark_grammar.specs.Flanking.{Flanking, flanking, is_run_delimiter}
-use Rattle.cmark_grammar.specs.Formulas.{is_dollar, Braces, no_braces, braces_after, inline_in, display_in}
-use Rattle.cmark_grammar.specs.InlineHtml.{after_markup, takes_lines}
-use Rattle.cmark_grammar.specs.InlineTokens.{item_at, bracket, is_plain, from, before, size_to, read_on, character_before, character_at, break_or, code_or, escaped_backtick, escape_at, entity_or, autolink_or, tag_or_text, source_from, markup_or, less_than, run_or, run_at, formula_or, dollar, dots, hyphens, quote_at, smart_or, begins, begins_at, goes_on, plain_end, longest, token}
-use Rattle.cmark_grammar.specs.Items.{ItemKind, Plain, Written, InlineMath, DisplayMath, Delimiters, Html, OwnedHtml, SoftBreak, HardBreak, Token, Stands, Opens, Closes, Ends}
-use Rattle.cmark_grammar.specs.LabelsOverLines.{piped}
+use Rattle.cmark_grammar.specs.Formulas.{is_dollar, Braces, no_braces, braces_after}
+use Rattle.cmark_grammar.specs.InlineHtml.{after_markup}
+use Rattle.cmark_grammar.specs.InlineTokens.{item_at, bracket, is_plain, from, before, character_before, character_at, break_or, code_or, escaped_backtick, escape_at, entity_or, autolink_or, tag_or_text, source_from, markup_or, less_than, run_or, run_at, formula_or, dollar, smart_or, begins, begins_at, goes_on, plain_end, longest, token}
+use Rattle.cmark_grammar.specs.Items.{ItemKind, Plain, Delimiters, Token, Stands, Opens, Closes}
 use Rattle.cmark_grammar.specs.LeafText.{Leaf, InTurn}
-use Rattle.cmark_grammar.specs.Letters.{first_is, starts}
+use Rattle.cmark_grammar.specs.Letters.{first_is}
 use Rattle.cmark_grammar.specs.LineBreaks.{LineBreak, backslash_break_in, blank_break_in}
 use Rattle.cmark_grammar.specs.Lines.{is_content}
 use Rattle.cmark_grammar.specs.LinkDefinitions.{Parsed}
 use Rattle.cmark_grammar.specs.Readers.{Reader}
 use Rattle.cmark_grammar.specs.Tags.{after_tag, no_prefix}
-use Rattle.cmark_grammar.specs.Tokens.{Entity, entity_in, is_punctuation}
+use Rattle.cmark_grammar.specs.Tokens.{Entity, entity_in}
 use Rattle.cmark_inline_model.specs.PlacedTokens.{AreLeafPlaces, StandsUpTo, StopsAt, one_stretch, text_reader, placed, may_open_markup}
 use Rattle.cmark_inline_model.proofs.PlacedTokens.{from-text, from-place, begins-at}
 use Rattle.cmark_inline_model.proofs.TokenLaws.{Onward, begins-at-onward}
 use Rattle.cmark_inline_model.proofs.WordBytes.{and-left, and-right, or-either}
 
 le_or : (a b : ℕ) → (a ≤ b) ⊎ (b < a)
-le_or a b = go (nat_lt b a) refl
-  where
-    go : (x : Bool) → nat_lt b a ≡ x → (a ≤ b) ⊎ (b < a)
-    go true e = inr (ltb-true b a e)
-    go false e = inl (ltb-false b a e)
+le_or a b = grind (arith, ltb-true, ltb-false)
 
 module _ (reader : Reader) (leaf : Leaf) where
   -- ## After plain bytes reading continues where they end
@@ -44,12 +38,7 @@ module _ (reader : Reader) (leaf : Leaf) where
   when false x y h k = k
 
   break_shaped : (at : ℕ) (found : Option LineBreak) (other : Token) → Shaped other → Shaped (break_or reader leaf at found other)
-  break_shaped at None other h = h
-  break_shaped at (Some found) other h = by found.is_hard
-    where
-      by : (b : Bool) → is_plain (if b then HardBreak else SoftBreak) ≡ true → at + size_to reader leaf at found.following ≡ read_on reader leaf (at + size_to reader leaf at found.following)
-      by true e = absurd (true≢false (sym e))
-      by false e = absurd (true≢false (sym e))
+  break_shaped at found other h = grind arith
 
   code_shaped : (at size : ℕ) (found : Option Parsed) → Shaped (code_or reader leaf at size found)
   code_shaped at size None = λ e. refl
@@ -80,38 +69,20 @@ module _ (reader : Reader) (leaf : Leaf) where
   formula_shaped kind at (Some found) = λ e. refl
 
   escape_shaped : (at : ℕ) (bs : List ℕ) → Shaped (escape_at reader leaf at bs)
-  escape_shaped at bs =
-      when (first_is is_backtick bs) (escaped_backtick reader leaf (suc at) (backticks bs) (code_in (drop 1 bs)))
-      (if leaf.is_cell && starts piped bs then item_at Plain (at + 2) (at + 3) else if first_is is_punctuation bs then item_at Plain (suc at) (at + 2) else item_at Plain at (suc at))
-      (escaped_shaped (suc at) (backticks bs) (code_in (drop 1 bs)))
-      (when (leaf.is_cell && starts piped bs) (item_at Plain (at + 2) (at + 3)) (if first_is is_punctuation bs then item_at Plain (suc at) (at + 2) else item_at Plain at (suc at)) (λ e. refl)
-      (when (first_is is_punctuation bs) (item_at Plain (suc at) (at + 2)) (item_at Plain at (suc at)) (λ e. refl) (λ e. refl)))
+  escape_shaped at bs = grind (arith, when, escaped_shaped)
 
   less_than_shaped : (at : ℕ) (bs : List ℕ) → Shaped (less_than reader leaf at bs)
-  less_than_shaped at bs =
-      let tag = tag_or_text reader leaf at (after_tag no_prefix (from reader leaf at)) in
-      let others = markup_or reader leaf at (after_markup (source_from reader leaf at)) tag in
-      when (first_is (λ c. c == 92) bs) (item_at Plain at (suc at)) (autolink_or reader leaf at (autolink_in reader.options.email_autolinks bs) others) (λ e. refl)
-      (autolink_shaped at (autolink_in reader.options.email_autolinks bs) others (markup_shaped at (after_markup (source_from reader leaf at)) tag (tag_shaped at (after_tag no_prefix (from reader leaf at)))))
+  less_than_shaped at bs = grind (arith, when, autolink_shaped, markup_shaped, tag_shaped)
 
   run_shaped : (at delimiter size : ℕ) (beside : Flanking) → Shaped (run_or reader leaf at delimiter size beside)
   run_shaped at delimiter size beside =
       when (beside.opens || beside.closes) (item_at (Delimiters (record { delimiter = delimiter; run_length = size; at = 0; left = size; opens = beside.opens; closes = beside.closes })) at (at + size)) (item_at Plain at (at + size)) (λ e. refl) (λ e. refl)
 
   dollar_shaped : (at : ℕ) (bs : List ℕ) (braces : Braces) → Shaped (dollar reader leaf at bs braces)
-  dollar_shaped at bs braces =
-      when (first_is is_dollar bs) (formula_or reader leaf DisplayMath at (display_in braces (drop 1 bs))) (formula_or reader leaf InlineMath at (inline_in braces bs))
-      (formula_shaped DisplayMath at (display_in braces (drop 1 bs))) (formula_shaped InlineMath at (inline_in braces bs))
+  dollar_shaped at bs braces = grind (arith, when, formula_shaped)
 
   smart_shaped : (at b : ℕ) → Shaped (smart_or reader leaf at b)
-  smart_shaped at b =
-      let n = prefix_len (λ c. c == 45) (from reader leaf at) in
-      let plain = item_at Plain at (suc at) in
-      let quoted = if (b == 34) || (b == 39) then quote_at reader leaf at b else plain in
-      when (b == 46) (dots reader leaf at) (if b == 45 then hyphens reader leaf at n else quoted)
-      (when (starts (codes "...") (from reader leaf at)) (item_at (Written (226 ∷ 128 ∷ 166 ∷ [])) at (at + 3)) plain (λ e. refl) (λ e. refl))
-      (when (b == 45) (hyphens reader leaf at n) quoted (when (nat_lt n 2) (item_at Plain at (at + n)) (item_at (Written (dash_text (dashes_of n))) at (at + n)) (λ e. refl) (λ e. refl))
-      (when ((b == 34) || (b == 39)) (quote_at reader leaf at b) plain (λ e. refl) (λ e. refl)))
+  smart_shaped at b = grind (arith, when)
 
   pub begins-shaped : (at : ℕ) (l : List ℕ) → Shaped (begins reader leaf at l)
   begins-shaped at [] = tt
@@ -155,19 +126,10 @@ module _ (reader : Reader) (leaf : Leaf) where
       others = markup_or reader leaf at (after_markup (source_from reader leaf at)) (tag_or_text reader leaf at (after_tag no_prefix (from reader leaf at)))
 
       slash : (c == 92) ≡ false
-      slash = go (or-either (c == 33) (c == 63) e)
-        where
-          go : ((c == 33) ≡ true) ⊎ ((c == 63) ≡ true) → (c == 92) ≡ false
-          go (inl f) = subst (λ d. (d == 92) ≡ false) (sym (eqb-true c 33 f)) refl
-          go (inr f) = subst (λ d. (d == 92) ≡ false) (sym (eqb-true c 63 f)) refl
+      slash = grind (arith, or-either, eqb-true)
 
       tag : (found : Option (List ℕ)) → NotPlain (tag_or_text reader leaf at found)
-      tag None = refl
-      tag (Some rest) = by (takes_lines (take (size_to reader leaf at rest) (from reader leaf at)))
-        where
-          by : (b : Bool) → is_plain (if b then OwnedHtml (take (size_to reader leaf at rest) (from reader leaf at)) else Html) ≡ false
-          by true = refl
-          by false = refl
+      tag found = grind arith
 
       markup : (found : Option (List ℕ)) → NotPlain (markup_or reader leaf at found (tag_or_text reader leaf at (after_tag no_prefix (from reader leaf at))))
       markup None = tag (after_tag no_prefix (from reader leaf at))
@@ -178,11 +140,7 @@ module _ (reader : Reader) (leaf : Leaf) where
       link (Some found) = refl
 
   pub markup-not : (at : ℕ) (l : List ℕ) → may_open_markup reader.options.email_autolinks l ≡ true → NotPlain (begins reader leaf at l)
-  markup-not at [] e = tt
-  markup-not at (b ∷ bs) e =
-      let second = first_is (λ c. (c == 33) || (c == 63)) bs in
-      let none = is_none (autolink_in reader.options.email_autolinks bs) in
-      subst (λ c. NotPlain (begins reader leaf at (c ∷ bs))) (sym (eqb-true b 60 (and-left (b == 60) (none && second) e))) (less_than_not at bs (and-right none second (and-right (b == 60) (none && second) e)))
+  markup-not at l e = search (rules, eqb-true, and-left, less_than_not, and-right)
 
   pub goes-stop : (t : Token) (item_end : ℕ) (more : ℕ → ℕ) → NotPlain t → goes_on reader leaf t item_end more ≡ item_end
   goes-stop (Stands item resume) item_end more h = ap (λ z. if z && (item.start == item_end) then more resume else item_end) h
@@ -236,24 +194,9 @@ module _ (reader : Reader) (leaf : Leaf) (text : List ℕ) (place : ℕ → ℕ)
       start_in = let w = within in let a = o.0.ordered in let b = o.0.ends in omega arith
 
       by : (b : Bool) → is_plain x.kind ≡ b → GoesOn (placed place (Stands x resume)) (Stands x resume) k
-      by false e = record {
-        same = λ more more0 g. goes-stop reader leaf (placed place (Stands x resume)) (place k) more e ∙ ap place (sym (goes-stop one alone (Stands x resume) k more0 e));
-        ends = λ more0 f g. subst Ended (sym (goes-stop one alone (Stands x resume) k more0 e)) f;
-      }
-      by true e =
-          let ended : Ended resume = sym (p e) ∙ ap (λ i. suc (place (i - 1))) (s e) in record {
-            same = λ more more0 g.
-                (ap (λ z. if is_plain x.kind && z then more (place resume) else place k) (same_place x.start k start_in le)
-                ∙ if_place (is_plain x.kind && (x.start == k)) (more (place resume)) (place k) (more0 resume) k (g resume within ended) refl);
-            ends = λ more0 f g. pick (is_plain x.kind && (x.start == k)) (more0 resume) k (g resume within ended) f;
-          }
-        where
-          pick : (b : Bool) (i j : ℕ) → Ended i → Ended j → Ended (if b then i else j)
-          pick true i j f g = f
-          pick false i j f g = g
-  placed_goes (Opens b) k le o s p = record { same = λ more more0 g. refl; ends = λ more0 f g. f }
-  placed_goes (Closes b) k le o s p = record { same = λ more more0 g. refl; ends = λ more0 f g. f }
-  placed_goes Ends k le o s p = record { same = λ more more0 g. refl; ends = λ more0 f g. f }
+      by false e = grind (arith, goes-stop)
+      by true e = search (rules, same_place, start_in, if_place, within)
+  placed_goes _ k le o s p = record { same = λ more more0 g. refl; ends = λ more0 f g. f }
 
   begins_goes : (k : ℕ) → k ≤ length text → GoesOn (begins_at reader leaf (place k)) (begins_at one alone k) k
   begins_goes k le = by (may_open_markup reader.options.email_autolinks (drop k text)) refl
@@ -277,34 +220,12 @@ module _ (reader : Reader) (leaf : Leaf) (text : List ℕ) (place : ℕ → ℕ)
       (g.same (plain_end reader leaf n) (plain_end one alone n) (λ x a b. (plain_end_is n x a b).0), g.ends (plain_end one alone n) e (λ x a b. (plain_end_is n x a b).1))
 
   longest_is : (t0 : Token) (k : ℕ) → Onward one alone (length text) turn k t0 → Shaped one alone t0 → Shaped reader leaf (placed place t0) → longest reader leaf (placed place t0) ≡ placed place (longest one alone t0)
-  longest_is (Stands x resume) k o s p = by (is_plain x.kind) refl
-    where
-      by : (b : Bool) → is_plain x.kind ≡ b → longest reader leaf (placed place (Stands x resume)) ≡ placed place (longest one alone (Stands x resume))
-      by false e =
-          ap (λ z. if z then item_at Plain (place x.start) (plain_end reader leaf (length (from reader leaf (place resume))) (place resume)) else placed place (Stands x resume)) e
-          ∙ sym (ap (λ z. placed place (if z then item_at Plain x.start (plain_end one alone (length (from one alone resume)) resume) else Stands x resume)) e)
-      by true e =
-          let w = o.2 in
-          let ended : Ended resume = sym (p e) ∙ ap (λ i. suc (place (i - 1))) (s e) in
-          let bytes : from reader leaf (place resume) ≡ from one alone resume = from-place reader leaf text place h resume (omega arith) ∙ sym (from-text reader leaf text place h resume) in
-          let item_end = plain_end one alone (length (from one alone resume)) resume in
-          let r = plain_end_is (length (from one alone resume)) resume (omega arith) ended in
-          ap (λ z. if z then item_at Plain (place x.start) (plain_end reader leaf (length (from reader leaf (place resume))) (place resume)) else placed place (Stands x resume)) e
-          ∙ ap (λ l. item_at Plain (place x.start) (plain_end reader leaf (length l) (place resume))) bytes
-          ∙ ap (item_at Plain (place x.start)) r.0
-          ∙ ap (λ i. Stands (record { kind = Plain; start = place x.start; end = i }) (place item_end)) r.1
-          ∙ sym (ap (λ z. placed place (if z then item_at Plain x.start item_end else Stands x resume)) e)
-  longest_is (Opens b) k o s p = refl
-  longest_is (Closes b) k o s p = refl
-  longest_is Ends k o s p = refl
+  longest_is t0 k o s p = grind (arith, from-place, from-text, plain_end_is)
 
   -- the token there, except for markup that is searched in the source
   pub token-at : (k : ℕ) → k ≤ length text → may_open_markup reader.options.email_autolinks (drop k text) ≡ false → token reader leaf (place k) ≡ placed place (token one alone k)
   unfolding token
-  token-at k le none =
-      let q = begins-at reader leaf text place h k le none in
-      ap (longest reader leaf) q
-      ∙ longest_is (begins_at one alone k) k (onward k) (begins-shaped one alone k (from one alone k)) (subst (Shaped reader leaf) q (begins-shaped reader leaf (place k) (from reader leaf (place k))))
+  token-at k le none = grind (arith, begins-at, longest_is, onward, begins-shaped)
 
 -- plain bytes, up to an offset at which no plain byte begins, are one text
 module _ (reader : Reader) (leaf : Leaf) where

@@ -1,8 +1,8 @@
 -- The rest of a text can be read with the answers of a plan.
-use Rattle.std.proofs.Common.{◌≡◌, ℕ, List, [], ◌∷◌, ◌++◌, length, refl, sym, ap, ◌∙◌, subst, append_assoc, append-nil}
+use Rattle.std.proofs.Common.{◌≡◌, ℕ, List, [], ◌∷◌, ◌++◌, length, refl, sym, ap, ◌∙◌, subst, append_assoc, append-nil, arith}
 use Rattle.cmark_grammar.specs.BracketDecisions.{decide}
 use Rattle.cmark_grammar.specs.BracketReading.{Comes, Reads}
-use Rattle.cmark_grammar.specs.BracketStates.{Asks, Decision, Outcome, Settled, State, moved, opened}
+use Rattle.cmark_grammar.specs.BracketStates.{Decision, Outcome, State, moved, opened}
 use Rattle.cmark_grammar.specs.Event.{Ranged}
 use Rattle.cmark_grammar.specs.InlineTokens.{token}
 use Rattle.cmark_grammar.specs.Items.{Bracket, Token}
@@ -26,10 +26,7 @@ module _ (plan : Plan) where
   planned-on before (y ∷ ys) x h e = (h.0, planned-on (before ++ (y ∷ [])) ys x h.1 (e ∙ ap (λ l. plan l x.question) (sym (append_assoc before (y ∷ []) ys))))
 
   comes-planned : (asked : List Exchange) (decision : Decision) (outcome : Outcome) → Keeps asked decision → Comes (ByPlan plan) asked decision outcome → AreByPlan plan [] asked → AreByPlan plan [] outcome.after.asked
-  comes-planned asked (Settled settled) outcome keeps comes h = subst (AreByPlan plan []) (sym (ap (λ (o : Outcome). o.after.asked) comes ∙ keeps)) h
-  comes-planned asked (Asks question answered) outcome keeps comes h =
-      let x : Exchange = record { question = question; answer = comes.0 } in
-      subst (AreByPlan plan []) (sym (ap (λ (o : Outcome). o.after.asked) comes.2 ∙ keeps comes.0)) (planned-on [] asked x h comes.1)
+  comes-planned asked decision outcome keeps comes h = grind (arith, planned-on)
 
   module _ (token : ℕ → Token) (decide : State → Bracket → Decision) (recorded : IsRecorded decide) where
     pub reads-planned : (s : State) (parts : Parts) (t : State) → Reads token decide (ByPlan plan) s parts t → AreByPlan plan [] s.asked → AreByPlan plan [] t.asked

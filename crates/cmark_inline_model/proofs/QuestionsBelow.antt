@@ -1,5 +1,4 @@
 -- Each question of a leaf is put while the references so far have not used up the reference expansion limit.
-use Rattle.std.specs.Prelude.{zero, suc}
 use Rattle.std.proofs.Common.{◌≡◌, ℕ, ◌<◌, ◌≤◌, [], ◌++◌, refl, sym, subst, arith, append-nil}
 use Rattle.cmark_grammar.specs.BracketReading.{Reads}
 use Rattle.cmark_grammar.specs.BracketStates.{State, moved, opened, StaysText, Forms, Outcome, Decision}
@@ -30,11 +29,7 @@ module _ (token : ℕ → Token) (decide : State → (closer : Bracket) → Deci
 
   -- a question is put if the limit is not used up
   put : (Closer : ℕ → Type 0) (s t : State) (d : Decided token decide Says size Holds s t) → (0 < s.expansion_left → Closer s.at) → PutInTurn Closer s.at d.turns.more t.at
-  put Closer s t d f = go s.expansion_left refl
-    where
-      go : (n : ℕ) → s.expansion_left ≡ n → PutInTurn Closer s.at d.turns.more t.at
-      go zero e = subst (λ l. PutInTurn Closer s.at l t.at) (sym (d.turns.none e)) (turn-up (IsCloserAt token decide Says size Holds) s.at d.turns.more t.at d.turns.turn)
-      go (suc n) e = d.there Closer (f (omega arith))
+  put Closer s t d f = grind (arith, turn-up)
 
   pub reading-below : (s : State) (parts : Parts) (t : State) → BeginUpTo s.at s.openers → s.at ≤ size → Reads token decide Says s parts t → Below s parts t
   unfolding turns-both turns-on opener-turns

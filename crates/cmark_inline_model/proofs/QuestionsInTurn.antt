@@ -9,9 +9,9 @@ use Rattle.cmark_grammar.specs.Items.{Bracket, Token, Opens, Closes}
 use Rattle.cmark_grammar.specs.Parts.{Parts, Nil, Single, Form, Closing, Opening, openings}
 use Rattle.cmark_grammar.specs.Questions.{Question, Exchange, Saying}
 use Rattle.cmark_inline_model.specs.ReferenceExpansion.{cost, Spends, PaysBy, Pays, KeepsLimit}
-use Rattle.cmark_inline_model.specs.NestedLinks.{Persist, ResultsApart, KeepsApart, KeepsLinksApart}
+use Rattle.cmark_inline_model.specs.NestedLinks.{Persist, ResultsApart, KeepsLinksApart}
 use Rattle.cmark_inline_model.specs.PartRanges.{KeepsRanges}
-use Rattle.cmark_inline_model.specs.Progress.{FitsBy, Fits, IsForward, Keeps, IsRecorded}
+use Rattle.cmark_inline_model.specs.Progress.{FitsBy, IsForward, Keeps, IsRecorded}
 use Rattle.cmark_inline_model.specs.ReadingQuestions.{PutInTurn, AllQuestions}
 use Rattle.cmark_inline_model.proofs.LinkNesting.{always-comes}
 
@@ -156,10 +156,7 @@ module _ (token : ℕ → Token) (decide : State → (closer : Bracket) → Deci
         on = always-comes (λ x. s.at < x.after.at) Says s.asked (decide s closer) o (keeps.forward.comes s closer e) c
 
         begin : BeginUpTo o.after.at o.after.openers
-        begin =
-            begin_more s.at o.after.at o.after.openers (omega (arith, on))
-            (begin_after s.at s.openers o.after.openers o.result (always-comes (KeepsApart s.openers) Says s.asked (decide s closer) o (keeps.apart.keeps s closer) c)
-            (always-comes (Fits (length s.openers)) Says s.asked (decide s closer) o (keeps.forward.fits s closer) c) h)
+        begin = grind (arith, begin_more, on, begin_after, always-comes)
 
         less : o.after.expansion_left ≤ s.expansion_left
         less = pays_less s.expansion_left o.after.expansion_left o.result (always-comes (Pays s.expansion_left) Says s.asked (decide s closer) o (keeps.limit.pays s closer) c)

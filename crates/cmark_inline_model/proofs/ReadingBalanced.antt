@@ -1,15 +1,15 @@
 -- The events of a reading are balanced: each start has its end, with the same range.
 use Rattle.cmark_inline_model.proofs.DocumentLeaves.{begins-start, StartsWith}
 use Rattle.std.specs.Prelude.{map}
-use Rattle.std.proofs.Common.{◌≡◌, ℕ, List, [], ◌∷◌, ◌++◌, refl, sym, ap, subst, ◌∙◌, zero, suc, ◌⊎◌, inl, inr, ⊎_elim}
+use Rattle.std.proofs.Common.{◌≡◌, ℕ, List, [], ◌∷◌, ◌++◌, refl, sym, ap, subst, ◌∙◌, zero, suc, ◌⊎◌, inl, inr, ⊎_elim, arith, rules}
 use Rattle.std.proofs.lemmas.List.{append_assoc, map-append}
 use Rattle.cmark_block_model.specs.Balance as balance
 use Rattle.cmark_block_model.specs.Balance.{IsSingle, Balanced}
-use Rattle.cmark_grammar.specs.BlockDocument.{BlockKind, Paragraph, TightParagraph, Heading, ThematicBreak, IndentedCode, FencedCode, HtmlBlock, LinkDefinition, MetadataBlock, BlockQuote, BlockList, ListItem, TaskMarker, FootnoteDefinition, DefinitionList, DefinitionListTitle, DefinitionListDefinition, Text, OwnedText, Html, BlockNode, BlockDocument, Nil, Node, Table, TableHead, TableRow, TableCell}
+use Rattle.cmark_grammar.specs.BlockDocument.{BlockKind, Paragraph, TightParagraph, Heading, ThematicBreak, IndentedCode, FencedCode, HtmlBlock, LinkDefinition, MetadataBlock, BlockQuote, FootnoteDefinition, DefinitionList, DefinitionListTitle, BlockNode, BlockDocument, Nil, Node, Table, TableHead, TableRow, TableCell}
 use Rattle.cmark_grammar.specs.BlockReading.{Reads, Around, Inside, Alone, First, first_event, read_as, over, starts_before}
 use Rattle.cmark_grammar.specs.Event.{Start, End, Ranged}
 use Rattle.cmark_grammar.specs.InlineReading.{event_of, inline_events}
-use Rattle.cmark_grammar.specs.Items.{ItemKind, Plain, Own, Written, Quoted, Delimiters, Code, InlineMath, DisplayMath, Autolink, Html as InlineHtml, OwnedHtml, FootnoteReference, SoftBreak, HardBreak, Item}
+use Rattle.cmark_grammar.specs.Items.{ItemKind, Item}
 use Rattle.cmark_grammar.specs.LeafReading.{Between}
 use Rattle.cmark_grammar.specs.LeafText.{Leaf}
 use Rattle.cmark_grammar.specs.Questions.{Saying}
@@ -61,20 +61,7 @@ matched-balanced _ (Pair tag start end inside after i a) =
 
 module _ (source : List ℕ) where
   pub item-single : (x : Item) (kind : ItemKind) → IsSingle (event_of source x kind)
-  item-single x Plain = tt
-  item-single x Own = tt
-  item-single x (Written text) = tt
-  item-single x (Quoted quote) = tt
-  item-single x (Delimiters run) = tt
-  item-single x (Code text) = tt
-  item-single x (InlineMath text) = tt
-  item-single x (DisplayMath text) = tt
-  item-single x (Autolink uri) = tt
-  item-single x InlineHtml = tt
-  item-single x (OwnedHtml text) = tt
-  item-single x (FootnoteReference label) = tt
-  item-single x SoftBreak = tt
-  item-single x HardBreak = tt
+  item-single x kind = grind arith
 
   spans_matched : (spans : Inline) → Matched (inline_events source spans)
   spans_matched NoSpans = NoMore
@@ -112,14 +99,10 @@ module _ (reader : Reader) (Says : Saying) where
       }
 
   append_matches : (a b : List Segment) → Balances a → Balances b → Balances (a ++ b)
-  append_matches a b h k before after events r =
-      let s = split a b before events after r in
-      subst Matched (sym s.joined) (matched-append s.first s.second (h before s.between s.first s.reads_first) (k s.between after s.second s.reads_second))
+  append_matches a b h k before after events r = grind (arith, split, matched-append)
 
   leaf_matches : (leaf : Leaf) → Balances (Content leaf ∷ [])
-  leaf_matches leaf before after events h =
-      subst Matched (sym h.5)
-      (matched-append h.0 h.1 (subst Matched (sym h.3.events_are) (spans_matched reader.source h.3.spans)) (subst Matched (sym h.4.0) NoMore))
+  leaf_matches leaf before after events h = search (rules, matched-append, spans_matched)
 
   inside_matches : (kind : BlockKind) (content : BlockDocument) (others : List Segment) → Balances others → Balances (inside_of kind content others)
   inside_matches Paragraph content others k = leaf_matches _
@@ -139,13 +122,7 @@ module _ (reader : Reader) (Says : Saying) where
   inside_matches (FootnoteDefinition label) content others k = k
   inside_matches (DefinitionList tight) content others k = k
   inside_matches DefinitionListTitle content others k = leaf_matches _
-  inside_matches DefinitionListDefinition content others k = k
-  inside_matches (BlockList number tight) content others k = k
-  inside_matches ListItem content others k = k
-  inside_matches (TaskMarker is_checked) content others k = k
-  inside_matches (Text bytes) content others k = k
-  inside_matches (OwnedText bytes) content others k = k
-  inside_matches (Html bytes) content others k = k
+  inside_matches _ content others k = k
 
   node_matches : (reads : Reads) (node : BlockNode) (inside : List Segment) → IsFit reads → Balances inside → Balances (node_segments reads node inside)
   node_matches (Around tag) node inside fits k = λ before after events h.

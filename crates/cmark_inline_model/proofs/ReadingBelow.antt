@@ -15,7 +15,7 @@ use Rattle.cmark_grammar.specs.SpanDocuments.{Segment, Given, Content, segments,
 use Rattle.cmark_block_model.proofs.RangeLaws.{derived-order}
 use Rattle.cmark_inline_model.specs.ReferenceExpansion.{costs}
 use Rattle.cmark_inline_model.specs.LinkRules.{IsQuestion}
-use Rattle.cmark_inline_model.specs.ReadingLinks.{LinkEvent, spent_by, spent_before}
+use Rattle.cmark_inline_model.specs.ReadingLinks.{spent_before}
 use Rattle.cmark_inline_model.specs.ReadingQuestions.{HasCloser, IsCloser, PutInTurn}
 use Rattle.cmark_inline_model.proofs.QuestionsBelow.{reading-below}
 use Rattle.cmark_inline_model.proofs.QuestionsInTurn.{turn-wide, turn-both, turn-within}
@@ -57,9 +57,7 @@ module _ (reader : Reader) (Says : Saying) where
       start = entering leaf before
 
       go : (st : List Stretch) → leaf.stretches ≡ st → spent_to place h.parts ≡ 0
-      go [] e =
-          let last : end_of leaf.stretches ≡ 0 = ap end_of e in
-          ap (spent_to place) (no-parts (token reader leaf) (decide reader leaf) Says (λ at. token-ends reader leaf mid zero_turn at (omega arith)) start h.parts h.last h.reads.reads)
+      go [] e = grind (arith, spent_to, no-parts, token-ends, zero_turn, start)
       go (s ∷ more) e =
           let stands = reading-stands (token reader leaf) (decide reader leaf) Says (end_of leaf.stretches) (leaf-ranges reader leaf mid zero_turn) start h.parts h.last start.at (omega arith)
           (leaf-up leaf.stretches mid zero_turn) h.reads.reads in
@@ -72,11 +70,7 @@ module _ (reader : Reader) (Says : Saying) where
   all_none : (others : List Segment) (from to : ℕ) (before after : Between) (events : List Ranged) → LeavesRise from others to → AreNeither others → ReadsAll reader Says others before events after
       → (place : ℕ) → place < from → spent_before place events ≡ 0
   all_none [] from to before after events r n h place w = ap (spent_before place) h.0
-  all_none (Given g ∷ others) from to before after events r n h place w =
-      let i = all_none others from to before after h.0 r n.1 h.1 place w in
-      let e = ap (spent_before place) h.2 in
-      let f = ap (λ (l : LinkEvent). spent_by l g.end place) n.0 in
-      omega arith
+  all_none (Given g ∷ others) from to before after events r n h place w = grind (arith, all_none others from to before after h.0 r n.1 h.1 place w)
   all_none (Content leaf ∷ others) from to before after events r n h place w =
       let up = up_turn from leaf.stretches r.0 r.1 in
       let i = all_none others r.0 to h.2 after h.1 r.2 n h.4 place (omega arith) in
@@ -102,14 +96,7 @@ module _ (reader : Reader) (Says : Saying) where
       → ReadsAll reader Says others before events after → Adds others limit spent events from to before after
   all_below limit spent [] from to before after events e r n h =
       record { more = []; added = ap (λ (b : Between). b.asked) h.1 ∙ sym (append-nil before.asked); below = r }
-  all_below limit spent (Given g ∷ others) from to before after events e r n h =
-      let i = all_below limit spent others from to before after h.0 e r n.1 h.1 in
-      record {
-        more = i.more;
-        added = i.added;
-        below = turn-wide (IsBelow others limit spent h.0) (IsBelow (Given g ∷ others) limit spent events)
-            (λ place q. (q.0, (let a = ap (spent_before place) h.2 in let c = ap (λ (l : LinkEvent). spent_by l g.end place) n.0 in let z = q.1 in omega arith))) from from i.more to to (omega arith) (omega arith) i.below;
-      }
+  all_below limit spent (Given g ∷ others) from to before after events e r n h = grind (arith, turn-wide, all_below limit spent others from to before after h.0 e r n.1 h.1)
   all_below limit spent (Content leaf ∷ others) from to before after events e r n h =
       let turn = lower from 0 leaf.stretches r.0 (omega arith) r.1 in
       let start = entering leaf before in

@@ -1,6 +1,6 @@
 -- If the source is UTF-8, the parts of a leaf, and the constructs that brackets form, begin and end at character boundaries.
 use Rattle.std.specs.Prelude.{suc, zero, ◌==◌, get_or, drop, IsUtf8}
-use Rattle.std.proofs.Common.{◌≡◌, inl, inr, ◌<◌, ◌+◌, ℕ, true, List, [], ◌∷◌, length, Option, Some, None, refl, sym, ap, ◌∙◌, subst, arith, length-drop, drop-drop, eqb-true}
+use Rattle.std.proofs.Common.{◌≡◌, inl, inr, ◌<◌, ◌+◌, ℕ, true, List, [], ◌∷◌, length, Some, refl, sym, ap, ◌∙◌, subst, arith, length-drop, drop-drop, eqb-true}
 use Rattle.std.proofs.lemmas.List.{get_or-drop}
 use Rattle.cmark_grammar.specs.BracketDecisions.{following, decide, place as place_of_rest}
 use Rattle.cmark_grammar.specs.BracketReading.{Reads}
@@ -22,7 +22,7 @@ use Rattle.cmark_inline_model.proofs.DecisionLaws.{always-by, decide-apart}
 use Rattle.cmark_inline_model.proofs.DecisionShape.{IsPlace, Shape, Stays, ToInline, ToReference, ToFootnote, ToWiki}
 use Rattle.cmark_inline_model.proofs.FindRests.{IsAfter}
 use Rattle.cmark_inline_model.proofs.LinkNesting.{always-comes, reading-nests}
-use Rattle.cmark_inline_model.proofs.LinkRests.{TailAfter, link_tail-following}
+use Rattle.cmark_inline_model.proofs.LinkRests.{link_tail-following}
 use Rattle.cmark_inline_model.proofs.PlacedTokens.{from-place}
 use Rattle.cmark_inline_model.proofs.SourceEdges as edges
 use Rattle.cmark_inline_model.proofs.SourceEdges.{AreEdges}
@@ -85,11 +85,7 @@ module _ (reader : Reader) (leaf : Leaf) (at : IsPlaced reader leaf) (utf8 : IsU
   place-at closer p a (inr r) = subst At (sym r.2) (rest-at closer.end a r.0 r.3)
 
   tail-following : (bs : List ℕ) (tail : LinkTail) → link_tail_in bs ≡ Some tail → IsAfter bs tail.following
-  tail-following bs tail e = go (link_tail_in bs) (link_tail-following bs) e
-    where
-      go : (o : Option LinkTail) → TailAfter bs o → o ≡ Some tail → IsAfter bs tail.following
-      go None h e = cc
-      go (Some other) h e = subst (λ (o : Option LinkTail). TailAfter bs o) e h
+  tail-following bs tail e = grind (arith, link_tail-following)
 
   -- the second of two closing brackets
   second-at : (p : ℕ) → At p → first_is (λ b. b == 93) (following reader leaf p) ≡ true → At (suc p)
@@ -153,9 +149,7 @@ module _ (reader : Reader) (leaf : Leaf) (at : IsPlaced reader leaf) (utf8 : IsU
           subst Edge (e ∙ ap suc touched.start) b.ends
 
       name : (taken : Opener) (before : List Opener) → drop first.nearer s.openers ≡ taken ∷ before → Edge (suc taken.bracket.end)
-      name taken before f =
-          let same = same-taken first.nearer s.openers taken t.is_taken.opener before t.is_taken.before f t.is_taken.there in
-          subst (λ (b : Bracket). Edge (suc b.end)) (sym (ap (λ (o : Opener). o.bracket) same ∙ t.is_taken.bracket)) second
+      name taken before f = grind (arith, same-taken, second)
 
   closed : (s : State) (closer : Bracket) → At closer.end → AreGood s.openers → Always (Closed s.openers) (decide reader leaf s closer)
   closed s closer a g = always-by reader leaf s closer (Closed s.openers) (shape-closed s closer a g)

@@ -1,14 +1,14 @@
 -- Readings preserve the facts that decisions preserve: about the constructs formed, their cost, their ranges, and the number of questions.
 use Rattle.std.specs.Prelude.{◌-◌, sum}
-use Rattle.std.proofs.Common.{◌≡◌, ℕ, suc, ◌+◌, ◌<◌, ◌≤◌, List, [], ◌∷◌, ◌++◌, length, sym, ap, subst, arith, ◌∙◌}
+use Rattle.std.proofs.Common.{◌≡◌, ℕ, suc, ◌+◌, ◌<◌, ◌≤◌, List, [], ◌∷◌, ◌++◌, length, sym, ap, subst, arith, rules}
 use Rattle.std.proofs.lemmas.List.{length-append}
 use Rattle.std.proofs.lemmas.List.Sums.{sum_by-cons}
 use Rattle.cmark_grammar.specs.BracketReading.{Comes, Reads}
-use Rattle.cmark_grammar.specs.BracketStates.{State, moved, opened, StaysText, Forms, Outcome, Decision, Settled, Asks}
+use Rattle.cmark_grammar.specs.BracketStates.{State, moved, opened, StaysText, Forms, Outcome, Decision}
 use Rattle.cmark_grammar.specs.Items.{Bracket, Token}
 use Rattle.cmark_grammar.specs.Parts.{Formed, Parts, Nil, Single, Form, Closing, Opening, openings}
 use Rattle.cmark_grammar.specs.Questions.{Exchange, Saying}
-use Rattle.cmark_inline_model.specs.ReferenceExpansion.{cost, costs, Spends, Pays, KeepsLimit}
+use Rattle.cmark_inline_model.specs.ReferenceExpansion.{costs, Spends, KeepsLimit}
 use Rattle.cmark_inline_model.specs.FormedParts.{AllFormed, ResultHolds, FormsOnly, closings}
 use Rattle.cmark_inline_model.specs.PartRanges.{end_of, StandBetween, Reaches, KeepsRanges}
 use Rattle.cmark_inline_model.specs.Progress.{Keeps, IsRecorded}
@@ -46,17 +46,8 @@ module _ (token : ℕ → Token) (decide : State → (closer : Bracket) → Deci
   pub reading-spends : KeepsLimit decide → (s : State) (parts : Parts) (t : State) → Reads token decide Says s parts t → Spends s.expansion_left (costs parts) t.expansion_left
   reading-spends keeps s Nil t h = ap (λ (x : State). x.expansion_left) h
   reading-spends keeps s (Single item after) t h = reading-spends keeps (moved h.0 s) after t h.2
-  reading-spends keeps s (Form opener inside closer formed after) t h =
-      let o : Outcome = record { result = Forms (openings inside) formed; after = h.next } in
-      spends-then (costs inside) (cost formed ++ costs after) s.expansion_left h.until.expansion_left t.expansion_left
-      (reading-spends keeps (opened opener s) inside h.until h.inside)
-      (spends-then (cost formed) (costs after) h.until.expansion_left h.next.expansion_left t.expansion_left
-      (always-comes (Pays h.until.expansion_left) Says h.until.asked (decide h.until closer) o (keeps.pays h.until closer) h.comes)
-      (reading-spends keeps h.next after t h.after))
-  reading-spends keeps s (Closing closer after) t h =
-      let o : Outcome = record { result = StaysText; after = h.next } in
-      let e : h.next.expansion_left ≡ s.expansion_left = always-comes (Pays s.expansion_left) Says s.asked (decide s closer) o (keeps.pays s closer) h.comes in
-      subst (λ n. Spends n (costs after) t.expansion_left) e (reading-spends keeps h.next after t h.after)
+  reading-spends keeps s (Form opener inside closer formed after) t h = search (rules, spends-then, always-comes, reading-spends keeps (opened opener s) inside h.until h.inside, reading-spends keeps h.next after t h.after)
+  reading-spends keeps s (Closing closer after) t h = grind (arith, always-comes, reading-spends keeps h.next after t h.after)
   reading-spends keeps s (Opening opener after) t h = reading-spends keeps (opened opener s) after t h.1
 
   -- ## Ranges
@@ -99,25 +90,13 @@ module _ (token : ℕ → Token) (decide : State → (closer : Bracket) → Deci
   -- ## Questions
 
   one_question : (s : State) (d : Decision) (o : Outcome) → Keeps s.asked d → Comes Says s.asked d o → length o.after.asked ≤ suc (length s.asked)
-  one_question s (Settled outcome) o k h = let e : length o.after.asked ≡ length s.asked = ap (λ (x : Outcome). length x.after.asked) h ∙ ap length k in omega arith
-  one_question s (Asks question answered) o k h =
-      let x : Exchange = record { question = question; answer = h.0 } in
-      let e : length o.after.asked ≡ length (s.asked ++ (x ∷ [])) = ap (λ (y : Outcome). length y.after.asked) h.2 ∙ ap length (k h.0) in
-      let l = length-append s.asked (x ∷ []) in
-      omega arith
+  one_question s d o k h = grind (arith, length-append)
 
   pub questions-few : IsRecorded decide → (s : State) (parts : Parts) (t : State) → Reads token decide Says s parts t → length t.asked ≤ closings parts + length s.asked
   questions-few recorded s Nil t h = let e : length t.asked ≡ length s.asked = ap (λ (x : State). length x.asked) h in omega arith
   questions-few recorded s (Single item after) t h = questions-few recorded (moved h.0 s) after t h.2
-  questions-few recorded s (Form opener inside closer formed after) t h =
-      let a = questions-few recorded (opened opener s) inside h.until h.inside in
-      let b = one_question h.until (decide h.until closer) (record { result = Forms (openings inside) formed; after = h.next }) (recorded.keeps h.until closer) h.comes in
-      let c = questions-few recorded h.next after t h.after in
-      omega arith
-  questions-few recorded s (Closing closer after) t h =
-      let b = one_question s (decide s closer) (record { result = StaysText; after = h.next }) (recorded.keeps s closer) h.comes in
-      let c = questions-few recorded h.next after t h.after in
-      omega arith
+  questions-few recorded s (Form opener inside closer formed after) t h = search (rules, one_question, questions-few recorded (opened opener s) inside h.until h.inside, questions-few recorded h.next after t h.after)
+  questions-few recorded s (Closing closer after) t h = grind (arith, one_question, questions-few recorded h.next after t h.after)
   questions-few recorded s (Opening opener after) t h = questions-few recorded (opened opener s) after t h.1
 
 -- all costs but the last are less than what there was

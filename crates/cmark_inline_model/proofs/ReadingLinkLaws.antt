@@ -14,7 +14,7 @@ use Rattle.cmark_grammar.specs.SpanDocuments.{Segment, Given, Content, segments,
 use Rattle.cmark_inline_model.specs.ReferenceExpansion.{costs}
 use Rattle.cmark_inline_model.specs.LinkRules.{IsFormedRightly}
 use Rattle.cmark_inline_model.specs.OptionRules.{IsGiven, AreGiven}
-use Rattle.cmark_inline_model.specs.ReadingLinks.{LinkEvent, ApartBy, LinksApart, LedBy, AreLed, costs_by, reference_costs}
+use Rattle.cmark_inline_model.specs.ReadingLinks.{LinkEvent, ApartBy, LinksApart, LedBy, AreLed, reference_costs}
 use Rattle.cmark_inline_model.proofs.CostLists.{total, Within, within-less, within-both, within-front, within-last, spends-within}
 use Rattle.cmark_inline_model.proofs.DecisionLaws.{decide-recorded, decide-apart, decide-pays}
 use Rattle.cmark_inline_model.proofs.DecisionRules.{rightly-more, forms-rightly}
@@ -87,9 +87,7 @@ module _ (reader : Reader) (Says : Saying) where
   pub all-within : (limit spent : ℕ) (others : List Segment) (before after : Between) (events : List Ranged) → before.expansion_left ≡ limit - spent → AreNeither others
       → ReadsAll reader Says others before events after → Within limit spent (reference_costs [] events)
   all-within limit spent [] before after events e n h = subst (λ es. Within limit spent (reference_costs [] es)) (sym h.0) tt
-  all-within limit spent (Given r ∷ others) before after events e n h =
-      subst (λ es. Within limit spent (reference_costs [] es)) (sym h.2)
-      (subst (λ (l : LinkEvent). Within limit spent (costs_by l [] (λ more. reference_costs more h.0))) (sym n.0) (all-within limit spent others before after h.0 e n.1 h.1))
+  all-within limit spent (Given r ∷ others) before after events e n h = grind (arith, all-within limit spent others before after h.0 e n.1 h.1)
   all-within limit spent (Content leaf ∷ others) before after events e n h =
       let parts = h.3.parts in
       let spans = spans_in reader.options parts in

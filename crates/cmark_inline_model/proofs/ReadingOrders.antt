@@ -3,7 +3,7 @@
 use Rattle.std.specs.Prelude.{zero, suc, ◌-◌, get_or}
 use Rattle.std.proofs.Common.{◌≡◌, ⊎_elim, inl, inr, ℕ, ◌<◌, ◌≤◌, true≢false, List, [], ◌∷◌, ◌++◌, length, refl, sym, ap, subst, arith, ◌∙◌, append_assoc, append-nil, zero, suc}
 use Rattle.std.proofs.lemmas.Bool.{eq-eqb}
-use Rattle.cmark_grammar.specs.BlockDocument.{BlockKind, Paragraph, TightParagraph, Heading, ThematicBreak, IndentedCode, FencedCode, HtmlBlock, LinkDefinition, MetadataBlock, BlockQuote, BlockList, ListItem, TaskMarker, FootnoteDefinition, DefinitionList, DefinitionListTitle, DefinitionListDefinition, Text, OwnedText, Html, BlockNode, BlockDocument, Nil, Node, Table, TableHead, TableRow, TableCell}
+use Rattle.cmark_grammar.specs.BlockDocument.{BlockKind, Paragraph, TightParagraph, Heading, ThematicBreak, IndentedCode, FencedCode, HtmlBlock, LinkDefinition, MetadataBlock, BlockQuote, FootnoteDefinition, DefinitionList, DefinitionListTitle, BlockNode, BlockDocument, Nil, Node, Table, TableHead, TableRow, TableCell}
 use Rattle.cmark_grammar.specs.BlockReading.{Reads as ReadsAs, Around, Inside, Alone, First, Silent, first_event, read_as, over, starts_before}
 use Rattle.cmark_grammar.specs.BracketDecisions.{decide}
 use Rattle.cmark_grammar.specs.BracketReading.{Reads}
@@ -93,9 +93,7 @@ module _ (options : Options) (text : List ℕ) where
   task_before from m events to single a b k = Single from to m events single a b k
 
   begins-up : (tag : Tag) (inside : List Ranged) (written start : ℕ) → BeginsAt options text tag inside written start → written ≤ start
-  begins-up tag inside written start (inl e) = omega (arith, e)
-  begins-up tag inside written start (inr (inl h)) = let q : written < start = h.1 in omega (arith, q)
-  begins-up tag inside written start (inr (inr h)) = h.0
+  begins-up tag inside written start h = grind arith
 
   task_inside : (from : ℕ) (m x : Ranged) (rest : List Ranged) (to : ℕ) → IsTask m.event → IsSingle m.event → (tag : Tag) → x.event ≡ Start tag → from ≤ m.start → m.start ≤ m.end → Places options text m.end (x ∷ rest) to → Places options text from (x ∷ (m ∷ rest)) to
   task_inside from m _ _ _ task single t s a b (Single before to x after other c d k) = absurd (subst IsSingle s other)
@@ -182,13 +180,7 @@ module _ (reader : Reader) (Says : Saying) where
   inside_placed (FootnoteDefinition label) content from to o k = k
   inside_placed (DefinitionList tight) content from to o k = k
   inside_placed DefinitionListTitle content from to o k = content_placed DefinitionListTitle content from to o
-  inside_placed DefinitionListDefinition content from to o k = k
-  inside_placed (BlockList number tight) content from to o k = k
-  inside_placed ListItem content from to o k = k
-  inside_placed (TaskMarker is_checked) content from to o k = k
-  inside_placed (Text bytes) content from to o k = k
-  inside_placed (OwnedText bytes) content from to o k = k
-  inside_placed (Html bytes) content from to o k = k
+  inside_placed _ content from to o k = k
 
   node_placed : (reads : ReadsAs) (node : BlockNode) (inside : List Segment) (from : ℕ) → IsFit reads → from ≤ node.start → node.start ≤ node.end → Placed node.start node.end inside
       → Placed from node.end (node_segments reads node inside)
@@ -239,30 +231,7 @@ module _ (reader : Reader) (Says : Saying) where
   IsTaskFirst _ = Unit {0}
 
   task_first : (kind : BlockKind) → IsTaskFirst (read_as kind)
-  task_first Paragraph = tt
-  task_first TightParagraph = tt
-  task_first (Heading level attributes) = tt
-  task_first ThematicBreak = tt
-  task_first IndentedCode = tt
-  task_first (FencedCode info) = tt
-  task_first HtmlBlock = tt
-  task_first (MetadataBlock kind) = tt
-  task_first (Table alignments) = tt
-  task_first TableHead = tt
-  task_first TableRow = tt
-  task_first TableCell = tt
-  task_first (LinkDefinition reference) = tt
-  task_first (BlockQuote alert) = tt
-  task_first (FootnoteDefinition label) = tt
-  task_first (DefinitionList tight) = tt
-  task_first DefinitionListTitle = tt
-  task_first DefinitionListDefinition = tt
-  task_first (BlockList number tight) = tt
-  task_first ListItem = tt
-  task_first (TaskMarker is_checked) = tt
-  task_first (Text bytes) = tt
-  task_first (OwnedText bytes) = tt
-  task_first (Html bytes) = tt
+  task_first kind = grind arith
 
   with_placed : (reads : ReadsAs) (node : BlockNode) (from to : ℕ) → IsFit reads → IsTaskFirst reads → from ≤ node.start → node.start ≤ node.end → node.end ≤ to → (inside : List Segment) (following : BlockDocument)
       → Placed from node.end (node_segments reads node inside) → Placed node.end to (segments following) → Placed from to (with_first_segment (first_event reads) (starts_before following) node (node_segments reads node inside ++ segments following))
@@ -296,11 +265,7 @@ no_byte byte (b ∷ bs) (suc n) h some e = no_byte byte bs n h.1 some e
 
 module _ (options : Options) (text : List ℕ) (none : HasNoDisplays options text) where
   no_pipe : (at : ℕ) → IsAfterPipe options text at → ⊥
-  no_pipe at h = go none
-    where
-      go : HasNoDisplays options text → ⊥
-      go (inl off) = true≢false (sym h.wikilinks ∙ off)
-      go (inr k) = no_byte 124 text (at - 1) k (omega arith) h.pipe
+  no_pipe at h = grind (arith, no_byte)
 
   no_task : (inside : List Ranged) → HasNoTasks inside → BeginsWithTask inside → ⊥
   no_task [] n h = h
@@ -308,9 +273,7 @@ module _ (options : Options) (text : List ℕ) (none : HasNoDisplays options tex
   no_task (r ∷ others) n (inr h) = no_task others n.1 h.1
 
   uncut_begin : (tag : Tag) (inside : List Ranged) (written start : ℕ) → HasNoTasks inside → BeginsAt options text tag inside written start → start ≡ written
-  uncut_begin tag inside written start n (inl e) = e
-  uncut_begin tag inside written start n (inr (inl h)) = absurd (no_pipe start h.2)
-  uncut_begin tag inside written start n (inr (inr h)) = absurd (no_task inside n h.1)
+  uncut_begin tag inside written start n h = grind (arith, no_pipe, no_task)
 
   tasks_split : (first second : List Ranged) → HasNoTasks (first ++ second) → HasNoTasks first × HasNoTasks second
   tasks_split [] second n = (tt, n)

@@ -1,7 +1,7 @@
 -- Each offset that a reading of a leaf reaches is the offset of a byte or the leaf's end. So the bytes of its delimiter runs contain no
 -- pipe, and the display of a wikilink comes directly after a pipe.
 use Rattle.std.specs.Prelude.{zero, suc, ◌-◌, ◌==◌, if◌then◌else◌, get_or, drop, take}
-use Rattle.std.proofs.Common.{◌≡◌, inl, inr, ℕ, ◌+◌, ◌<◌, ◌≤◌, Bool, true, false, List, [], ◌∷◌, length, Option, Some, None, refl, sym, ap, subst, arith, ◌∙◌, eqb-true}
+use Rattle.std.proofs.Common.{◌≡◌, inl, inr, ℕ, ◌+◌, ◌<◌, ◌≤◌, Bool, true, List, [], ◌∷◌, length, Option, Some, None, refl, sym, ap, subst, arith, ◌∙◌, eqb-true}
 use Rattle.std.proofs.lemmas.List.{length-take, get_or-drop}
 use Rattle.cmark_grammar.specs.BracketDecisions.{name_in, after_pipe, wiki_text, following, place, decide}
 use Rattle.cmark_grammar.specs.BracketReading.{Reads}
@@ -39,14 +39,7 @@ pipe-is at [] found e = cc
 pipe-is at (b ∷ bs) found e = go (b == 124) refl e (λ f. pipe-is (suc at) bs found f)
   where
     go : (x : Bool) → (b == 124) ≡ x → (if x then Some (suc at) else after_pipe (suc at) bs) ≡ Some found → (after_pipe (suc at) bs ≡ Some found → IsPipe (suc at) bs found) → IsPipe at (b ∷ bs) found
-    go true q f ih =
-        let s : suc at ≡ found = cc in
-        let z : found - suc at ≡ 0 = omega arith in
-        record { following = omega arith; within = omega arith; byte = ap (λ n. get_or (b ∷ bs) n 0) z ∙ eqb-true b 124 q }
-    go false q f ih =
-        let i = ih f in let x = i.following in let y = i.within in
-        let z : found - suc at ≡ suc (found - suc (suc at)) = omega arith in
-        record { following = omega arith; within = omega arith; byte = ap (λ n. get_or (b ∷ bs) n 0) z ∙ i.byte }
+    go x q f ih = grind (arith, eqb-true)
 
 take_get : (n i : ℕ) (l : List ℕ) → i < n → get_or (take n l) i 0 ≡ get_or l i 0
 take_get zero i l h = absurd (omega arith)

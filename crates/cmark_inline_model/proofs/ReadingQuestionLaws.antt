@@ -1,6 +1,6 @@
 -- The questions of each reading of a text: they are in order, about labels without a definition, and there are none if the reference
 -- expansion limit is 0.
-use Rattle.std.proofs.Common.{◌≡◌, inl, inr, ℕ, ◌≤◌, List, [], ◌∷◌, ◌++◌, length, refl, sym, ap, subst, arith, ◌∙◌, append-nil, append_assoc}
+use Rattle.std.proofs.Common.{◌≡◌, inl, inr, ℕ, ◌≤◌, List, [], ◌∷◌, ◌++◌, length, sym, ap, subst, arith, ◌∙◌, append-nil, append_assoc, rules}
 use Rattle.cmark_grammar.specs.BracketDecisions.{decide}
 use Rattle.cmark_grammar.specs.BracketStates.{State, Decision, Settled, Asks}
 use Rattle.cmark_grammar.specs.Event.{Ranged}
@@ -8,7 +8,7 @@ use Rattle.cmark_grammar.specs.InlineTokens.{token}
 use Rattle.cmark_grammar.specs.Items.{Bracket, Closes}
 use Rattle.cmark_grammar.specs.LeafReading.{Between, entering, ReadsLeaf}
 use Rattle.cmark_grammar.specs.LeafText.{Stretch, Leaf, InTurn, begin_of, end_of}
-use Rattle.cmark_grammar.specs.Questions.{Question, Exchange, Saying, IsNext}
+use Rattle.cmark_grammar.specs.Questions.{Question, Exchange, Saying}
 use Rattle.cmark_grammar.specs.Readers.{Reader}
 use Rattle.cmark_grammar.specs.SpanDocuments.{Segment, Given, Content, segments, ReadsAll, Profile, reader_of, at_start, IsReading}
 use Rattle.cmark_block_model.proofs.RangeLaws.{derived-order}
@@ -92,17 +92,8 @@ module _ (reader : Reader) where
 
     pub all-add : (others : List Segment) (from to : ℕ) (before after : Between) (events : List Ranged) → LeavesRise from others to → ReadsAll reader Says others before events after
         → Adds (IsCloser reader others) from to before after
-    all-add [] from to before after events h k = record {
-      more = [];
-      added = ap (λ (b : Between). b.asked) k.1 ∙ sym (append-nil before.asked);
-      turn = h;
-      right = tt;
-      less = (let e : after.expansion_left ≡ before.expansion_left = ap (λ (b : Between). b.expansion_left) k.1 in omega arith);
-      none = λ e. refl;
-    }
-    all-add (Given r ∷ others) from to before after events h k =
-        let i = all-add others from to before after k.0 h k.1 in
-        record { more = i.more; added = i.added; turn = i.turn; right = i.right; less = i.less; none = i.none }
+    all-add [] from to before after events h k = grind (arith, append-nil)
+    all-add (Given r ∷ others) from to before after events h k = grind (arith, all-add others from to before after k.0 h k.1)
     all-add (Content leaf ∷ others) from to before after events h k =
         let a = leaf_adds leaf from h.0 before k.2 k.0 h.1 k.3 in
         let i = all-add others h.0 to k.2 after k.1 h.2 k.4 in
@@ -125,9 +116,7 @@ module _ (text : List ℕ) (profile : Profile) (exchanges : List Exchange) (even
   reader = reader_of text profile h.document
 
   adds : Adds reader (IsCloser reader (segments h.document)) 0 (length text) (at_start profile) h.after
-  adds =
-      all-add reader (IsNext exchanges) (segments h.document) 0 (length text) (at_start profile) h.after events
-      (segments-rise 0 h.document (length text) (derived-order text profile.options profile.lookup h.document h.derives)) h.reads
+  adds = search (rules, all-add, segments-rise, derived-order)
 
   pub reading-turn : PutInTurn (IsCloser reader (segments h.document)) 0 exchanges (length text)
   reading-turn = subst (λ l. PutInTurn (IsCloser reader (segments h.document)) 0 l (length text)) (sym adds.added ∙ h.asked) adds.turn

@@ -4,7 +4,7 @@ use Rattle.std.proofs.Common.{◌≡◌, Bool, true, false, None, ℕ, zero, suc
 use Rattle.std.proofs.lemmas.List.{length-set}
 use Rattle.std.proofs.Math.Seq.{drop-append_seam, take-append_seam}
 use Rattle.cmark_grammar.specs.Emphasis.{Run, Delimiter, Pair, IsEmphasis}
-use Rattle.cmark_grammar.specs.Items.{ItemKind, Written, Quoted, Delimiters, FootnoteReference, Autolink, Own, Item, Bracket}
+use Rattle.cmark_grammar.specs.Items.{ItemKind, Written, Quoted, Delimiters, Autolink, Own, Item, Bracket}
 use Rattle.cmark_grammar.specs.Options.{Options}
 use Rattle.cmark_grammar.specs.Parts.{Parts, Nil as NoParts, Single as SinglePart, Form, Closing, Opening, Linking, Footnote, Wiki, openings}
 use Rattle.cmark_grammar.specs.Quotes.{Quote, quote_characters}
@@ -48,42 +48,10 @@ Grows x y = (at : ℕ) (s t : List Slot) (b c q r : List ℕ) → LaysOut at x s
 item-grows : (kind : ItemKind) (x : Item) (after y : Inline) → Grows after y → (at : ℕ) (s t : List Slot) (b c q r : List ℕ)
     → LaysItem kind x (λ i j k l. LaysOut i after j k l) at s b q → LaysOut (at + length s) y t c r
     → LaysItem kind x (λ i j k l. LaysOut i (append after y) j k l) at (s ++ t) (b ++ c) (q ++ r)
-item-grows (Delimiters run) x after y ih at s t b c q r h k =
-    let n = ap length h.2 ∙ length-run-slots x.start run.run_length h.0 in (
-      h.0 ++ t,
-      h.1 ++ c,
-      ap (λ l. l ++ t) h.2 ∙ run-slots-grow x.start run.run_length h.0 t,
-      ap (λ l. l ++ c) h.3 ∙ run-places-grow at run.run_length h.1 c,
-      ih (at + run.run_length) h.0 t h.1 c q r h.4 (subst (λ i. LaysOut i y t c r) (let e : at + length s ≡ (at + run.run_length) + length h.0 = omega arith in e) k),
-    )
-item-grows (Quoted quote) x after y ih at s t b c q r h k =
-    let n = ap length h.2 in (
-      h.0 ++ t,
-      h.1 ++ r,
-      ap (λ l. l ++ t) h.2,
-      ap (λ l. l ++ r) h.3,
-      ih (suc at) h.0 t b c h.1 r h.4 (subst (λ i. LaysOut i y t c r) (let e : at + length s ≡ suc at + length h.0 = omega arith in e) k),
-    )
-item-grows (FootnoteReference label) x after y ih at s t b c q r h k =
-    let n = ap length h.3 in
-    let m = length-append h.0 h.1 in (
-      h.0,
-      h.1 ++ t,
-      h.2,
-      ap (λ l. l ++ t) h.3 ∙ ap (λ l. ItemSlot x ∷ l) (append_assoc h.0 h.1 t),
-      ih (at + (length h.0 + 1)) h.1 t b c q r h.4 (subst (λ i. LaysOut i y t c r) (let e : at + length s ≡ (at + (length h.0 + 1)) + length h.1 = omega arith in e) k),
-    )
-item-grows kind x after y ih at s t b c q r h k =
-    let n = ap length h.1 in (
-      h.0 ++ t,
-      ap (λ l. l ++ t) h.1,
-      ih (suc at) h.0 t b c q r h.2 (subst (λ i. LaysOut i y t c r) (let e : at + length s ≡ suc at + length h.0 = omega arith in e) k),
-    )
+item-grows kind x after y ih at s t b c q r h k = grind (arith, length-run-slots, run-slots-grow, run-places-grow, length-append, append_assoc)
 
 pub rows-grow : (x y : Inline) → Grows x y
-rows-grow Nil y at s t b c q r h k =
-    subst (λ l. LaysOut at y (l ++ t) (b ++ c) (q ++ r)) (sym h.0)
-    (subst (λ l. LaysOut at y t (l ++ c) (q ++ r)) (sym h.1) (subst (λ l. LaysOut at y t c (l ++ r)) (sym h.2) (subst (λ i. LaysOut i y t c r) (let n = ap length h.0 in let e : at + length s ≡ at = omega arith in e) k)))
+rows-grow Nil y at s t b c q r h k = grind arith
 rows-grow (Single x after) y at s t b c q r h k = item-grows x.kind x after y (rows-grow after y) at s t b c q r h k
 rows-grow (Around tag start end inside after) y at s t b c q r h k =
     let n = ap length h.3 in
@@ -145,10 +113,7 @@ Counts x = (at : ℕ) (s : List Slot) (b q : List ℕ) → LaysOut at x s b q �
 
 item-counts : (kind : ItemKind) (x : Item) (after : Inline) → Counts after → (at : ℕ) (s : List Slot) (b q : List ℕ) → LaysItem kind x (λ i j k l. LaysOut i after j k l) at s b q
     → (length b ≡ bytes_in (run_before kind (runs_in after))) × (length q ≡ length (quote_then kind (quotes_of after)))
-item-counts (Delimiters run) x after ih at s b q h = let i = ih (at + run.run_length) h.0 h.1 q h.4 in let n = ap length h.3 ∙ length-run-places at run.run_length h.1 in let j = i.0 in (omega arith, i.1)
-item-counts (Quoted quote) x after ih at s b q h = let i = ih (suc at) h.0 b h.1 h.4 in (i.0, ap length h.3 ∙ ap suc i.1)
-item-counts (FootnoteReference label) x after ih at s b q h = ih (at + (length h.0 + 1)) h.1 b q h.4
-item-counts kind x after ih at s b q h = ih (suc at) h.0 b q h.2
+item-counts kind x after ih at s b q h = grind (arith, length-run-places)
 
 pub lays-count : (x : Inline) → Counts x
 lays-count Nil at s b q h = (ap length h.1, ap length h.2)
@@ -196,64 +161,14 @@ module _ (options : Options) where
   -- more parts at the end, without opening brackets
   row-grows : (bs : List BracketPlace) (parts piece : Parts) (slots more : List Slot) (bytes more_bytes quotes more_quotes : List ℕ) → LaysParts options bs parts slots bytes quotes → openings piece ≡ 0
       → LaysOut (length slots) (siblings_of options piece) more more_bytes more_quotes → LaysParts options bs (join parts piece) (slots ++ more) (bytes ++ more_bytes) (quotes ++ more_quotes)
-  row-grows [] parts piece slots more bytes more_bytes quotes more_quotes h none k =
-      let o = openings-join parts piece in
-      let z = h.0 in
-      (omega arith, parts-grow parts piece 0 slots more bytes more_bytes quotes more_quotes h.1 (subst (λ i. LaysOut i (siblings_of options piece) more more_bytes more_quotes) (let e : length slots ≡ 0 + length slots = omega arith in e) k))
-  row-grows (b ∷ bs) parts piece slots more bytes more_bytes quotes more_quotes h none k =
-      let o = openings-join h.inside piece in
-      let z = h.none in
-      let n = ap length h.slots_are ∙ length-append h.front (text_slot h.opener ∷ h.following) in
-      record {
-        before = h.before;
-        opener = h.opener;
-        opener_is = h.opener_is;
-        inside = join h.inside piece;
-        parts_are = ap (λ p. join p piece) h.parts_are ∙ join_assoc h.before (Opening h.opener h.inside) piece;
-        none = omega arith;
-        front = h.front;
-        following = h.following ++ more;
-        slots_are = ap (λ l. l ++ more) h.slots_are ∙ append_assoc h.front (text_slot h.opener ∷ h.following) more;
-        slot_is = h.slot_is;
-        runs_is = h.runs_is;
-        quotes_is = h.quotes_is;
-        front_bytes = h.front_bytes;
-        after_bytes = h.after_bytes ++ more_bytes;
-        bytes_are = ap (λ l. l ++ more_bytes) h.bytes_are ∙ append_assoc h.front_bytes h.after_bytes more_bytes;
-        front_quotes = h.front_quotes;
-        after_quotes = h.after_quotes ++ more_quotes;
-        quotes_are = ap (λ l. l ++ more_quotes) h.quotes_are ∙ append_assoc h.front_quotes h.after_quotes more_quotes;
-        laid_before = h.laid_before;
-        laid_after = parts-grow h.inside piece (suc (length h.front)) h.following more h.after_bytes more_bytes h.after_quotes more_quotes h.laid_after
-            (subst (λ i. LaysOut i (siblings_of options piece) more more_bytes more_quotes) (let e : length slots ≡ suc (length h.front) + length h.following = omega arith in e) k);
-      }
+  row-grows [] parts piece slots more bytes more_bytes quotes more_quotes h none k = grind (arith, openings-join, parts-grow)
+  row-grows (b ∷ bs) parts piece slots more bytes more_bytes quotes more_quotes h none k = grind (arith, openings-join, length-append, join_assoc, append_assoc, parts-grow)
 
   -- an opening bracket at the end
   row-opens : (bs : List BracketPlace) (parts : Parts) (opener : Bracket) (slots : List Slot) (bytes quotes : List ℕ) → LaysParts options bs parts slots bytes quotes
       → LaysParts options (record { bracket = opener; slot = length slots; runs = length (runs_in (siblings_of options parts)); quotes = length (quotes_of (siblings_of options parts)) } ∷ bs) (join parts (Opening opener NoParts))
       (slots ++ (text_slot opener ∷ [])) bytes quotes
-  row-opens bs parts opener slots bytes quotes h = record {
-    before = parts;
-    opener = opener;
-    opener_is = refl;
-    inside = NoParts;
-    parts_are = refl;
-    none = refl;
-    front = slots;
-    following = [];
-    slots_are = refl;
-    slot_is = refl;
-    runs_is = refl;
-    quotes_is = refl;
-    front_bytes = bytes;
-    after_bytes = [];
-    bytes_are = sym (append-nil bytes);
-    front_quotes = quotes;
-    after_quotes = [];
-    quotes_are = sym (append-nil quotes);
-    laid_before = h;
-    laid_after = (refl, refl, refl);
-  }
+  row-opens bs parts opener slots bytes quotes h = grind (arith, append-nil)
 
   -- cut at an opening bracket
   record Cutting (nearer : ℕ) (bs : List BracketPlace) (parts : Parts) (slots : List Slot) (bytes quotes : List ℕ) : Type 0 where
@@ -346,21 +261,11 @@ module _ (options : Options) where
   pub grown-row : (bs : List BracketPlace) (parts piece : Parts) (slots more : List Slot) (bytes more_bytes quotes more_quotes : List ℕ) (runs : List Run) (quoted : List Quote) → IsRow options bs parts slots bytes quotes runs quoted
       → openings piece ≡ 0 → LaysOut (length slots) (siblings_of options piece) more more_bytes more_quotes
       → IsRow options bs (join parts piece) (slots ++ more) (bytes ++ more_bytes) (quotes ++ more_quotes) (runs ++ runs_in (siblings_of options piece)) (quoted ++ quotes_of (siblings_of options piece))
-  grown-row bs parts piece slots more bytes more_bytes quotes more_quotes runs quoted h none k = record {
-    laid = row-grows bs parts piece slots more bytes more_bytes quotes more_quotes h.laid none k;
-    runs_are = runs-join parts piece ∙ ap (λ l. l ++ runs_in (siblings_of options piece)) h.runs_are;
-    quoted_are = quotes-join parts piece ∙ ap (λ l. l ++ quotes_of (siblings_of options piece)) h.quoted_are;
-  }
+  grown-row bs parts piece slots more bytes more_bytes quotes more_quotes runs quoted h none k = grind (arith, row-grows, runs-join, quotes-join)
 
   pub opened-row : (bs : List BracketPlace) (parts : Parts) (opener : Bracket) (slots : List Slot) (bytes quotes : List ℕ) (runs : List Run) (quoted : List Quote) → IsRow options bs parts slots bytes quotes runs quoted
       → IsRow options (record { bracket = opener; slot = length slots; runs = length runs; quotes = length quoted } ∷ bs) (join parts (Opening opener NoParts)) (slots ++ (text_slot opener ∷ [])) bytes quotes runs quoted
-  opened-row bs parts opener slots bytes quotes runs quoted h = record {
-    laid = subst (λ l. LaysParts options (record { bracket = opener; slot = length slots; runs = length l; quotes = length quoted } ∷ bs) (join parts (Opening opener NoParts)) (slots ++ (text_slot opener ∷ [])) bytes quotes) h.runs_are
-        (subst (λ l. LaysParts options (record { bracket = opener; slot = length slots; runs = length (runs_in (siblings_of options parts)); quotes = length l } ∷ bs) (join parts (Opening opener NoParts)) (slots ++ (text_slot opener ∷ [])) bytes quotes) h.quoted_are
-        (row-opens bs parts opener slots bytes quotes h.laid));
-    runs_are = runs-join parts (Opening opener NoParts) ∙ append-nil (runs_in (siblings_of options parts)) ∙ h.runs_are;
-    quoted_are = quotes-join parts (Opening opener NoParts) ∙ append-nil (quotes_of (siblings_of options parts)) ∙ h.quoted_are;
-  }
+  opened-row bs parts opener slots bytes quotes runs quoted h = grind (arith, row-opens, runs-join, append-nil, quotes-join)
 
   pub cut-row : (nearer : ℕ) (bs : List BracketPlace) (parts : Parts) (slots : List Slot) (bytes quotes : List ℕ) (runs : List Run) (quoted : List Quote) → nearer < length bs → IsRow options bs parts slots bytes quotes runs quoted
       → CutsRow options nearer bs parts slots bytes quotes runs quoted

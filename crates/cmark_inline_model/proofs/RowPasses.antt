@@ -1,6 +1,6 @@
 -- Each step of a pass over a leaf preserves the slots of the parts that it has read, and at the end the leaf's events are read from them.
 use Rattle.std.specs.Prelude.{drop, take, Some}
-use Rattle.std.proofs.Common.{◌≡◌, true, ℕ, zero, suc, ◌-◌, ◌<◌, true≢false, List, [], ◌∷◌, ◌++◌, length, refl, sym, ap, ◌∙◌, subst, arith, append_assoc, append-nil, length-append}
+use Rattle.std.proofs.Common.{◌≡◌, true, ℕ, zero, suc, ◌-◌, ◌<◌, true≢false, List, [], ◌∷◌, ◌++◌, length, refl, sym, ap, ◌∙◌, subst, arith, append_assoc, append-nil, length-append, rules}
 use Rattle.std.proofs.Math.Seq.{drop-append_seam, take-append_seam}
 use Rattle.cmark_grammar.specs.BracketDecisions.{decide}
 use Rattle.cmark_grammar.specs.BracketReading.{Comes, Reads}
@@ -9,7 +9,7 @@ use Rattle.cmark_grammar.specs.Emphasis.{Run, Pair, IsEmphasis}
 use Rattle.cmark_grammar.specs.Event.{Ranged}
 use Rattle.cmark_grammar.specs.InlineReading.{inline_events}
 use Rattle.cmark_grammar.specs.InlineTokens.{token}
-use Rattle.cmark_grammar.specs.Items.{ItemKind, Own, Quoted, Delimiters, Autolink, FootnoteReference, Item, Bracket, Stands, Opens, Closes, Ends}
+use Rattle.cmark_grammar.specs.Items.{ItemKind, Own, Quoted, Delimiters, Autolink, Item, Bracket, Stands, Opens, Closes, Ends}
 use Rattle.cmark_grammar.specs.LeafReading.{Between, entering, leaving, ReadsLeaf}
 use Rattle.cmark_grammar.specs.LeafText.{Leaf}
 use Rattle.cmark_grammar.specs.Parts.{Parts, Nil, Single, Form, Closing, Opening, Formed, Linking, Target, openings}
@@ -84,17 +84,11 @@ module _ (reader : Reader) (leaf : Leaf) (before : Between) where
     pub reached-item : (x : Item) (resume : ℕ) (more : List Slot) (more_bytes more_quotes : List ℕ) → token reader leaf p.state.at ≡ Stands x resume → StandsFor reader (length slots) (Single x Nil) more more_bytes more_quotes
         → IsReached reader leaf before (pass (moved resume p.state) (join p.here (Single x Nil))) bs (slots ++ more) (bytes ++ more_bytes) (quotes ++ more_quotes) (runs ++ runs_in (siblings_of reader.options (Single x Nil)))
         (quoted_are ++ quotes_of (siblings_of reader.options (Single x Nil)))
-    reached-item x resume more more_bytes more_quotes t s =
-        reached-more (moved resume p.state) (Single x Nil) more more_bytes more_quotes refl
-        (joined (token reader leaf) (decide reader leaf) AnyAnswer (entering leaf before) p.here p.state (Single x Nil) (moved resume p.state) h.reads (resume, t, refl)) s
+    reached-item x resume more more_bytes more_quotes t s = search (rules, reached-more, joined)
 
     -- an item with one slot
     own_laid : (kind : ItemKind) (start end at : ℕ) → has_own_slot kind ≡ true → LaysOut at (siblings_of reader.options (Single (item kind start end) Nil)) (ItemSlot (item kind start end) ∷ []) [] []
-    own_laid (Quoted quote) start end at e = absurd (true≢false (sym e))
-    own_laid (Delimiters run) start end at e = absurd (true≢false (sym e))
-    own_laid (Autolink uri) start end at e = absurd (true≢false (sym e))
-    own_laid (FootnoteReference label) start end at e = absurd (true≢false (sym e))
-    own_laid kind start end at e = ([], refl, (refl, refl, refl))
+    own_laid kind start end at e = grind arith
 
     no_run : (kind : ItemKind) (start end : ℕ) → has_own_slot kind ≡ true → runs_in (siblings_of reader.options (Single (item kind start end) Nil)) ≡ []
     no_run (Delimiters run) start end e = absurd (true≢false (sym e))
@@ -191,10 +185,7 @@ module _ (reader : Reader) (leaf : Leaf) (before : Between) where
       c = cut-row reader.options nearer bs p.here h.row bytes quotes runs quoted_are inside h.is_row
 
       pub place_is : c.place ≡ place
-      place_is = first c.place place (drop (suc nearer) bs) (drop (suc nearer) bs) (sym c.place_is ∙ there)
-        where
-          first : (a b : BracketPlace) (l m : List BracketPlace) → a ∷ l ≡ b ∷ m → a ≡ b
-          first a b l m e = cc
+      place_is = grind arith
 
       abbrev pub count : ℕ
       count = bytes_in (take place.runs runs)
@@ -277,13 +268,8 @@ module _ (reader : Reader) (leaf : Leaf) (before : Between) where
           let text : List Slot = text_slot c.cut.opener ∷ [] in
           let s = dressed-following reader.options nearer bs p.here h.row bytes quotes runs quoted_are c pairs spans (subst (λ (b : BracketPlace). IsEmphasis (counted 0 (drop b.runs runs)) pairs spans) (sym place_is) e) in
           let made : List Slot → List ℕ → List ℕ → BracketPlace → List Slot = λ l bs qs b. marked reader.options bs (marks_by (length bs) pairs) (quoted qs (quote_characters [] (drop b.quotes quoted_are)) l) [] in
-          let same : made h.row (drop count bytes) (drop place.quotes quotes) place ≡ (c.front ++ text) ++ s.own =
-          ap (λ (b : BracketPlace). made h.row (drop count bytes) (drop place.quotes quotes) b) (sym place_is)
-          ∙ ap (λ l. made h.row l (drop place.quotes quotes) c.place) (sym after_bytes) ∙ ap (λ l. made h.row c.after_bytes l c.place) (sym after_quotes) ∙ s.cut in
-          let like : AreLike reader.source (dressed_slots pairs) (made h.row (drop count bytes) (drop place.quotes quotes) place) =
-          like-marked reader.source reader.options (drop count bytes) (marks_by (length (drop count bytes)) pairs) (quoted (drop place.quotes quotes) (quote_characters [] (drop place.quotes quoted_are)) slots)
-          (quoted (drop place.quotes quotes) (quote_characters [] (drop place.quotes quoted_are)) h.row) []
-          (like-quoted reader.source (drop place.quotes quotes) (quote_characters [] (drop place.quotes quoted_are)) slots h.row h.like) in
+          let same : made h.row (drop count bytes) (drop place.quotes quotes) place ≡ (c.front ++ text) ++ s.own = search (rules, place_is, after_bytes, after_quotes) in
+          let like : AreLike reader.source (dressed_slots pairs) (made h.row (drop count bytes) (drop place.quotes quotes) place) = search (rules, like-marked, like-quoted) in
           let cut : AreLike reader.source (dressed_slots pairs) ((c.front ++ text) ++ s.own) = subst (AreLike reader.source (dressed_slots pairs)) same like in
           let l = length-append c.front text in
           record {

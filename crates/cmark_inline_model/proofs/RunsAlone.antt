@@ -1,9 +1,9 @@
 -- Siblings that are no delimiter runs do not change which runs pair: without them, and with the places counted anew, the spans of the
 -- siblings are the spans of the runs alone.
-use Rattle.std.proofs.Common.{◌≡◌, ◌⊎◌, inl, inr, ℕ, zero, suc, ◌+◌, ◌-◌, ◌<◌, ◌≤◌, Bool, true, false, nat_lt, if◌then◌else◌, List, [], ◌∷◌, Option, Some, None, refl, sym, ap, ◌∙◌, subst, arith, map}
+use Rattle.std.proofs.Common.{◌≡◌, ◌⊎◌, inl, inr, ℕ, zero, suc, ◌+◌, ◌-◌, ◌<◌, ◌≤◌, Bool, nat_lt, if◌then◌else◌, List, [], ◌∷◌, Option, Some, None, refl, sym, ap, ◌∙◌, subst, arith, map, rules}
 use Rattle.std.proofs.lemmas.Bool.{lt-ltb, le-ltb}
 use Rattle.cmark_grammar.specs.Emphasis.{Run, Pair, Sibling, Plain, Delimiter, Piece, Whole, Standing}
-use Rattle.cmark_grammar.specs.Emphasis.{agrees, paired_count, pair_of, rest_of_opener, rest_of_closer, kinds_of, nest, wrapped, row, keep, is_tilde_or_caret, deactivates, deactivated, left_open, stand}
+use Rattle.cmark_grammar.specs.Emphasis.{agrees, pair_of, rest_of_opener, rest_of_closer, nest, wrapped, row, keep, deactivates, deactivated, left_open, stand}
 use Rattle.cmark_grammar.specs.Spans.{SpanKind, span_width, Spans, Nil, Single, Around, join, singles}
 use Rattle.cmark_inline_model.specs.EmphasisModel.{Closed, paired, chosen, close, or_none, closed, resolve, spans_of}
 use Rattle.cmark_inline_model.proofs.SpanPlaces.{widths, widths-kinds, count-opener, count-closer}
@@ -49,12 +49,7 @@ module _ (rank : ℕ → ℕ) where
 
   down-join : (f g : Spans) → down (join f g) ≡ join (down f) (down g)
   down-join Nil g = refl
-  down-join (Single at after) g = go (nat_lt (rank at) (rank (suc at))) (down-join after g)
-    where
-      go : (b : Bool) → down (join after g) ≡ join (down after) (down g)
-          → (if b then Single (rank at) (down (join after g)) else down (join after g)) ≡ join (if b then Single (rank at) (down after) else down after) (down g)
-      go true e = ap (Single (rank at)) e
-      go false e = e
+  down-join (Single at after) g = grind (arith, nat_lt, down-join after g)
   down-join (Around span inside after) g = ap (Around (record { kind = span.kind; start = rank span.start; end = rank span.end }) (down inside)) (down-join after g)
 
   fits-join : (f g : Spans) → Fits f → Fits g → Fits (join f g)
@@ -74,10 +69,7 @@ module _ (rank : ℕ → ℕ) where
   fits-singles at (suc c) g h = fits-singles (suc at) c g h
 
   rank-front : (from w : ℕ) → w ≤ from → AreBytes (from - w) from → rank (from - w) ≡ rank from - w
-  rank-front from w le h =
-      let e : (from - w) + w ≡ from = omega (arith, le) in
-      let i = ap rank (sym e) ∙ rank-bytes (from - w) w (λ j a b. h j a (omega (arith, b, le))) in
-      omega (arith, i)
+  rank-front from w le h = grind (arith, rank-bytes)
 
   down-nest : (ks : List SpanKind) (from to : ℕ) (f : Spans) → widths ks ≤ from → AreBytes (from - widths ks) from → AreBytes to (to + widths ks)
       → down (nest ks from to f) ≡ nest ks (rank from) (rank to) (down f)
@@ -110,10 +102,7 @@ module _ (rank : ℕ → ℕ) where
 
   closer-ranked : (o c : Run) → IsSolid c → rest_of_closer (ranked o) (ranked c) ≡ ranked (rest_of_closer o c)
   unfolding rest_of_closer
-  closer-ranked o c h =
-      let n = paired_count o c in
-      let le = count-closer o c in
-      ap (λ k. record c { at = k; left = c.left - n }) (sym (rank-bytes c.at n (λ j x y. h j x (omega (arith, le, y)))))
+  closer-ranked o c h = grind (arith, count-closer, rank-bytes)
 
   opener-solid : (o c : Run) → IsSolid o → IsSolid (rest_of_opener o c)
   unfolding rest_of_opener
@@ -125,24 +114,11 @@ module _ (rank : ℕ → ℕ) where
 
   wrapped-ranked : (o c : Run) (f : Spans) → IsSolid o → IsSolid c → wrapped (pair_of (ranked o) (ranked c)) (down f) ≡ down (wrapped (pair_of o c) f)
   unfolding pair_of
-  wrapped-ranked o c f h k =
-      let n = paired_count o c in
-      let ks = kinds_of c.delimiter n in
-      let w : widths ks ≡ n = widths-kinds c.delimiter n in
-      let a = count-opener o c in
-      let b = count-closer o c in
-      ap (λ x. nest ks x (rank c.at) (down f)) (sym (rank-bytes o.at o.left h))
-      ∙ sym (down-nest ks (o.at + o.left) c.at f (omega (arith, w, a)) (λ j x y. h j (omega (arith, w, a, x)) y) (λ j x y. k j x (omega (arith, w, b, y))))
+  wrapped-ranked o c f h k = grind (arith, widths, widths-kinds, count-opener, count-closer, rank-bytes, down-nest)
 
   wrapped-fits : (o c : Run) (f : Spans) → IsSolid o → IsSolid c → Fits f → Fits (wrapped (pair_of o c) f)
   unfolding pair_of
-  wrapped-fits o c f h k t =
-      let n = paired_count o c in
-      let ks = kinds_of c.delimiter n in
-      let w : widths ks ≡ n = widths-kinds c.delimiter n in
-      let a = count-opener o c in
-      let b = count-closer o c in
-      fits-nest ks (o.at + o.left) c.at f (omega (arith, w, a)) (λ j x y. h j (omega (arith, w, a, x)) y) (λ j x y. k j x (omega (arith, w, b, y))) t
+  wrapped-fits o c f h k t = grind (arith, widths, widths-kinds, count-opener, count-closer, fits-nest)
 
   -- ## Pieces
 
@@ -164,42 +140,19 @@ module _ (rank : ℕ → ℕ) where
   like-text r ps qs h k = like-whole (singles r.at r.left Nil) (singles (rank r.at) r.left Nil) ps qs (fits-singles r.at r.left Nil tt) (sym (down-singles r.at r.left Nil h)) k
 
   like-keep : (r : Run) (ps qs : List Piece) → IsSolid r → Like ps qs → Like (keep r ps) (keep (ranked r) qs)
-  like-keep r ps qs h k = go (nat_lt 0 r.left)
-    where
-      go : (b : Bool) → Like (if b then Standing r ∷ ps else ps) (if b then Standing (ranked r) ∷ qs else qs)
-      go true = (h, record { rest = qs; cut = refl; others = k })
-      go false = k
+  like-keep r ps qs h k = grind (arith, nat_lt)
 
   like-stand : (r : Run) (ps qs : List Piece) → IsSolid r → Like ps qs → Like (stand r ps) (stand (ranked r) qs)
-  like-stand r ps qs h k = go r.opens
-    where
-      go : (b : Bool) → Like (if b then keep r ps else Whole (singles r.at r.left Nil) ∷ ps) (if b then keep (ranked r) qs else Whole (singles (rank r.at) r.left Nil) ∷ qs)
-      go true = like-keep r ps qs h k
-      go false = like-text r ps qs h k
+  like-stand r ps qs h k = grind (arith, like-keep, like-text)
 
   like-deactivated : (ps qs : List Piece) → Like ps qs → Like (map deactivated ps) (map deactivated qs)
   like-deactivated [] qs h = ap (map deactivated) h
-  like-deactivated (Whole f ∷ ps) qs h = go h.1 (like-deactivated ps)
-    where
-      go : ((down f ≡ Nil) × Like ps qs) ⊎ Kept (λ rest. Like ps rest) (Whole (down f)) qs → ((l : List Piece) → Like ps l → Like (map deactivated ps) (map deactivated l))
-          → Like (Whole f ∷ map deactivated ps) (map deactivated qs)
-      go (inl k) more = (h.0, inl (k.0, more qs k.1))
-      go (inr k) more = (h.0, inr (record { rest = map deactivated k.rest; cut = ap (map deactivated) k.cut; others = more k.rest k.others }))
-  like-deactivated (Standing r ∷ ps) qs h =
-      subst (λ l. Like (map deactivated (Standing r ∷ ps)) (map deactivated l)) (sym h.1.cut) (go (is_tilde_or_caret r.delimiter) (like-deactivated ps h.1.rest h.1.others))
-    where
-      go : (b : Bool) → Like (map deactivated ps) (map deactivated h.1.rest)
-          → Like ((if b then Whole (singles r.at r.left Nil) else Standing r) ∷ map deactivated ps) ((if b then Whole (singles (rank r.at) r.left Nil) else Standing (ranked r)) ∷ map deactivated h.1.rest)
-      go true k = like-text r (map deactivated ps) (map deactivated h.1.rest) h.0 k
-      go false k = (h.0, record { rest = map deactivated h.1.rest; cut = refl; others = k })
+  like-deactivated (Whole f ∷ ps) qs h = grind (arith, like-deactivated ps)
+  like-deactivated (Standing r ∷ ps) qs h = grind (arith, like-text, like-deactivated ps h.1.rest h.1.others)
 
   like-left : (c : Run) (ps qs : List Piece) → Like ps qs → Like (left_open c ps) (left_open (ranked c) qs)
   unfolding deactivates
-  like-left c ps qs h = go (deactivates c)
-    where
-      go : (b : Bool) → Like (if b then map deactivated ps else ps) (if b then map deactivated qs else qs)
-      go true = like-deactivated ps qs h
-      go false = h
+  like-left c ps qs h = grind (arith, like-deactivated)
 
   record Ranks (f g : Spans) : Type 0 where
     pub same : down f ≡ g
@@ -210,12 +163,8 @@ module _ (rank : ℕ → ℕ) where
   like-row (Whole g ∷ ps) qs f h k = go h.1 (λ l m. like-row ps l (join g f) m (fits-join g f h.0 k))
     where
       go : ((down g ≡ Nil) × Like ps qs) ⊎ Kept (λ rest. Like ps rest) (Whole (down g)) qs → ((l : List Piece) → Like ps l → Ranks (row ps (join g f)) (row l (down (join g f)))) → Ranks (row ps (join g f)) (row qs (down f))
-      go (inl x) more = subst (λ y. Ranks (row ps (join g f)) (row qs y)) (down-join g f ∙ ap (λ y. join y (down f)) x.0) (more qs x.1)
-      go (inr x) more =
-          subst (λ l. Ranks (row ps (join g f)) (row l (down f))) (sym x.cut) (subst (λ y. Ranks (row ps (join g f)) (row x.rest y)) (down-join g f) (more x.rest x.others))
-  like-row (Standing r ∷ ps) qs f h k =
-      subst (λ l. Ranks (row ps (singles r.at r.left f)) (row l (down f))) (sym h.1.cut)
-      (subst (λ y. Ranks (row ps (singles r.at r.left f)) (row h.1.rest y)) (down-singles r.at r.left f h.0) (like-row ps h.1.rest (singles r.at r.left f) h.1.others (fits-singles r.at r.left f k)))
+      go h more = grind (arith, down-join)
+  like-row (Standing r ∷ ps) qs f h k = search (rules, down-singles, fits-singles, like-row ps h.1.rest (singles r.at r.left f) h.1.others (fits-singles r.at r.left f k))
 
   -- ## A run closes
 
@@ -232,21 +181,12 @@ module _ (rank : ℕ → ℕ) where
 
   both-chosen : (b : Bool) (p q : Pair) (x y : Closed) (more most others rest : Option Closed) → BothClosed x y → Both more most → Both others rest
       → Both (chosen b (paired p x more) others) (chosen b (paired q y most) rest)
-  both-chosen false p q x y more most others rest h k l = l
-  both-chosen true p q x y None None others rest h k l = h
-  both-chosen true p q x y None (Some m) others rest h k l = absurd k
-  both-chosen true p q x y (Some m) None others rest h k l = absurd k
-  both-chosen true p q x y (Some m) (Some n) others rest h k l = record { rest = k.rest; solid = k.solid; pieces = k.pieces }
+  both-chosen b p q x y more most others rest h k l = grind arith
 
   both-stop : (o c : Run) (w : Spans) (ps qs : List Piece) (m n : List Pair) → IsSolid o → IsSolid c → Fits w → Like ps qs
       → BothClosed (record { rest = rest_of_closer o c; pieces = left_open (rest_of_closer o c) (Whole w ∷ keep (rest_of_opener o c) ps); pairs = m })
       (record { rest = ranked (rest_of_closer o c); pieces = left_open (ranked (rest_of_closer o c)) (Whole (down w) ∷ keep (ranked (rest_of_opener o c)) qs); pairs = n })
-  both-stop o c w ps qs m n h k t l = record {
-    rest = refl;
-    solid = closer-solid o c k;
-    pieces = like-left (rest_of_closer o c) (Whole w ∷ keep (rest_of_opener o c) ps) (Whole (down w) ∷ keep (ranked (rest_of_opener o c)) qs)
-        (like-whole w (down w) (keep (rest_of_opener o c) ps) (keep (ranked (rest_of_opener o c)) qs) t refl (like-keep (rest_of_opener o c) ps qs (opener-solid o c h) l));
-  }
+  both-stop o c w ps qs m n h k t l = search (rules, closer-solid, like-left, like-whole, like-keep, opener-solid)
 
   -- the result of a run's course over the pieces from an open run on, by its parts
   abbrev over_run : (agree : Bool) (rest opener : Run) (whole : Spans) (pair : Pair) (others : Option Closed) → List Piece → Option Closed
@@ -261,10 +201,7 @@ module _ (rank : ℕ → ℕ) where
     where
       go : ((down g ≡ Nil) × Like ps qs) ⊎ Kept (λ rest. Like ps rest) (Whole (down g)) qs
           → ((l : List Piece) → Like ps l → Both (close c ps (join g f)) (close (ranked c) l (down (join g f)))) → Both (close c ps (join g f)) (close (ranked c) qs (down f))
-      go (inl x) more = subst (λ y. Both (close c ps (join g f)) (close (ranked c) qs y)) (down-join g f ∙ ap (λ y. join y (down f)) x.0) (more qs x.1)
-      go (inr x) more =
-          subst (λ l. Both (close c ps (join g f)) (close (ranked c) l (down f))) (sym x.cut)
-          (subst (λ y. Both (close c ps (join g f)) (close (ranked c) x.rest y)) (down-join g f) (more x.rest x.others))
+      go h more = grind (arith, down-join)
   close-like c (Standing o ∷ ps) qs f h s t =
       let rest = h.1.rest in
       let w = wrapped (pair_of o c) f in
@@ -296,10 +233,7 @@ module _ (rank : ℕ → ℕ) where
   closed-like c ps qs h s = go (close c ps Nil) (close (ranked c) qs Nil) (close-like c ps qs Nil h s tt)
     where
       go : (x y : Option Closed) → Both x y → BothClosed (or_none c ps x) (or_none (ranked c) qs y)
-      go None None k = record { rest = refl; solid = s; pieces = like-left c ps qs h }
-      go None (Some y) k = absurd k
-      go (Some x) None k = absurd k
-      go (Some x) (Some y) k = k
+      go x y k = grind (arith, like-left)
 
   -- ## All siblings
 

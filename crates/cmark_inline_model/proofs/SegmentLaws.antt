@@ -1,6 +1,6 @@
 -- The segments of a document: its blocks are no links and need no option of spans, and its leaves are in order.
-use Rattle.std.proofs.Common.{◌≡◌, ℕ, ◌≤◌, List, [], ◌∷◌, ◌++◌, refl, arith, zero, suc}
-use Rattle.cmark_grammar.specs.BlockDocument.{BlockKind, Paragraph, TightParagraph, Heading, ThematicBreak, IndentedCode, FencedCode, HtmlBlock, LinkDefinition, MetadataBlock, BlockQuote, BlockList, ListItem, TaskMarker, FootnoteDefinition, DefinitionList, DefinitionListTitle, DefinitionListDefinition, Text, OwnedText, Html, BlockNode, BlockDocument, Nil, Node, Table, TableHead, TableRow, TableCell}
+use Rattle.std.proofs.Common.{◌≡◌, ℕ, ◌≤◌, List, [], ◌∷◌, ◌++◌, arith, zero, suc}
+use Rattle.cmark_grammar.specs.BlockDocument.{BlockKind, BlockNode, BlockDocument, Nil, Node}
 use Rattle.cmark_grammar.specs.BlockReading.{Reads, Around, Inside, Alone, First, Silent, starts_before, first_event, read_as, over}
 use Rattle.cmark_grammar.specs.Event.{Event, Start, End, Ranged}
 use Rattle.cmark_grammar.specs.LeafText.{Stretch, InTurn}
@@ -33,37 +33,10 @@ given_append Holds (Given r ∷ a) b h k = (h.0, given_append Holds a b h.1 k)
 given_append Holds (Content leaf ∷ a) b h k = given_append Holds a b h k
 
 inside_given : (Holds : Event → Type 0) (kind : BlockKind) (content : BlockDocument) (others : List Segment) → AllGiven Holds others → AllGiven Holds (inside_of kind content others)
-inside_given Holds Paragraph content others k = tt
-inside_given Holds TightParagraph content others k = tt
-inside_given Holds (Heading level attributes) content others k = tt
-inside_given Holds ThematicBreak content others k = k
-inside_given Holds IndentedCode content others k = k
-inside_given Holds (FencedCode info) content others k = k
-inside_given Holds HtmlBlock content others k = k
-inside_given Holds (MetadataBlock kind) content others k = k
-inside_given Holds (Table alignments) content others k = k
-inside_given Holds TableHead content others k = k
-inside_given Holds TableRow content others k = k
-inside_given Holds TableCell content others k = tt
-inside_given Holds (LinkDefinition reference) content others k = k
-inside_given Holds (BlockQuote alert) content others k = k
-inside_given Holds (FootnoteDefinition label) content others k = k
-inside_given Holds (DefinitionList tight) content others k = k
-inside_given Holds DefinitionListTitle content others k = tt
-inside_given Holds DefinitionListDefinition content others k = k
-inside_given Holds (BlockList number tight) content others k = k
-inside_given Holds ListItem content others k = k
-inside_given Holds (TaskMarker is_checked) content others k = k
-inside_given Holds (Text bytes) content others k = k
-inside_given Holds (OwnedText bytes) content others k = k
-inside_given Holds (Html bytes) content others k = k
+inside_given Holds kind content others k = grind arith
 
 node_given : (Holds : Event → Type 0) (reads : Reads) (node : BlockNode) (inside : List Segment) → GivenBy Holds reads → AllGiven Holds inside → AllGiven Holds (node_segments reads node inside)
-node_given Holds (Around tag) node inside h k = (h.0, given_append Holds inside (Given (over node (End (end_of tag))) ∷ []) k (h.1, tt))
-node_given Holds Inside node inside h k = k
-node_given Holds (Alone event) node inside h k = (h, tt)
-node_given Holds (First event) node inside h k = tt
-node_given Holds Silent node inside h k = tt
+node_given Holds reads node inside h k = grind (arith, given_append)
 
 first_given : (Holds : Event → Type 0) (element : ℕ) (r : Ranged) (others : List Segment) → Holds r.event → AllGiven Holds others → AllGiven Holds (first_of_segments element (Given r) others)
 first_given Holds zero r others h k = (h, k)
@@ -72,11 +45,7 @@ first_given Holds (suc element) r (Given x ∷ others) h k = (k.0, first_given H
 first_given Holds (suc element) r (Content leaf ∷ others) h k = first_given Holds element r others h k
 
 with_given : (Holds : Event → Type 0) (reads : Reads) (element : ℕ) (node : BlockNode) (others : List Segment) → GivenBy Holds reads → AllGiven Holds others → AllGiven Holds (with_first_segment (first_event reads) element node others)
-with_given Holds (Around tag) element node others h k = k
-with_given Holds Inside element node others h k = k
-with_given Holds (Alone event) element node others h k = k
-with_given Holds (First event) element node others h k = first_given Holds element (over node event) others h k
-with_given Holds Silent element node others h k = k
+with_given Holds reads element node others h k = grind (arith, first_given)
 
 segments_given : (Holds : Event → Type 0) → ((kind : BlockKind) → GivenBy Holds (read_as kind)) → (document : BlockDocument) → AllGiven Holds (segments document)
 segments_given Holds kinds Nil = tt
@@ -92,28 +61,14 @@ abbrev pub AreNeither : List Segment → Type 0
 AreNeither others = AllGiven (λ e. link_event e ≡ Neither) others
 
 kind_neither : (kind : BlockKind) → GivenBy (λ e. link_event e ≡ Neither) (read_as kind)
-kind_neither TightParagraph = tt
-kind_neither ThematicBreak = refl
-kind_neither (LinkDefinition reference) = tt
-kind_neither (TaskMarker is_checked) = refl
-kind_neither (Text bytes) = refl
-kind_neither (OwnedText bytes) = refl
-kind_neither (Html bytes) = refl
-kind_neither _ = (refl, refl)
+kind_neither kind = grind arith
 
 pub segments-neither : (document : BlockDocument) → AreNeither (segments document)
 segments-neither document = segments_given (λ e. link_event e ≡ Neither) kind_neither document
 
 -- no event of these needs an option of spans
 kind_optionless : (options : Options) (kind : BlockKind) → GivenBy (IsGiven options) (read_as kind)
-kind_optionless options TightParagraph = tt
-kind_optionless options ThematicBreak = tt
-kind_optionless options (LinkDefinition reference) = tt
-kind_optionless options (TaskMarker is_checked) = tt
-kind_optionless options (Text bytes) = tt
-kind_optionless options (OwnedText bytes) = tt
-kind_optionless options (Html bytes) = tt
-kind_optionless options _ = (tt, tt)
+kind_optionless options kind = grind arith
 
 pub segments-optionless : (options : Options) (document : BlockDocument) → AllGiven (IsGiven options) (segments document)
 segments-optionless options document = segments_given (IsGiven options) (kind_optionless options) document
@@ -144,35 +99,10 @@ leaf_rise : (from to : ℕ) (kind : BlockKind) (content : BlockDocument) → InO
 leaf_rise from to kind content h = (to, stretches-turn from from content to to (omega arith) (omega arith) h, (let x : to ≤ to = omega arith in x))
 
 inside_rise : (from to : ℕ) (kind : BlockKind) (content : BlockDocument) (others : List Segment) → InOrder from content to → LeavesRise from others to → LeavesRise from (inside_of kind content others) to
-inside_rise from to Paragraph content others h k = leaf_rise from to Paragraph content h
-inside_rise from to TightParagraph content others h k = leaf_rise from to TightParagraph content h
-inside_rise from to (Heading level attributes) content others h k = leaf_rise from to (Heading level attributes) content h
-inside_rise from to ThematicBreak content others h k = k
-inside_rise from to IndentedCode content others h k = k
-inside_rise from to (FencedCode info) content others h k = k
-inside_rise from to HtmlBlock content others h k = k
-inside_rise from to (MetadataBlock kind) content others h k = k
-inside_rise from to (Table alignments) content others h k = k
-inside_rise from to TableHead content others h k = k
-inside_rise from to TableRow content others h k = k
-inside_rise from to TableCell content others h k = leaf_rise from to TableCell content h
-inside_rise from to (LinkDefinition reference) content others h k = k
-inside_rise from to (BlockQuote alert) content others h k = k
-inside_rise from to (FootnoteDefinition label) content others h k = k
-inside_rise from to (DefinitionList tight) content others h k = k
-inside_rise from to DefinitionListTitle content others h k = leaf_rise from to DefinitionListTitle content h
-inside_rise from to DefinitionListDefinition content others h k = k
-inside_rise from to (BlockList number tight) content others h k = k
-inside_rise from to ListItem content others h k = k
-inside_rise from to (TaskMarker is_checked) content others h k = k
-inside_rise from to (Text bytes) content others h k = k
-inside_rise from to (OwnedText bytes) content others h k = k
-inside_rise from to (Html bytes) content others h k = k
+inside_rise from to kind content others h k = grind (arith, leaf_rise)
 
 node_rise : (from to : ℕ) (reads : Reads) (node : BlockNode) (inside : List Segment) → from ≤ to → LeavesRise from inside to → LeavesRise from (node_segments reads node inside) to
-node_rise from to (Around tag) node inside e h = rise_append from to to inside (Given _ ∷ []) h (let x : to ≤ to = omega arith in x)
-node_rise from to Inside node inside e h = h
-node_rise from to _ node inside e h = e
+node_rise from to reads node inside e h = grind (arith, rise_append)
 
 first_rise : (from to : ℕ) (element : ℕ) (r : Ranged) (others : List Segment) → LeavesRise from others to → LeavesRise from (first_of_segments element (Given r) others) to
 first_rise from to zero r others h = h

@@ -1,9 +1,9 @@
 -- The parts of a text have exactly one list of spans, that of the model.
-use Rattle.std.proofs.Common.{◌≡◌, true, false, refl, sym, ap, ◌∙◌, Some, None}
+use Rattle.std.proofs.Common.{◌≡◌, false, refl, sym, ap, ◌∙◌, Some, None, arith}
 use Rattle.cmark_inline_model.specs.EmphasisModel.{pairs_of, spans_of}
 use Rattle.cmark_grammar.specs.Options.{Options}
 use Rattle.cmark_grammar.specs.Parts.{Parts, Nil as NoParts, Single as SinglePart, Form, Closing, Opening, Linking, Footnote, Wiki}
-use Rattle.cmark_grammar.specs.Siblings.{Inline, Around, with_quotes, item_then, text_then, tag_by, footnote_then, wiki_tag, name_text, display_from, AreSiblings, AreSpans, IsDressed, siblings_from, one_by_one, with_spans}
+use Rattle.cmark_grammar.specs.Siblings.{Inline, Around, with_quotes, item_then, text_then, footnote_then, wiki_tag, name_text, display_from, AreSiblings, AreSpans, IsDressed, siblings_from, one_by_one, with_spans}
 use Rattle.cmark_inline_model.specs.SiblingsModel.{dress, siblings_of, spans_in}
 use Rattle.cmark_inline_model.proofs.EmphasisSound.{sound}
 use Rattle.cmark_inline_model.proofs.EmphasisOne.{one}
@@ -31,28 +31,18 @@ module _ (options : Options) where
       (siblings_of options inside, dress options (siblings_of options inside), siblings_of options after, siblings-sound inside, dress-sound (siblings_of options inside), siblings-sound after, refl)
   siblings-sound (Form opener inside closer (Footnote label end) after) = (siblings_of options after, siblings-sound after, refl)
   siblings-sound (Form opener inside closer (Wiki name None end) after) = (siblings_of options after, siblings-sound after, refl)
-  siblings-sound (Form opener inside closer (Wiki name (Some place) end) after) =
-      let inner = display_from place closer.start (siblings_of options inside) in
-      (siblings_of options inside, dress options inner, siblings_of options after, siblings-sound inside, dress-sound inner, siblings-sound after, refl)
+  siblings-sound (Form opener inside closer (Wiki name (Some place) end) after) = grind (arith, dress-sound, siblings-sound inside, siblings-sound after)
   siblings-sound (Closing closer after) = (siblings_of options after, siblings-sound after, refl)
   siblings-sound (Opening opener after) = (siblings_of options after, siblings-sound after, refl)
 
   pub siblings-one : (parts : Parts) (siblings : Inline) → AreSiblings options parts siblings → siblings ≡ siblings_of options parts
   siblings-one NoParts siblings h = h
   siblings-one (SinglePart x after) siblings h = h.2 ∙ ap (item_then x.kind x) (siblings-one after h.0 h.1)
-  siblings-one (Form opener inside closer (Linking target) after) siblings h =
-      let tag = tag_by opener.is_image target.linked in
-      h.6
-      ∙ ap (λ a. Around tag opener.start target.end a h.2) (dress-one h.0 h.1 h.4 ∙ ap (dress options) (siblings-one inside h.0 h.3))
-      ∙ ap (λ b. Around tag opener.start target.end (dress options (siblings_of options inside)) b) (siblings-one after h.2 h.5)
+  siblings-one (Form opener inside closer (Linking target) after) siblings h = cc (dress-one h.0 h.1 h.4, siblings-one inside h.0 h.3, siblings-one after h.2 h.5)
   siblings-one (Form opener inside closer (Footnote label end) after) siblings h = h.2 ∙ ap (footnote_then opener.is_image opener.start label end) (siblings-one after h.0 h.1)
   siblings-one (Form opener inside closer (Wiki name None end) after) siblings h =
       h.2 ∙ ap (Around (wiki_tag opener.is_image name false) opener.start end (name_text opener closer)) (siblings-one after h.0 h.1)
-  siblings-one (Form opener inside closer (Wiki name (Some place) end) after) siblings h =
-      let tag = wiki_tag opener.is_image name true in
-      h.6
-      ∙ ap (λ a. Around tag opener.start end a h.2) (dress-one (display_from place closer.start h.0) h.1 h.4 ∙ ap (λ a. dress options (display_from place closer.start a)) (siblings-one inside h.0 h.3))
-      ∙ ap (λ b. Around tag opener.start end (dress options (display_from place closer.start (siblings_of options inside))) b) (siblings-one after h.2 h.5)
+  siblings-one (Form opener inside closer (Wiki name (Some place) end) after) siblings h = cc (dress-one (display_from place closer.start h.0) h.1 h.4, siblings-one inside h.0 h.3, siblings-one after h.2 h.5)
   siblings-one (Closing closer after) siblings h = h.2 ∙ ap (text_then closer) (siblings-one after h.0 h.1)
   siblings-one (Opening opener after) siblings h = h.2 ∙ ap (text_then opener) (siblings-one after h.0 h.1)
 

@@ -1,18 +1,18 @@
 -- A reading whose answers are all None is a reading without a callback, except for the questions.
-use Rattle.std.proofs.Common.{◌≡◌, ℕ, List, [], ◌∷◌, ◌++◌, Option, None, refl, ap, subst, ◌∙◌}
+use Rattle.std.proofs.Common.{◌≡◌, ℕ, List, [], ◌∷◌, ◌++◌, Option, None, refl, ap, subst, ◌∙◌, arith, rules}
 use Rattle.cmark_grammar.specs.Answers.{Destination}
 use Rattle.cmark_grammar.specs.BracketDecisions.{decide}
 use Rattle.cmark_grammar.specs.BracketReading.{Comes, Reads}
-use Rattle.cmark_grammar.specs.BracketStates.{State, moved, opened, StaysText, Forms, Outcome, Decision, Settled, Asks}
+use Rattle.cmark_grammar.specs.BracketStates.{State, moved, opened, Outcome, Decision, Settled, Asks}
 use Rattle.cmark_grammar.specs.Event.{Ranged}
 use Rattle.cmark_grammar.specs.InlineTokens.{token}
 use Rattle.cmark_grammar.specs.Items.{Bracket}
 use Rattle.cmark_grammar.specs.LeafReading.{Between, entering, ReadsLeaf}
 use Rattle.cmark_grammar.specs.LeafText.{Leaf}
-use Rattle.cmark_grammar.specs.Parts.{Parts, Nil, Single, Form, Closing, Opening, openings}
+use Rattle.cmark_grammar.specs.Parts.{Parts, Nil, Single, Form, Closing, Opening}
 use Rattle.cmark_grammar.specs.Questions.{Question, Exchange, IsNext, AnyAnswer}
 use Rattle.cmark_grammar.specs.Readers.{Reader}
-use Rattle.cmark_grammar.specs.SpanDocuments.{Segment, Given, Content, ReadsAll, Profile, reader_of, at_start, segments, IsReading}
+use Rattle.cmark_grammar.specs.SpanDocuments.{Segment, Given, Content, ReadsAll, Profile, IsReading}
 use Rattle.cmark_inline_model.proofs.BracketQuestions.{reads-next}
 use Rattle.cmark_inline_model.specs.Unanswered.{AreUnanswered, silent, without_callback, unasked}
 use Rattle.cmark_inline_model.proofs.DecisionLaws.{decide-recorded}
@@ -39,21 +39,8 @@ module _ (reader : Reader) (leaf : Leaf) (all : List Exchange) (none : AreUnansw
       → Reads (token (silent reader) leaf) (decide (silent reader) leaf) AnyAnswer (unasked s) parts (unasked t)
   reads-silent s Nil t h = ap unasked h
   reads-silent s (Single item after) t h = (h.0, token-same reader leaf s.at ∙ h.1, reads-silent (moved h.0 s) after t h.2)
-  reads-silent s (Form opener inside closer formed after) t h = record {
-    until = unasked h.until;
-    next = unasked h.next;
-    opens = token-same reader leaf s.at ∙ h.opens;
-    inside = reads-silent (opened opener s) inside h.until h.inside;
-    closes = token-same reader leaf h.until.at ∙ h.closes;
-    comes = falls h.until closer (record { result = Forms (openings inside) formed; after = h.next }) h.comes;
-    after = reads-silent h.next after t h.after;
-  }
-  reads-silent s (Closing closer after) t h = record {
-    next = unasked h.next;
-    closes = token-same reader leaf s.at ∙ h.closes;
-    comes = falls s closer (record { result = StaysText; after = h.next }) h.comes;
-    after = reads-silent h.next after t h.after;
-  }
+  reads-silent s (Form opener inside closer formed after) t h = search (rules, token-same, falls, reads-silent (opened opener s) inside h.until h.inside, reads-silent h.next after t h.after)
+  reads-silent s (Closing closer after) t h = search (rules, token-same, falls, reads-silent h.next after t h.after)
   reads-silent s (Opening opener after) t h = (token-same reader leaf s.at ∙ h.0, reads-silent (opened opener s) after t h.1)
 
 abbrev unasked_between : Between → Between
@@ -84,10 +71,4 @@ module _ (reader : Reader) (all : List Exchange) (none : AreUnanswered all) wher
       (h.0, h.1, unasked_between h.2, leaf_silent leaf before h.2 h.0 h.3, all-silent others h.2 after h.1 h.4, h.5)
 
 pub reading-silent : (text : List ℕ) (profile : Profile) (exchanges : List Exchange) (events : List Ranged) → AreUnanswered exchanges → IsReading text profile exchanges events → IsReading text (without_callback profile) [] events
-reading-silent text profile exchanges events none h = record {
-  document = h.document;
-  after = unasked_between h.after;
-  derives = h.derives;
-  reads = all-silent (reader_of text profile h.document) exchanges none (segments h.document) (at_start profile) h.after events h.reads;
-  asked = refl;
-}
+reading-silent text profile exchanges events none h = grind (arith, all-silent)

@@ -1,24 +1,20 @@
 -- Tokens do not hang on whether there is a callback.
-use Rattle.std.specs.Prelude.{suc, zero, ◌==◌, ◌&&◌, ◌||◌, not, if◌then◌else◌, drop}
+use Rattle.std.specs.Prelude.{suc, zero, ◌==◌, ◌&&◌, ◌||◌, not, if◌then◌else◌}
 use Rattle.std.specs.List.{prefix_len}
-use Rattle.std.proofs.Common.{◌≡◌, ℕ, ◌+◌, Bool, true, false, List, [], ◌∷◌, length, Option, Some, None, refl, ap, ◌∙◌}
+use Rattle.std.proofs.Common.{◌≡◌, ℕ, ◌+◌, Bool, true, false, List, [], ◌∷◌, Option, Some, None, refl, ap, ◌∙◌, arith}
 use Rattle.cmark_grammar.specs.Flanking.{is_run_delimiter}
-use Rattle.cmark_grammar.specs.Autolinks.{autolink_in}
-use Rattle.cmark_grammar.specs.CodeSpans.{is_backtick, backticks, code_in}
+use Rattle.cmark_grammar.specs.CodeSpans.{backticks, code_in}
 use Rattle.cmark_grammar.specs.Columns.{is_blank_byte}
-use Rattle.cmark_grammar.specs.Formulas.{is_dollar, Braces, no_braces, braces_after, inline_in, display_in}
-use Rattle.cmark_grammar.specs.InlineHtml.{after_markup}
-use Rattle.cmark_grammar.specs.InlineTokens.{item_at, bracket, is_plain, from, before, source_from, break_or, code_or, escaped_backtick, escape_at, entity_or, autolink_or, tag_or_text, markup_or, less_than, run_at, formula_or, dollar, smart_or, begins, begins_at, goes_on, plain_end, longest, token}
-use Rattle.cmark_grammar.specs.Items.{ItemKind, Plain, InlineMath, DisplayMath, Token, Stands, Opens, Closes}
-use Rattle.cmark_grammar.specs.LabelsOverLines.{piped}
+use Rattle.cmark_grammar.specs.Formulas.{is_dollar, Braces, no_braces, braces_after}
+use Rattle.cmark_grammar.specs.InlineTokens.{item_at, bracket, is_plain, from, before, break_or, code_or, escaped_backtick, escape_at, entity_or, autolink_or, tag_or_text, markup_or, less_than, run_at, formula_or, dollar, smart_or, begins, begins_at, goes_on, plain_end, longest, token}
+use Rattle.cmark_grammar.specs.Items.{ItemKind, Plain, Token, Stands, Opens, Closes}
 use Rattle.cmark_grammar.specs.LeafText.{Leaf}
-use Rattle.cmark_grammar.specs.Letters.{first_is, starts}
+use Rattle.cmark_grammar.specs.Letters.{first_is}
 use Rattle.cmark_grammar.specs.LineBreaks.{LineBreak, backslash_break_in, blank_break_in}
 use Rattle.cmark_grammar.specs.Lines.{is_content}
 use Rattle.cmark_grammar.specs.LinkDefinitions.{Parsed}
 use Rattle.cmark_grammar.specs.Readers.{Reader}
-use Rattle.cmark_grammar.specs.Tags.{after_tag, no_prefix}
-use Rattle.cmark_grammar.specs.Tokens.{Entity, entity_in, is_punctuation}
+use Rattle.cmark_grammar.specs.Tokens.{Entity, entity_in}
 use Rattle.cmark_inline_model.specs.Unanswered.{silent}
 
 pub if-same : {A : Type 0} (b : Bool) (x y u v : A) → x ≡ u → y ≡ v → (if b then x else y) ≡ (if b then u else v)
@@ -39,10 +35,7 @@ module _ (reader : Reader) (leaf : Leaf) where
   backtick_same at size (Some found) = refl
 
   escape_same : (at : ℕ) (bs : List ℕ) → escape_at (silent reader) leaf at bs ≡ escape_at reader leaf at bs
-  escape_same at bs =
-      let others : Token = if leaf.is_cell && starts piped bs then item_at Plain (at + 2) (at + 3) else if first_is is_punctuation bs then item_at Plain (suc at) (at + 2) else item_at Plain at (suc at) in
-      if-same (first_is is_backtick bs) (escaped_backtick (silent reader) leaf (suc at) (backticks bs) (code_in (drop 1 bs))) others (escaped_backtick reader leaf (suc at) (backticks bs) (code_in (drop 1 bs))) others
-      (backtick_same (suc at) (backticks bs) (code_in (drop 1 bs))) refl
+  escape_same at bs = grind (arith, if-same, backtick_same)
 
   entity_same : (at : ℕ) (entity : Option Entity) → entity_or (silent reader) leaf at entity ≡ entity_or reader leaf at entity
   entity_same at None = refl
@@ -61,23 +54,14 @@ module _ (reader : Reader) (leaf : Leaf) where
   autolink_same at (Some found) x y e = refl
 
   less_same : (at : ℕ) (bs : List ℕ) → less_than (silent reader) leaf at bs ≡ less_than reader leaf at bs
-  less_same at bs =
-      let tag = after_tag no_prefix (from reader leaf at) in
-      let markup = after_markup (source_from reader leaf at) in
-      let x = markup_or (silent reader) leaf at markup (tag_or_text (silent reader) leaf at tag) in
-      let y = markup_or reader leaf at markup (tag_or_text reader leaf at tag) in
-      if-same (first_is (λ c. c == 92) bs) (item_at Plain at (suc at)) (autolink_or (silent reader) leaf at (autolink_in reader.options.email_autolinks bs) x) (item_at Plain at (suc at)) (autolink_or reader leaf at (autolink_in reader.options.email_autolinks bs) y)
-      refl (autolink_same at (autolink_in reader.options.email_autolinks bs) x y (markup_same at markup (tag_or_text (silent reader) leaf at tag) (tag_or_text reader leaf at tag) (tag_same at tag)))
+  less_same at bs = grind (arith, if-same, autolink_same, markup_same, tag_same)
 
   formula_same : (kind : List ℕ → ItemKind) (at : ℕ) (found : Option Parsed) → formula_or (silent reader) leaf kind at found ≡ formula_or reader leaf kind at found
   formula_same kind at None = refl
   formula_same kind at (Some found) = refl
 
   dollar_same : (at : ℕ) (bs : List ℕ) (braces : Braces) → dollar (silent reader) leaf at bs braces ≡ dollar reader leaf at bs braces
-  dollar_same at bs braces =
-      if-same (first_is is_dollar bs) (formula_or (silent reader) leaf DisplayMath at (display_in braces (drop 1 bs))) (formula_or (silent reader) leaf InlineMath at (inline_in braces bs))
-      (formula_or reader leaf DisplayMath at (display_in braces (drop 1 bs))) (formula_or reader leaf InlineMath at (inline_in braces bs))
-      (formula_same DisplayMath at (display_in braces (drop 1 bs))) (formula_same InlineMath at (inline_in braces bs))
+  dollar_same at bs braces = grind (arith, if-same, formula_same)
 
   begins_same : (at : ℕ) (l : List ℕ) → begins (silent reader) leaf at l ≡ begins reader leaf at l
   begins_same at [] = refl
@@ -114,16 +98,10 @@ module _ (reader : Reader) (leaf : Leaf) where
 
   plain_same : (n item_end : ℕ) → plain_end (silent reader) leaf n item_end ≡ plain_end reader leaf n item_end
   plain_same zero item_end = refl
-  plain_same (suc n) item_end =
-      ap (λ t. goes_on (silent reader) leaf t item_end (plain_end (silent reader) leaf n)) (begins_at_same item_end)
-      ∙ goes_same (begins_at reader leaf item_end) item_end (plain_end (silent reader) leaf n) (plain_end reader leaf n) (λ m. plain_same n m)
+  plain_same (suc n) item_end = grind (arith, begins_at_same, goes_same)
 
   longest_same : (t : Token) → longest (silent reader) leaf t ≡ longest reader leaf t
-  longest_same (Stands item resume) =
-      if-same (is_plain item.kind) (item_at Plain item.start (plain_end (silent reader) leaf (length (from reader leaf resume)) resume)) (Stands item resume)
-      (item_at Plain item.start (plain_end reader leaf (length (from reader leaf resume)) resume)) (Stands item resume)
-      (ap (item_at Plain item.start) (plain_same (length (from reader leaf resume)) resume)) refl
-  longest_same _ = refl
+  longest_same t = grind (arith, if-same, plain_same)
 
   pub token-same : (at : ℕ) → token (silent reader) leaf at ≡ token reader leaf at
   unfolding token

@@ -11,9 +11,7 @@ use Rattle.cmark_inline_model.proofs.TightSpans.{put-rest}
 pub slots-append : (a b : Inline) → slots_of (append a b) ≡ slots_of a ++ slots_of b
 slots-append Nil b = refl
 slots-append (Single x after) b = ap (λ l. ItemSlot x ∷ l) (slots-append after b)
-slots-append (Around tag start end inside after) b =
-    ap (λ l. BeginSlot tag start end ∷ (slots_of inside ++ (EndSlot ∷ l))) (slots-append after b)
-    ∙ ap (λ l. BeginSlot tag start end ∷ l) (sym (append_assoc (slots_of inside) (EndSlot ∷ slots_of after) (slots_of b)))
+slots-append (Around tag start end inside after) b = cc (slots-append after b, append_assoc (slots_of inside) (EndSlot ∷ slots_of after) (slots_of b))
 
 pub seen-append : (a b : List Slot) → seen (a ++ b) ≡ seen a ++ seen b
 seen-append [] b = refl
@@ -25,11 +23,7 @@ seen-append (NothingSlot ∷ a) b = seen-append a b
 pub seen-slots : (x : Inline) → seen (slots_of x) ≡ slots_of x
 seen-slots Nil = refl
 seen-slots (Single x after) = ap (λ l. ItemSlot x ∷ l) (seen-slots after)
-seen-slots (Around tag start end inside after) =
-    ap (λ l. BeginSlot tag start end ∷ l)
-    (seen-append (slots_of inside) (EndSlot ∷ slots_of after)
-    ∙ ap (λ l. l ++ (EndSlot ∷ seen (slots_of after))) (seen-slots inside)
-    ∙ ap (λ l. slots_of inside ++ (EndSlot ∷ l)) (seen-slots after))
+seen-slots (Around tag start end inside after) = cc (seen-append (slots_of inside) (EndSlot ∷ slots_of after), seen-slots inside, seen-slots after)
 
 -- slots before other slots, both without Nothing
 pub seen-both : (g d : Inline) (s o : List Slot) → seen s ≡ slots_of g → seen o ≡ slots_of d → seen (s ++ o) ≡ slots_of (append g d)
@@ -117,10 +111,7 @@ single-cells x at gaps bytes more slots places s c =
 
 item-cells : (kind : ItemKind) (x : Item) (after : Inline) → Cells after → (at : ℕ) (slots : List Slot) (places quotes : List ℕ) → LaysItem kind x (λ a b c d. LaysOut a after b c d) at slots places quotes
     → AreCells at (gap_then kind x (gaps_of after)) (run_bytes_then kind x.start (run_bytes after)) slots places
-item-cells (Delimiters run) x after ih at slots places quotes h =
-    subst (λ l. AreCells at (no_gaps run.run_length (gaps_of after)) (bytes_then x.start run.run_length (run_bytes after)) l places) (sym h.2)
-    (subst (AreCells at (no_gaps run.run_length (gaps_of after)) (bytes_then x.start run.run_length (run_bytes after)) (run_slots x.start run.run_length h.0)) (sym h.3)
-    (run-cells run.run_length x.start at (gaps_of after) (run_bytes after) h.0 h.1 (ih (at + run.run_length) h.0 h.1 quotes h.4)))
+item-cells (Delimiters run) x after ih at slots places quotes h = grind (arith, run-cells)
 item-cells (Quoted quote) x after ih at slots places quotes h = single-cells x at (gaps_of after) (run_bytes after) h.0 slots places h.2 (ih (suc at) h.0 places h.1 h.4)
 item-cells (FootnoteReference label) x after ih at slots places quotes h =
     let own = ItemSlot x ∷ h.0 in
@@ -152,9 +143,7 @@ cells-of (Around tag start end inside after) at slots places quotes h =
     subst (λ k. AreCells at (put_gap (Around tag start end inside) (gaps_of after)) (run_bytes after) k places) (ap (λ k. BeginSlot tag start end ∷ k) (append_assoc inner (EndSlot ∷ []) h.1) ∙ sym h.3) put
   where
     element_seen : (inner : List Slot) → seen inner ≡ slots_of inside → (g : Inline) → seen (BeginSlot tag start end ∷ (inner ++ (EndSlot ∷ []))) ++ slots_of g ≡ slots_of (Around tag start end inside g)
-    element_seen inner e g =
-        ap (λ k. BeginSlot tag start end ∷ (k ++ slots_of g)) (seen-append inner (EndSlot ∷ []) ∙ ap (λ k. k ++ (EndSlot ∷ [])) e)
-        ∙ ap (λ k. BeginSlot tag start end ∷ k) (append_assoc (slots_of inside) (EndSlot ∷ []) (slots_of g))
+    element_seen inner e g = cc (seen-append inner (EndSlot ∷ []), append_assoc (slots_of inside) (EndSlot ∷ []) (slots_of g))
 
 -- ## Siblings have such slots
 

@@ -9,8 +9,7 @@ use Rattle.cmark_grammar.specs.Options.{Options}
 use Rattle.cmark_grammar.specs.Quotes.{quote_characters}
 use Rattle.cmark_grammar.specs.Siblings.{Inline, Nil, Single, Around, quotes_of, with_quotes}
 use Rattle.cmark_inline_model.specs.RunSpans.{runs_from, run_bytes, gaps_of, dressed, dressed_all, IsDressedByRuns}
-use Rattle.cmark_grammar.specs.Spans as spans
-use Rattle.cmark_grammar.specs.Spans.{SpanKind, Emphasis, Strong, SingleTilde, DoubleTilde, Caret, DoubleEquals, Spans, TakePlaces, span_tag, span_width}
+use Rattle.cmark_grammar.specs.Spans.{SpanKind, Spans, TakePlaces, span_tag, span_width}
 use Rattle.cmark_grammar.specs.Tag.{Tag}
 use Rattle.cmark_grammar.specs.TagEnd.{end_of}
 use Rattle.cmark_inline_model.specs.SlotRows.{Slot, ItemSlot, BeginSlot, EndSlot, NothingSlot, seen, slots_of, LaysOut}
@@ -52,16 +51,11 @@ cells-marked : (options : Options) (siblings : Inline) (before slots : List Slot
     → StandAfter before slots (dressed_all options siblings (spans_of (runs_from siblings 0))) (marked options places (marks_of (spans_of (runs_from siblings 0))) (before ++ slots) [])
 cells-marked options siblings before slots places c d = record { own = c.front ++ d.out; cut = cut; as_many = as_many; stand_for = stand_for }
   where
-    sp : Spans
-    sp = spans_of (runs_from siblings 0)
-
     many : d.count ≡ length c.cells
     many = let p = d.places in omega (arith, p)
 
     made : MarksMake options (marks_of (spans_of (runs_from siblings 0))) c.cells d.out
-    made =
-        subst (λ cs. MarksMake options (marks_of (spans_of (runs_from siblings 0))) cs d.out) (all-cells c.cells)
-        (subst (λ n. MarksMake options (marks_of (spans_of (runs_from siblings 0))) (cells_from c.cells n 0) d.out) many d.marks)
+    made = grind (arith, all-cells, cells_from, many)
 
     cut : marked options places (marks_of (spans_of (runs_from siblings 0))) (before ++ slots) [] ≡ before ++ (c.front ++ d.out)
     cut =
@@ -100,29 +94,17 @@ spans-make options siblings before slots bytes quotes h =
 -- ## The pairs write the marks
 
 opening-wide : (k : SpanKind) → length (opening k) ≡ span_width k
-opening-wide Emphasis = refl
-opening-wide Strong = refl
-opening-wide SingleTilde = refl
-opening-wide DoubleTilde = refl
-opening-wide Caret = refl
-opening-wide DoubleEquals = refl
+opening-wide k = grind arith
 
 closing-wide : (k : SpanKind) → length (closing k) ≡ span_width k
-closing-wide Emphasis = refl
-closing-wide Strong = refl
-closing-wide SingleTilde = refl
-closing-wide DoubleTilde = refl
-closing-wide Caret = refl
-closing-wide DoubleEquals = refl
+closing-wide k = grind arith
 
 length-places : (at : ℕ) (cells : List Cell) → length (places_from at cells) ≡ length cells
 length-places at [] = refl
 length-places at (c ∷ cells) = ap suc (length-places (at + length (ItemSlot c.byte ∷ c.gap)) cells)
 
 places-taken : (siblings : Inline) (at : ℕ) (slots : List Slot) (bytes quotes : List ℕ) → LaysOut at siblings slots bytes quotes → length bytes ≡ places_taken (runs_from siblings 0)
-places-taken siblings at slots bytes quotes h =
-    let c = cells-of siblings at slots bytes quotes h in
-    ap length c.places_are ∙ length-places (at + length c.front) c.cells ∙ c.as_many ∙ sym (bytes-taken siblings 0)
+places-taken siblings at slots bytes quotes h = grind (arith, cells-of, length-places, bytes-taken)
 
 pub pairs-write : (siblings : Inline) (pairs : List Pair) (spans : Spans) → IsEmphasis (runs_from siblings 0) pairs spans
     → (at : ℕ) (slots : List Slot) (bytes quotes : List ℕ) → LaysOut at siblings slots bytes quotes → marks_by (length bytes) pairs ≡ marks_of spans
@@ -170,11 +152,7 @@ module _ (source : List ℕ) where
 
   -- the slots of spans, before others, give the events of the spans before those of the others
   pub slots-give : (spans : Inline) (slots rest : List Slot) (opened : List Ranged) → seen slots ≡ slots_of spans → slot_events source (slots ++ rest) opened ≡ inline_events source spans ++ slot_events source rest opened
-  slots-give spans slots rest opened h =
-      seen-events (slots ++ rest) opened
-      ∙ ap (λ l. slot_events source l opened) (seen-append slots rest ∙ ap (λ l. l ++ seen rest) h)
-      ∙ events-on spans (seen rest) opened
-      ∙ ap (λ l. inline_events source spans ++ l) (sym (seen-events rest opened))
+  slots-give spans slots rest opened h = cc (seen-events (slots ++ rest) opened, seen-append slots rest, events-on spans (seen rest) opened, seen-events rest opened)
 
   pub dressed-events : (options : Options) (siblings result : Inline) (d : IsDressedByRuns options siblings result) (slots : List Slot) (bytes quotes : List ℕ) → LaysOut 0 siblings slots bytes quotes
       → slot_events source (marked options bytes (marks_by (length bytes) d.pairs) (quoted quotes (quote_characters [] (quotes_of siblings)) slots) []) [] ≡ inline_events source result

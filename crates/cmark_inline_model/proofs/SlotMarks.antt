@@ -1,5 +1,5 @@
 -- Marks written into slots: their effect on the slots of their own bytes does not depend on the other slots.
-use Rattle.std.proofs.Common.{◌≡◌, ℕ, zero, suc, ◌+◌, ◌-◌, List, [], ◌∷◌, ◌++◌, length, set, get_or, refl, sym, ap, ◌∙◌, arith, append_assoc, append-nil, length-append, Option, Some, None}
+use Rattle.std.proofs.Common.{◌≡◌, ℕ, zero, suc, ◌+◌, ◌-◌, List, [], ◌∷◌, ◌++◌, length, set, get_or, refl, sym, ap, ◌∙◌, arith, append_assoc, append-nil, length-append, Option, Some, None, rules}
 use Rattle.cmark_grammar.specs.Items.{Own, Item}
 use Rattle.cmark_grammar.specs.Options.{Options}
 use Rattle.cmark_grammar.specs.Siblings.{item}
@@ -63,12 +63,7 @@ closed-append (Some t) s e m r z = ap (λ l. BeginSlot t s e ∷ l) (sym (append
 closed-append None s e m r z = ap (λ l. ItemSlot (item Own s e) ∷ l) (sym (append_assoc (nothings (suc (length m))) r z))
 
 length-closed : (t : Option Tag) (s e : ℕ) (m r : List Slot) → length (closed_by t s e m r) ≡ suc (length m + suc (length r))
-length-closed (Some t) s e m r = ap suc (length-append m (EndSlot ∷ r))
-length-closed None s e m r =
-    let a = length-append (nothings (suc (length m))) r in
-    let b = length-nothings (suc (length m)) in
-    let c : length (nothings (suc (length m)) ++ r) ≡ length m + suc (length r) = omega (arith, a, b) in
-    ap suc c
+length-closed t s e m r = grind (arith, length-append, length-nothings)
 
 -- the same lists, grouped in another way
 group_single : (a g x b : List Slot) (i : Slot) → (a ++ (i ∷ g)) ++ (x ++ b) ≡ a ++ ((i ∷ (g ++ x)) ++ b)
@@ -86,9 +81,6 @@ spanned-here : (t : Option Tag) (a m r : List Slot) (x y : Item) (s : List Slot)
     → spanned t p q s ≡ a ++ closed_by t x.start y.end m r
 spanned-here t a m r x y s p q e f h = go t
   where
-    front : List Slot
-    front = a ++ (ItemSlot x ∷ m)
-
     cut : s ≡ (a ++ (ItemSlot x ∷ m)) ++ (ItemSlot y ∷ r)
     cut = e ∙ sym (append_assoc a (ItemSlot x ∷ m) (ItemSlot y ∷ r))
 
@@ -115,17 +107,7 @@ spanned-here t a m r x y s p q e f h = go t
         ∙ append_assoc a (ItemSlot x ∷ []) (nothings (suc (length m)) ++ r)
 
     go : (t : Option Tag) → spanned t p q s ≡ a ++ closed_by t x.start y.end m r
-    go (Some tag) =
-        ap (λ n. set (set s q EndSlot) p (BeginSlot tag n (end_in (get_or s q NothingSlot)))) first
-        ∙ ap (λ n. set (set s q EndSlot) p (BeginSlot tag x.start n)) last
-        ∙ ap (λ l. set (set l q EndSlot) p (BeginSlot tag x.start y.end)) cut
-        ∙ ap (λ l. set l p (BeginSlot tag x.start y.end)) (set_here (a ++ (ItemSlot x ∷ m)) q (ItemSlot y) EndSlot r h ∙ append_assoc a (ItemSlot x ∷ m) (EndSlot ∷ r))
-        ∙ set_here a p (ItemSlot x) (BeginSlot tag x.start y.end) (m ++ (EndSlot ∷ r)) f
-    go None =
-        ap (λ n. set (used_up (suc p) (q - p) s) p (ItemSlot (item Own n (end_in (get_or s q NothingSlot))))) first
-        ∙ ap (λ n. set (used_up (suc p) (q - p) s) p (ItemSlot (item Own x.start n))) last
-        ∙ ap (λ l. set l p (ItemSlot (item Own x.start y.end))) blanks
-        ∙ set_here a p (ItemSlot x) (ItemSlot (item Own x.start y.end)) (nothings (suc (length m)) ++ r) f
+    go t = grind (arith, first, last, cut, set_here, append_assoc, blanks)
 
 module _ (options : Options) where
   -- these marks turn these cells into these slots, whatever the other slots are
@@ -188,30 +170,14 @@ module _ (options : Options) where
 
   -- a byte beside one that begins or ends a span becomes Nothing
   blank_marks : (c : Cell) → MarksMake (Blank ∷ []) (c ∷ []) (NothingSlot ∷ c.gap)
-  blank_marks c ds ms a b begun =
-      let now = a ++ (NothingSlot ∷ c.gap) in
-      ap (λ n. marked options (places_from n ds) ms (set (a ++ ((own c ++ []) ++ b)) (length a) NothingSlot) begun) (sym (length-append a (NothingSlot ∷ c.gap)))
-      ∙ ap (λ l. marked options (places_from (length now) ds) ms l begun)
-      (set_here a (length a) (ItemSlot c.byte) NothingSlot ((c.gap ++ []) ++ b) refl ∙ ap (λ l. a ++ (NothingSlot ∷ (l ++ b))) (append-nil c.gap))
+  blank_marks c ds ms a b begun = cc (length-append a (NothingSlot ∷ c.gap), set_here a (length a) (ItemSlot c.byte) NothingSlot ((c.gap ++ []) ++ b) refl, append-nil c.gap)
 
   -- marks one after the other
   marks_append : (m n : List Mark) (c d : List Cell) (v w : List Slot) → MarksMake m c v → MarksMake n d w → MarksMake (m ++ n) (c ++ d) (v ++ w)
-  marks_append m n c d v w h k ds ms a b begun =
-      ap (λ l. marked options (places_from (length a) l) ((m ++ n) ++ ms) (a ++ (flatten (c ++ d) ++ b)) begun) (append_assoc c d ds)
-      ∙ ap (λ l. marked options (places_from (length a) (c ++ (d ++ ds))) l (a ++ (flatten (c ++ d) ++ b)) begun) (append_assoc m n ms)
-      ∙ ap (λ l. marked options (places_from (length a) (c ++ (d ++ ds))) (m ++ (n ++ ms)) l begun)
-      (ap (λ l. a ++ (l ++ b)) (flatten-append c d) ∙ ap (λ l. a ++ l) (append_assoc (flatten c) (flatten d) b))
-      ∙ h (d ++ ds) (n ++ ms) a (flatten d ++ b) begun
-      ∙ ap (λ l. marked options (places_from (length (a ++ v)) (d ++ ds)) (n ++ ms) l begun) (sym (append_assoc a v (flatten d ++ b)))
-      ∙ k ds ms (a ++ v) b begun
-      ∙ ap (λ l. marked options (places_from (length l) ds) ms ((a ++ v) ++ (w ++ b)) begun) (append_assoc a v w)
-      ∙ ap (λ l. marked options (places_from (length (a ++ (v ++ w))) ds) ms l begun) (append_assoc a v (w ++ b) ∙ ap (λ l. a ++ l) (sym (append_assoc v w b)))
+  marks_append m n c d v w h k ds ms a b begun = grind (arith, append_assoc, flatten-append)
 
   -- a span of width 2: a blank after its start, and one before its end
   pub wide_marks : (k : SpanKind) (inside after : List Mark) (o p : Cell) (inner : List Cell) (c d : Cell) (others : List Cell) (w rest : List Slot) → MarksMake inside inner w → MarksMake after others rest
       → MarksMake (Begins k ∷ (((Blank ∷ []) ++ (inside ++ (Blank ∷ []))) ++ (Ends k ∷ after))) (o ∷ (((p ∷ []) ++ (inner ++ (c ∷ []))) ++ (d ∷ others)))
       (closed_by (span_tag options k) o.byte.start d.byte.end (o.gap ++ ((NothingSlot ∷ p.gap) ++ (w ++ (NothingSlot ∷ c.gap)))) (d.gap ++ rest))
-  wide_marks k inside after o p inner c d others w rest h j =
-      around_marks k ((Blank ∷ []) ++ (inside ++ (Blank ∷ []))) after o ((p ∷ []) ++ (inner ++ (c ∷ []))) d others ((NothingSlot ∷ p.gap) ++ (w ++ (NothingSlot ∷ c.gap))) rest
-      (marks_append (Blank ∷ []) (inside ++ (Blank ∷ [])) (p ∷ []) (inner ++ (c ∷ [])) (NothingSlot ∷ p.gap) (w ++ (NothingSlot ∷ c.gap)) (blank_marks p)
-      (marks_append inside (Blank ∷ []) inner (c ∷ []) w (NothingSlot ∷ c.gap) h (blank_marks c))) j
+  wide_marks k inside after o p inner c d others w rest h j = search (rules, around_marks, marks_append, blank_marks)

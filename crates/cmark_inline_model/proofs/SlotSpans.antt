@@ -1,13 +1,13 @@
 -- The marks of spans, written into the slots of the bytes of runs, make the slots of the siblings with these spans around them.
-use Rattle.std.proofs.Common.{◌≡◌, ℕ, zero, suc, ◌+◌, ◌-◌, List, [], ◌∷◌, ◌++◌, length, refl, sym, ap, ◌∙◌, subst, arith, append_assoc, append-nil, Option, Some, None}
-use Rattle.cmark_grammar.specs.Items.{Own, Item}
+use Rattle.std.proofs.Common.{◌≡◌, ℕ, zero, suc, ◌+◌, ◌-◌, List, [], ◌∷◌, ◌++◌, length, refl, sym, ap, ◌∙◌, subst, arith, append_assoc, append-nil, Option, rules}
+use Rattle.cmark_grammar.specs.Items.{Item}
 use Rattle.cmark_grammar.specs.Options.{Options}
-use Rattle.cmark_grammar.specs.Siblings.{Inline, Nil, append, item, element}
+use Rattle.cmark_grammar.specs.Siblings.{Inline, Nil, append, element}
 use Rattle.cmark_inline_model.specs.RunSpans.{dressed}
 use Rattle.cmark_grammar.specs.Spans as spans
-use Rattle.cmark_grammar.specs.Spans.{SpanKind, Emphasis, Strong, SingleTilde, DoubleTilde, Caret, DoubleEquals, Span, Spans, span_tag, span_width, TakePlaces}
+use Rattle.cmark_grammar.specs.Spans.{SpanKind, Span, Spans, span_tag, span_width, TakePlaces}
 use Rattle.cmark_grammar.specs.Tag.{Tag}
-use Rattle.cmark_inline_model.specs.SlotRows.{Slot, ItemSlot, BeginSlot, EndSlot, NothingSlot, seen, slots_of, Mark, Begins, Ends, Blank, opening, closing, marks_of, AreTight}
+use Rattle.cmark_inline_model.specs.SlotRows.{Slot, ItemSlot, NothingSlot, seen, slots_of, Mark, Begins, Ends, Blank, opening, closing, marks_of, AreTight}
 use Rattle.cmark_inline_model.proofs.SlotMarks.{Cell, closed_by, nothings, MarksMake, nil_marks, single_marks, around_marks, wide_marks}
 use Rattle.cmark_inline_model.proofs.SlotCells.{seen-append, seen-both, cell_at, byte_at, gap_at}
 
@@ -18,17 +18,12 @@ seen-nothings zero r = refl
 seen-nothings (suc n) r = seen-nothings n r
 
 seen-closed : (t : Option Tag) (s e : ℕ) (m r : List Slot) (d1 d2 : Inline) → seen m ≡ slots_of d1 → seen r ≡ slots_of d2 → seen (closed_by t s e m r) ≡ slots_of (element t s e d1 d2)
-seen-closed (Some t) s e m r d1 d2 h k =
-    ap (λ l. BeginSlot t s e ∷ l) (seen-append m (EndSlot ∷ r) ∙ ap (λ l. l ++ (EndSlot ∷ seen r)) h ∙ ap (λ l. slots_of d1 ++ (EndSlot ∷ l)) k)
-seen-closed None s e m r d1 d2 h k = ap (λ l. ItemSlot (item Own s e) ∷ l) (seen-nothings (suc (length m)) r ∙ k)
+seen-closed t s e m r d1 d2 h k = grind (arith, seen-append, seen-nothings)
 
 -- inside the bytes of a span of width 2: there is nothing beside the blanks on their outer side
 seen-between : (s0 s1 s2 s3 : List Slot) (g d : Inline) → seen s0 ≡ [] → seen s1 ≡ slots_of g → seen s2 ≡ slots_of d → seen s3 ≡ []
     → seen (s0 ++ ((NothingSlot ∷ s1) ++ (s2 ++ (NothingSlot ∷ s3)))) ≡ slots_of (append g d)
-seen-between s0 s1 s2 s3 g d h0 h1 h2 h3 =
-    seen-append s0 ((NothingSlot ∷ s1) ++ (s2 ++ (NothingSlot ∷ s3)))
-    ∙ ap (λ l. l ++ seen (s1 ++ (s2 ++ (NothingSlot ∷ s3)))) h0
-    ∙ seen-both g d s1 (s2 ++ (NothingSlot ∷ s3)) h1 (seen-append s2 (NothingSlot ∷ s3) ∙ ap (λ l. seen s2 ++ l) h3 ∙ append-nil (seen s2) ∙ h2)
+seen-between s0 s1 s2 s3 g d h0 h1 h2 h3 = grind (arith, seen-append, seen-both, append-nil)
 
 -- ## The marks of a span
 
@@ -38,10 +33,7 @@ thin-marks k mi ma o c =
 
 wide-ringed : (k : SpanKind) (mi ma : List Mark) → opening k ≡ Begins k ∷ (Blank ∷ []) → closing k ≡ Blank ∷ (Ends k ∷ [])
     → (opening k ++ (mi ++ closing k)) ++ ma ≡ Begins k ∷ (((Blank ∷ []) ++ (mi ++ (Blank ∷ []))) ++ (Ends k ∷ ma))
-wide-ringed k mi ma o c =
-    ap (λ l. (l ++ (mi ++ closing k)) ++ ma) o
-    ∙ ap (λ l. Begins k ∷ (Blank ∷ ((mi ++ l) ++ ma))) c
-    ∙ ap (λ l. Begins k ∷ (Blank ∷ l)) (append_assoc mi (Blank ∷ (Ends k ∷ [])) ma ∙ sym (append_assoc mi (Blank ∷ []) (Ends k ∷ ma)))
+wide-ringed k mi ma o c = cc (append_assoc mi (Blank ∷ (Ends k ∷ [])) ma, append_assoc mi (Blank ∷ []) (Ends k ∷ ma))
 
 -- ## Cells that are adjacent
 
@@ -101,13 +93,7 @@ module _ (options : Options) (gaps : List Inline) (bytes : List Item) (cells : L
 
   placed-is : (span : Span) (inside after : Spans) (first last i j : ℕ) → span.start ≡ first → span.end - 1 ≡ last → span.start + span_width span.kind ≡ i → span.end ≡ j
       → ringed span.kind first last i j inside after ≡ slots_of (inner (spans.Around span inside after))
-  placed-is span inside after first last i j a b c d =
-      ap (λ x. slots_of (element (span_tag options span.kind) x.start (at_cell last).byte.end (append (gap i) (inner inside)) (append (gap j) (inner after)))) (same_byte first)
-      ∙ ap (λ x. slots_of (element (span_tag options span.kind) (byte_at bytes first).start x.end (append (gap i) (inner inside)) (append (gap j) (inner after)))) (same_byte last)
-      ∙ ap (λ n. slots_of (element (span_tag options span.kind) (byte_at bytes n).start (byte_at bytes last).end (append (gap i) (inner inside)) (append (gap j) (inner after)))) (sym a)
-      ∙ ap (λ n. slots_of (element (span_tag options span.kind) (byte_at bytes span.start).start (byte_at bytes n).end (append (gap i) (inner inside)) (append (gap j) (inner after)))) (sym b)
-      ∙ ap (λ n. slots_of (element (span_tag options span.kind) (byte_at bytes span.start).start (byte_at bytes (span.end - 1)).end (append (gap n) (inner inside)) (append (gap j) (inner after)))) (sym c)
-      ∙ ap (λ n. slots_of (element (span_tag options span.kind) (byte_at bytes span.start).start (byte_at bytes (span.end - 1)).end (append (gap (span.start + span_width span.kind)) (inner inside)) (append (gap n) (inner after)))) (sym d)
+  placed-is span inside after first last i j a b c d = grind (arith, byte_at)
 
   thin-dressed : (span : Span) (inside after : Spans) (n m mid : ℕ) → span_width span.kind ≡ 1 → opening span.kind ≡ Begins span.kind ∷ [] → closing span.kind ≡ Ends span.kind ∷ []
       → span.start ≡ n → span.end ≡ mid + span_width span.kind → Dressed (n + span_width span.kind) inside mid → Dressed span.end after m → Dressed n (spans.Around span inside after) m
@@ -181,12 +167,7 @@ module _ (options : Options) (gaps : List Inline) (bytes : List Item) (cells : L
 
   around-dressed : (kind : SpanKind) (start end : ℕ) (inside after : Spans) (n m mid : ℕ) → (span_width kind ≡ 2 → IsEmpty (suc start) × IsEmpty (end - 1)) → start ≡ n → end ≡ mid + span_width kind
       → Dressed (n + span_width kind) inside mid → Dressed end after m → Dressed n (spans.Around (record { kind = kind; start = start; end = end }) inside after) m
-  around-dressed Emphasis start end inside after n m mid tight st en k l = thin-dressed (record { kind = Emphasis; start = start; end = end }) inside after n m mid refl refl refl st en k l
-  around-dressed Strong start end inside after n m mid tight st en k l = wide-dressed (record { kind = Strong; start = start; end = end }) inside after n m mid refl refl refl (tight refl) st en k l
-  around-dressed SingleTilde start end inside after n m mid tight st en k l = thin-dressed (record { kind = SingleTilde; start = start; end = end }) inside after n m mid refl refl refl st en k l
-  around-dressed DoubleTilde start end inside after n m mid tight st en k l = wide-dressed (record { kind = DoubleTilde; start = start; end = end }) inside after n m mid refl refl refl (tight refl) st en k l
-  around-dressed Caret start end inside after n m mid tight st en k l = thin-dressed (record { kind = Caret; start = start; end = end }) inside after n m mid refl refl refl st en k l
-  around-dressed DoubleEquals start end inside after n m mid tight st en k l = wide-dressed (record { kind = DoubleEquals; start = start; end = end }) inside after n m mid refl refl refl (tight refl) st en k l
+  around-dressed kind start end inside after n m mid tight st en k l = search (rules, thin-dressed, wide-dressed)
 
   pub all-dressed : (sp : Spans) (n m : ℕ) → AreTight IsEmpty sp → TakePlaces n sp m → Dressed n sp m
   all-dressed spans.Nil n m tight h = record { count = 0; places = (let e : n + 0 ≡ m = omega (arith, h) in e); out = []; marks = nil_marks options; seen_is = refl }

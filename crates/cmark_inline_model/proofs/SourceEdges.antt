@@ -1,15 +1,14 @@
 -- If the source is UTF-8 and the stretches of a leaf begin and end at character boundaries, so do its tokens.
-use Rattle.std.specs.Prelude.{suc, zero, ◌-◌, ◌==◌, ◌||◌, ◌&&◌, not, nat_lt, max, if◌then◌else◌, is_none, get_or, drop, take, IsUtf8}
+use Rattle.std.specs.Prelude.{suc, zero, ◌-◌, ◌==◌, ◌||◌, ◌&&◌, max, if◌then◌else◌, is_none, get_or, drop, take, IsUtf8}
 use Rattle.std.specs.Str.{IsCharBoundary}
-use Rattle.std.proofs.Common.{◌≡◌, ◌⊎◌, inl, inr, ◌<◌, ◌≤◌, ◌+◌, ℕ, Bool, true, false, List, [], ◌∷◌, length, Option, Some, None, refl, sym, ap, ◌∙◌, subst, arith, length-drop, drop-drop, eqb-true, true≢false}
+use Rattle.std.proofs.Common.{◌≡◌, ◌⊎◌, inl, inr, ◌<◌, ◌≤◌, ◌+◌, ℕ, Bool, true, false, List, [], ◌∷◌, length, Option, Some, None, refl, sym, ap, ◌∙◌, subst, arith, length-drop, drop-drop, eqb-true, rules}
 use Rattle.std.proofs.lemmas.Bool.{ltb-true, ltb-false}
 use Rattle.std.proofs.lemmas.List.{get_or-drop, length-take}
 use Rattle.std.proofs.lemmas.Str.{IsCharBoundary-after_ascii, IsCharBoundary-before_ascii, IsCharBoundary-end, IsCharBoundary-start, IsUtf8-append, IsUtf8-between, IsUtf8-nil}
 use Rattle.cmark_grammar.specs.Autolinks.{autolink_in}
 use Rattle.cmark_grammar.specs.InlineHtml.{after_markup, takes_lines}
-use Rattle.cmark_grammar.specs.InlineTokens.{item_at, from, place_of, read_on, size_to, source_from, autolink_or, markup_or, tag_or_text, less_than, begins, begins_at, longest, plain_end, token}
-use Rattle.cmark_grammar.specs.Items as items
-use Rattle.cmark_grammar.specs.Items.{ItemKind, Plain, Own, Delimiters, Autolink, Html, OwnedHtml, Bracket, Token, Stands, Opens, Closes, Ends}
+use Rattle.cmark_grammar.specs.InlineTokens.{item_at, from, place_of, read_on, size_to, source_from, autolink_or, markup_or, tag_or_text, less_than, begins, begins_at, longest, token}
+use Rattle.cmark_grammar.specs.Items.{ItemKind, Plain, Delimiters, Autolink, Html, OwnedHtml, Bracket, Token, Stands, Opens, Closes, Ends}
 use Rattle.cmark_grammar.specs.LeafText.{Stretch, Leaf, InTurn, bytes_from, end_of, place_with, size_of}
 use Rattle.cmark_grammar.specs.Letters.{first_is}
 use Rattle.cmark_grammar.specs.Lines.{is_content}
@@ -34,20 +33,11 @@ AreEdges source [] = Unit {0}
 AreEdges source (s ∷ more) = IsCharBoundary source s.start × IsCharBoundary source s.end × AreEdges source more
 
 le_or : (a b : ℕ) → (a ≤ b) ⊎ (b < a)
-le_or a b = go (nat_lt b a) refl
-  where
-    go : (x : Bool) → nat_lt b a ≡ x → (a ≤ b) ⊎ (b < a)
-    go true e = inr (ltb-true b a e)
-    go false e = inl (ltb-false b a e)
+le_or a b = grind (arith, ltb-true, ltb-false)
 
 -- a byte that ends a line is ASCII
 ends-low : (b : ℕ) → is_content b ≡ false → b < 128
-ends-low b c = by (b == 10) (b == 13) refl refl c
-  where
-    by : (x y : Bool) → (b == 10) ≡ x → (b == 13) ≡ y → (not x && not y) ≡ false → b < 128
-    by true y p q c = let z = eqb-true b 10 p in omega arith
-    by false true p q c = let z = eqb-true b 13 q in omega arith
-    by false false p q c = absurd (true≢false c)
+ends-low b c = grind (arith, eqb-true)
 
 stretches-utf8 : (source : List ℕ) (from : ℕ) (stretches : List Stretch) (size : ℕ) → IsUtf8 source → InTurn from stretches size → AreEdges source stretches → IsUtf8 (bytes_from source stretches 0)
 stretches-utf8 source from [] size utf8 t e = IsUtf8-nil
@@ -116,10 +106,7 @@ module _ (reader : Reader) (leaf : Leaf) (at : IsPlaced reader leaf) (utf8 : IsU
         where
           last : Edge (place (length text))
           last = subst Edge (ap (λ n. place_with n leaf.stretches) (let d = length-drop (length text) text in let q : 0 ≡ length (drop (length text) text) = omega arith in q)) (end-edge reader.source leaf.stretches utf8 edges)
-      go (inr lt) =
-          let i = h.inside k lt in
-          let same = h.bytes k lt in
-          (omega arith, λ inside high. subst (λ c. 192 ≤ c) (sym same) (e.1 lt (subst (λ c. 128 ≤ c) same high)))
+      go (inr lt) = search rules
 
   pub at-edge : (p : ℕ) → At p → Edge p
   at-edge p a = subst Edge (sym a.is) (place-edge a.k a.edge)
@@ -190,16 +177,10 @@ module _ (reader : Reader) (leaf : Leaf) (at : IsPlaced reader leaf) (utf8 : IsU
       go (inl le) = subst TextEdge (let w = p.within in let q : length text ≡ count = omega arith in q) (IsCharBoundary-end text)
       go (inr lt) = by (le_or (place count) x)
         where
-          following : x ≤ place count
-          following = p.later count (omega arith) lt
-
           first : (c : ℕ) → count ≡ c → x < place count → TextEdge count
           first zero e less = subst TextEdge (sym e) (IsCharBoundary-start text whole-text)
           first (suc c) e less = kind (is_content (get_or text c 0)) refl
             where
-              earlier : place c < x
-              earlier = p.earlier c (omega arith)
-
               kind : (z : Bool) → is_content (get_or text c 0) ≡ z → TextEdge count
               kind true q =
                   let n = h.places.next c (omega arith) q in
@@ -278,17 +259,7 @@ module _ (reader : Reader) (leaf : Leaf) (at : IsPlaced reader leaf) (utf8 : IsU
 
   placed-whole : (t : Token) → TextWhole t → Whole (placed place t)
   placed-whole Ends w = tt
-  placed-whole (Opens o) w =
-      let s = w.2 in
-      let next = h.places.next o.start s.0 s.1.content in (
-        record {
-          starts = place-edge o.start w.0;
-          ends = place-edge o.end w.1;
-          first = following-ascii (place o.start) (ascii-there o.start s.0 s.1.ascii);
-          short = λ e. ap place (w.4 e) ∙ next;
-        },
-        record { k = o.end; within = w.1.0; edge = w.1; is = refl },
-      )
+  placed-whole (Opens o) w = grind (arith, place-edge, following-ascii, ascii-there)
   placed-whole (Closes c) w = (place-edge c.start w.0, place-edge c.end w.1, record { k = c.end; within = w.1.0; edge = w.1; is = refl })
   placed-whole (Stands x resume) w =
       (place-edge x.start w.0, end-place x.end w.1 w.2, record { k = resume; within = w.3.0; edge = w.3; is = refl }, bytes x.kind w.4)
@@ -296,18 +267,7 @@ module _ (reader : Reader) (leaf : Leaf) (at : IsPlaced reader leaf) (utf8 : IsU
       bytes : (kind : ItemKind) → texts.Bytes reader.options reader.lookup leaf.is_cell text whole-text kind x.start x.end → Bytes kind (place x.start) (suc (place (x.end - 1)))
       bytes (Delimiters run) b = words-there x.start x.end w.1 w.2.0 w.0.0 b
       bytes (Autolink uri) b = (ascii-there x.start b.0.0 b.0.1, subst Ascii (let q : place (x.end - 1) ≡ suc (place (x.end - 1)) - 1 = omega arith in q) (ascii-there (x.end - 1) b.1.0 b.1.1))
-      bytes Plain b = tt
-      bytes Own b = tt
-      bytes (items.Written t) b = tt
-      bytes (items.Quoted quote) b = tt
-      bytes (items.Code t) b = tt
-      bytes (items.InlineMath t) b = tt
-      bytes (items.DisplayMath t) b = tt
-      bytes Html b = tt
-      bytes (OwnedHtml t) b = tt
-      bytes (items.FootnoteReference label) b = tt
-      bytes items.SoftBreak b = tt
-      bytes items.HardBreak b = tt
+      bytes _ b = tt
 
   -- ## Where markup may open that is searched in the source
 
@@ -328,9 +288,6 @@ module _ (reader : Reader) (leaf : Leaf) (at : IsPlaced reader leaf) (utf8 : IsU
 
     start : Edge (place k)
     start = place-edge k edge
-
-    first-ascii : Ascii (place k)
-    first-ascii = ascii-there k inside-text (let e = byte in omega arith)
 
     second : At (suc (place k))
     second =
@@ -404,11 +361,7 @@ module _ (reader : Reader) (leaf : Leaf) (at : IsPlaced reader leaf) (utf8 : IsU
       where
         slash : (l : List ℕ) → first_is (λ c. (c == 33) || (c == 63)) l ≡ true → first_is (λ c. c == 92) l ≡ false
         slash [] e = cc
-        slash (c ∷ l) e = go (or-either (c == 33) (c == 63) e)
-          where
-            go : ((c == 33) ≡ true) ⊎ ((c == 63) ≡ true) → (c == 92) ≡ false
-            go (inl f) = subst (λ d. (d == 92) ≡ false) (sym (eqb-true c 33 f)) refl
-            go (inr f) = subst (λ d. (d == 92) ≡ false) (sym (eqb-true c 63 f)) refl
+        slash (c ∷ l) e = grind (arith, or-either, eqb-true)
 
   -- ## All tokens
 
@@ -422,10 +375,7 @@ module _ (reader : Reader) (leaf : Leaf) (at : IsPlaced reader leaf) (utf8 : IsU
   stays-token q n w = go (begins_at reader leaf q) n w
     where
       go : (t : Token) → NotPlain reader leaf t → Whole t → Whole (longest reader leaf t)
-      go (Stands x resume) n w = subst (λ z. Whole (if z then item_at Plain x.start (plain_end reader leaf (length (from reader leaf resume)) resume) else Stands x resume)) (sym n) w
-      go (Opens o) n w = w
-      go (Closes c) n w = w
-      go Ends n w = w
+      go t n w = grind arith
 
   markup-token : (k : ℕ) → k ≤ length text → TextEdge k → (l : List ℕ) → drop k text ≡ l → may_open_markup reader.options.email_autolinks l ≡ true → Whole (token reader leaf (place k))
   markup-token k within edge [] e m = cc

@@ -1,30 +1,29 @@
 -- The cost of the references of a leaf: in its spans and events at most that in its parts, and in the same order.
 use Rattle.std.specs.Prelude.{zero, suc, ◌-◌, ◌==◌, nat_le, if◌then◌else◌, max, get_or, drop}
-use Rattle.std.proofs.Common.{◌≡◌, ℕ, ◌+◌, ◌<◌, ◌≤◌, Bool, true, false, List, [], ◌∷◌, ◌++◌, length, Option, Some, None, refl, sym, ap, subst, arith, ◌∙◌, append_assoc, append-nil}
-use Rattle.cmark_grammar.specs.Autolinks.{has_scheme}
+use Rattle.std.proofs.Common.{◌≡◌, ℕ, ◌+◌, ◌<◌, ◌≤◌, Bool, true, false, List, [], ◌∷◌, ◌++◌, length, Option, Some, None, refl, sym, ap, subst, arith, ◌∙◌, append_assoc, append-nil, rules}
 use Rattle.cmark_grammar.specs.BracketDecisions.{linked as leading}
 use Rattle.cmark_grammar.specs.Emphasis.{StandFrom, places_taken}
 use Rattle.cmark_inline_model.specs.EmphasisModel.{spans_of}
 use Rattle.cmark_grammar.specs.Event.{Start, End, Ranged}
 use Rattle.cmark_grammar.specs.InlineReading.{inline_events, over}
 use Rattle.cmark_grammar.specs.Items.{ItemKind, Own, Item}
-use Rattle.cmark_grammar.specs.LinkType.{Autolink, Email, WikiLink}
+use Rattle.cmark_grammar.specs.LinkType.{WikiLink}
 use Rattle.cmark_grammar.specs.Options.{Options}
 use Rattle.cmark_grammar.specs.Parts.{Parts, Nil as NoParts, Single as SinglePart, Form, Closing, Opening, Linking, Footnote, Wiki}
 use Rattle.cmark_grammar.specs.Quotes.{quote_characters}
-use Rattle.cmark_grammar.specs.Siblings.{Inline, Nil, Single, Around, append, item, quotes_of, quote_as, with_characters, with_quotes, element, item_then, footnote_then, tag_by, wiki_tag, from_place, display_from, address_link}
+use Rattle.cmark_grammar.specs.Siblings.{Inline, Nil, Single, Around, append, item, quotes_of, with_characters, with_quotes, element, item_then, footnote_then, tag_by, wiki_tag, from_place, display_from, address_link}
 use Rattle.cmark_inline_model.specs.RunSpans.{run_then, runs_from, run_bytes, put_gap, no_gaps, gap_then, gaps_of, no_item, dressed}
 use Rattle.cmark_inline_model.specs.SiblingsModel.{dress, siblings_of, spans_in}
 use Rattle.cmark_grammar.specs.Spans as spans
-use Rattle.cmark_grammar.specs.Spans.{SpanKind, Emphasis, Strong, SingleTilde, DoubleTilde, Caret, DoubleEquals, span_tag, span_width, Spans, TakePlaces}
+use Rattle.cmark_grammar.specs.Spans.{SpanKind, span_tag, span_width, Spans, TakePlaces}
 use Rattle.cmark_grammar.specs.Tag.{Tag, Linked}
 use Rattle.cmark_grammar.specs.TagEnd.{end_of}
 use Rattle.cmark_inline_model.proofs.SpanPlaces.{places}
-use Rattle.cmark_inline_model.specs.ReferenceExpansion.{cost_as, costs}
+use Rattle.cmark_inline_model.specs.ReferenceExpansion.{costs}
 use Rattle.cmark_inline_model.specs.ReadingLinks.{LinkEvent, Begins, of_tag, own_cost, costs_by, reference_costs}
 use Rattle.cmark_inline_model.proofs.CostLists.{Fewer, fewer-same, fewer-then, fewer-following, fewer-both}
 use Rattle.cmark_inline_model.proofs.KindViews.{KindView, AQuote, ARun, AnAutolink, AText, kind-view}
-use Rattle.cmark_inline_model.proofs.LinkSpans.{TagView, ALink, NoLink, tag-view, span-neither, item-neither}
+use Rattle.cmark_inline_model.proofs.LinkSpans.{TagView, tag-view, span-neither, item-neither}
 use Rattle.cmark_inline_model.proofs.SpanElements.{quoted_then, other_then}
 
 abbrev pub begun_cost : LinkEvent → List ℕ
@@ -42,10 +41,7 @@ runs-stand (Around tag start end inside after) n = runs-stand after n
 runs-stand (Single x after) n = go (λ m. runs-stand after m) x.kind (kind-view x.kind)
   where
     go : ((m : ℕ) → StandFrom m (runs_from after m)) → (kind : ItemKind) → KindView kind → StandFrom n (run_then n kind (runs_from after))
-    go i _ (AQuote quote) = i n
-    go i _ (ARun run) = (refl, refl, i (n + run.run_length))
-    go i _ (AnAutolink uri) = i n
-    go i _ (AText kind t) = subst (StandFrom n) (sym (t.run n (runs_from after))) (i n)
+    go i kind h = grind arith
 
 put_size : (put : Inline → Inline) (gaps : List Inline) (m : ℕ) → length gaps ≡ suc m → length (put_gap put gaps) ≡ suc m
 put_size put [] m e = cc
@@ -65,9 +61,7 @@ gaps_size (Single x after) n = go (λ m. gaps_size after m) x.kind (kind-view x.
 
     go : ((m : ℕ) → length (gaps_of after) ≡ suc (places_taken (runs_from after m))) → (kind : ItemKind) → KindView kind
         → length (gap_then kind x (gaps_of after)) ≡ suc (places_taken (run_then n kind (runs_from after)))
-    go i _ (ARun run) = let e = i (n + run.run_length) in let f = none_size run.run_length (gaps_of after) in omega arith
-    go i _ (AText kind t) = ap length (t.gap x (gaps_of after)) ∙ put (i n) ∙ ap (λ ss. suc (places_taken ss)) (sym (t.run n (runs_from after)))
-    go i _ _ = put (i n)
+    go i kind h = grind (arith, none_size, put)
 
 pub takes-up : (f : Spans) (n m : ℕ) → TakePlaces n f m → n ≤ m
 takes-up spans.Nil n m h = omega (arith, h)
@@ -76,12 +70,7 @@ takes-up (spans.Around span inside after) n m h =
     let i = takes-up inside (n + span_width span.kind) h.mid h.inside in let j = takes-up after span.end m h.after in let e = h.end in omega arith
 
 pub width-some : (kind : SpanKind) → 0 < span_width kind
-width-some Emphasis = omega arith
-width-some Strong = omega arith
-width-some SingleTilde = omega arith
-width-some DoubleTilde = omega arith
-width-some Caret = omega arith
-width-some DoubleEquals = omega arith
+width-some kind = grind arith
 
 -- ## What elements are priced at
 
@@ -120,14 +109,7 @@ module _ (priced : Tag → (end : ℕ) → List ℕ) (price : Linked → (end : 
   costs_quoted : (siblings : Inline) (cs : List ℕ) → priced_in (with_characters siblings cs) ≡ priced_in siblings
   costs_quoted Nil cs = refl
   costs_quoted (Around tag start end inside after) cs = ap (λ l. priced_in inside ++ (priced tag end ++ l)) (costs_quoted after cs)
-  costs_quoted (Single x after) cs = go (costs_quoted after (drop 1 cs)) (costs_quoted after cs) x.kind (kind-view x.kind)
-    where
-      go : priced_in (with_characters after (drop 1 cs)) ≡ priced_in after → priced_in (with_characters after cs) ≡ priced_in after → (kind : ItemKind) → KindView kind
-          → priced_in (quote_as (quoted_then x after) (other_then x after) kind cs) ≡ priced_in after
-      go quoted other _ (AQuote quote) = quoted
-      go quoted other _ (ARun run) = other
-      go quoted other _ (AnAutolink uri) = other
-      go quoted other _ (AText kind t) = ap priced_in (t.quote (quoted_then x after) (other_then x after) cs) ∙ other
+  costs_quoted (Single x after) cs = search (rules, kind-view, quoted_then, other_then, costs_quoted after (drop 1 cs), costs_quoted after cs)
 
   abbrev gathered : List Inline → List ℕ
   gathered [] = []
@@ -149,13 +131,7 @@ module _ (priced : Tag → (end : ℕ) → List ℕ) (price : Linked → (end : 
   gathered_gaps Nil = refl
   gathered_gaps (Around tag start end inside after) =
       gathered_around tag start end inside (gaps_of after) ∙ ap (λ l. priced_in inside ++ (priced tag end ++ l)) (gathered_gaps after)
-  gathered_gaps (Single x after) = go (gathered_gaps after) x.kind (kind-view x.kind)
-    where
-      go : gathered (gaps_of after) ≡ priced_in after → (kind : ItemKind) → KindView kind → gathered (gap_then kind x (gaps_of after)) ≡ priced_in after
-      go i _ (AQuote quote) = gathered_single x (gaps_of after) ∙ i
-      go i _ (ARun run) = gathered_none run.run_length (gaps_of after) ∙ i
-      go i _ (AnAutolink uri) = gathered_single x (gaps_of after) ∙ i
-      go i _ (AText kind t) = ap gathered (t.gap x (gaps_of after)) ∙ gathered_single x (gaps_of after) ∙ i
+  gathered_gaps (Single x after) = grind (arith, kind-view, gathered_single, gathered_none, gathered_gaps after)
 
   -- ## Spans
 
@@ -176,9 +152,7 @@ module _ (priced : Tag → (end : ℕ) → List ℕ) (price : Linked → (end : 
 
     -- a gap with some spans after it
     gap_then_spans : (n k : ℕ) (f : Inline) → Fewer (priced_in f) (some_gaps (suc n) k) → Fewer (priced_in (append (get_or gaps n Nil) f)) (some_gaps n (suc k))
-    gap_then_spans n k f h =
-        subst (λ l. Fewer l (some_gaps n (suc k))) (sym (costs_append (get_or gaps n Nil) f))
-        (fewer-both (priced_in (get_or gaps n Nil)) (priced_in (get_or gaps n Nil)) (priced_in f) (some_gaps (suc n) k) (fewer-same (priced_in (get_or gaps n Nil))) h)
+    gap_then_spans n k f h = search (rules, costs_append, fewer-both, fewer-same)
 
     element_costs : (kind : SpanKind) (start end : ℕ) (inside after : Inline) (first second : List ℕ) → Fewer (priced_in inside) first → Fewer (priced_in after) second
         → Fewer (priced_in (element (span_tag options kind) start end inside after)) (first ++ second)
@@ -216,13 +190,7 @@ module _ (priced : Tag → (end : ℕ) → List ℕ) (price : Linked → (end : 
         let e : suc n + (w - 1) ≡ n + w = omega arith in
         let f : (n + w) + suc a ≡ suc h.mid = omega arith in
         let g : suc h.mid + (w - 1) ≡ span.end = omega arith in
-        let split : some_gaps (suc n) (m - n) ≡ some_gaps (suc n) (w - 1) ++ (some_gaps (n + w) (suc a) ++ (some_gaps (suc h.mid) (w - 1) ++ some_gaps span.end (suc b))) =
-        ap (some_gaps (suc n)) counts
-        ∙ gaps_split (w - 1) (suc a + ((w - 1) + suc b)) (suc n)
-        ∙ ap (λ k. some_gaps (suc n) (w - 1) ++ some_gaps k (suc a + ((w - 1) + suc b))) e
-        ∙ ap (λ l. some_gaps (suc n) (w - 1) ++ l) (gaps_split (suc a) ((w - 1) + suc b) (n + w) ∙ ap (λ k. some_gaps (n + w) (suc a) ++ some_gaps k ((w - 1) + suc b)) f)
-        ∙ ap (λ l. some_gaps (suc n) (w - 1) ++ (some_gaps (n + w) (suc a) ++ l))
-        (gaps_split (w - 1) (suc b) (suc h.mid) ∙ ap (λ k. some_gaps (suc h.mid) (w - 1) ++ some_gaps k (suc b)) g) in
+        let split : some_gaps (suc n) (m - n) ≡ some_gaps (suc n) (w - 1) ++ (some_gaps (n + w) (suc a) ++ (some_gaps (suc h.mid) (w - 1) ++ some_gaps span.end (suc b))) = cc (gaps_split (w - 1) (suc a + ((w - 1) + suc b)) (suc n), gaps_split (suc a) ((w - 1) + suc b) (n + w), gaps_split (w - 1) (suc b) (suc h.mid)) in
         let whole =
         element_costs span.kind (get_or bytes span.start no_item).start (get_or bytes (span.end - 1) no_item).end
         (append (get_or gaps (span.start + w) Nil) (dressed options gaps bytes inside))
@@ -266,17 +234,11 @@ module _ (priced : Tag → (end : ℕ) → List ℕ) (price : Linked → (end : 
 
     from_costs : (place : ℕ) (siblings : Inline) → Fewer (priced_in (from_place place siblings)) (priced_in siblings)
     from_costs place Nil = fewer-same []
-    from_costs place (Single x after) = go (nat_le x.end place) (from_costs place after)
-      where
-        go : (b : Bool) → Fewer (priced_in (from_place place after)) (priced_in after) → Fewer (priced_in (if b then from_place place after else Single (item x.kind (max x.start place) x.end) after)) (priced_in after)
-        go true i = i
-        go false i = fewer-same (priced_in after)
+    from_costs place (Single x after) = grind (arith, fewer-same, from_costs place after)
     from_costs place (Around tag start end inside after) = go (nat_le end place) (from_costs place after)
       where
         go : (b : Bool) → Fewer (priced_in (from_place place after)) (priced_in after) → Fewer (priced_in (if b then from_place place after else Around tag (max start place) end inside after)) (priced_in (Around tag start end inside after))
-        go true i =
-            fewer-following (priced_in inside) (priced_in (from_place place after)) (priced tag end ++ priced_in after)
-            (fewer-following (priced tag end) (priced_in (from_place place after)) (priced_in after) i)
+        go true i = search (rules, fewer-following)
         go false i = fewer-same (priced_in (Around tag start end inside after))
 
     display_costs : (place end : ℕ) (siblings : Inline) → Fewer (priced_in (display_from place end siblings)) (priced_in siblings)
@@ -331,23 +293,10 @@ own_price linked end = own_cost linked
 
 -- an autolink costs nothing
 pub address-free : (address : List ℕ) → own_cost (address_link address) ≡ []
-address-free address = go (has_scheme address)
-  where
-    go : (z : Bool) → cost_as (if z then Autolink else Email) (length address + 0) ≡ []
-    go true = refl
-    go false = refl
+address-free address = grind arith
 
 pub own_is_priced : IsPriced own_priced own_price
-own_is_priced = record {
-  span = λ options kind tag end e. ap begun_cost (span-neither options kind tag e);
-  linked = by;
-  autolink = λ uri end. address-free uri;
-  wiki = λ name has_pothole end. refl;
-}
-  where
-    by : (is_image : Bool) (linked : Linked) (end : ℕ) → begun_cost (of_tag (tag_by is_image linked)) ≡ own_cost linked
-    by true linked end = refl
-    by false linked end = refl
+own_is_priced = grind (arith, span-neither, address-free)
 
 -- in the order in which the elements end
 abbrev pub costs_in : Inline → List ℕ
@@ -387,17 +336,4 @@ events-costs source (Around t start end inside after) begun rest =
     go : ((up : List (List ℕ)) → reference_costs up (inline_events source inside ++ more) ≡ costs_in inside ++ reference_costs up more)
         → reference_costs begun (inline_events source after ++ rest) ≡ costs_in after ++ reference_costs begun rest → TagView t
         → costs_by (of_tag t) begun (λ up. reference_costs up (inline_events source inside ++ more)) ≡ (costs_in inside ++ (begun_cost (of_tag t) ++ costs_in after)) ++ reference_costs begun rest
-    go inner others (NoLink e f) =
-        ap (λ l. costs_by l begun (λ up. reference_costs up (inline_events source inside ++ more))) e
-        ∙ inner begun
-        ∙ ap (λ l. costs_in inside ++ costs_by l begun (λ up. reference_costs up (inline_events source after ++ rest))) f
-        ∙ ap (λ l. costs_in inside ++ l) others
-        ∙ sym (three (costs_in inside) [] (costs_in after) (reference_costs begun rest))
-        ∙ ap (λ l. (costs_in inside ++ (begun_cost l ++ costs_in after)) ++ reference_costs begun rest) (sym e)
-    go inner others (ALink is_image linked e f) =
-        ap (λ l. costs_by l begun (λ up. reference_costs up (inline_events source inside ++ more))) e
-        ∙ inner (own_cost linked ∷ begun)
-        ∙ ap (λ l. costs_in inside ++ costs_by l (own_cost linked ∷ begun) (λ up. reference_costs up (inline_events source after ++ rest))) f
-        ∙ ap (λ l. costs_in inside ++ (own_cost linked ++ l)) others
-        ∙ sym (three (costs_in inside) (own_cost linked) (costs_in after) (reference_costs begun rest))
-        ∙ ap (λ l. (costs_in inside ++ (begun_cost l ++ costs_in after)) ++ reference_costs begun rest) (sym e)
+    go inner others h = grind (arith, more, three)

@@ -1,30 +1,27 @@
 -- If the source is UTF-8, the spans of a leaf, and the events of a text, begin and end at character boundaries.
-use Rattle.std.specs.Prelude.{zero, suc, ◌-◌, ◌==◌, nat_le, max, get_or, drop, encode_utf8, if◌then◌else◌, IsUtf8}
+use Rattle.std.specs.Prelude.{zero, suc, ◌-◌, max, get_or, drop, encode_utf8, if◌then◌else◌, IsUtf8}
 use Rattle.std.specs.Str.{IsCharBoundary}
-use Rattle.std.proofs.Common.{◌≡◌, ℕ, ◌+◌, ◌<◌, ◌≤◌, Bool, true, false, List, [], ◌∷◌, ◌++◌, length, Option, Some, None, refl, sym, ap, subst, arith, ◌∙◌}
+use Rattle.std.proofs.Common.{◌≡◌, ℕ, ◌+◌, ◌<◌, ◌≤◌, Bool, true, false, List, [], ◌∷◌, ◌++◌, length, Option, Some, None, refl, sym, ap, subst, arith, ◌∙◌, rules}
 use Rattle.std.proofs.lemmas.Str.{IsCharBoundary-start}
 use Rattle.cmark_grammar.specs.BlockDocument.{BlockDocument, BlockNode, Nil as NoNodes, Node}
-use Rattle.cmark_grammar.specs.BlockReading.{Reads as ReadsAs, Around as AroundNode, Inside, First, first_event, is_leaf, over, read_as, starts_before}
-use Rattle.cmark_inline_model.specs.EmphasisModel.{spans_of}
-use Rattle.cmark_grammar.specs.Event.{End, Ranged}
+use Rattle.cmark_grammar.specs.BlockReading.{Reads as ReadsAs, First, first_event, is_leaf, over, read_as, starts_before}
+use Rattle.cmark_grammar.specs.Event.{Ranged}
 use Rattle.cmark_grammar.specs.InlineReading.{inline_events}
-use Rattle.cmark_grammar.specs.Items.{ItemKind, Plain, Own, Written, Quoted, Delimiters, Code, InlineMath, DisplayMath, Autolink, Html, OwnedHtml, FootnoteReference, SoftBreak, HardBreak, Item}
+use Rattle.cmark_grammar.specs.Items.{ItemKind, Written, Delimiters, Autolink, Item}
 use Rattle.cmark_grammar.specs.LeafReading.{Between, entering, ReadsLeaf}
-use Rattle.cmark_grammar.specs.LeafText.{InTurn, Leaf, Stretch, begin_of, place_with, size_of}
+use Rattle.cmark_grammar.specs.LeafText.{InTurn, Leaf, Stretch, begin_of, size_of}
 use Rattle.cmark_grammar.specs.Options.{Options}
 use Rattle.cmark_grammar.specs.Parts.{Parts, Nil as NoParts, Single as SinglePart, Form, Closing, Opening, Linking, Footnote, Wiki}
 use Rattle.cmark_grammar.specs.Questions.{Exchange, IsNext, Saying}
-use Rattle.cmark_grammar.specs.Quotes.{quote_characters}
 use Rattle.cmark_block_model.specs.Ranges.{AllAt}
 use Rattle.cmark_grammar.specs.Readers.{Reader}
-use Rattle.cmark_grammar.specs.Siblings.{Inline, Nil, Single, Around, append, item, quotes_of, quote_as, with_characters, with_quotes, element, item_then, footnote_then, from_place, display_from}
-use Rattle.cmark_inline_model.specs.RunSpans.{runs_from, bytes_then, run_bytes_then, run_bytes, put_gap, no_gaps, gap_then, gaps_of, no_item, dressed}
+use Rattle.cmark_grammar.specs.Siblings.{Inline, Nil, Single, Around, append, item, quote_as, with_characters, element, item_then, footnote_then, from_place, display_from}
+use Rattle.cmark_inline_model.specs.RunSpans.{bytes_then, run_bytes, put_gap, no_gaps, gaps_of, no_item, dressed}
 use Rattle.cmark_inline_model.specs.SiblingsModel.{dress, siblings_of, spans_in}
 use Rattle.cmark_grammar.specs.SpanDocuments.{Content, Given, IsReading, Profile, ReadsAll, Segment, at_start, first_of_segments, inside_of, leaf_of, node_segments, reader_of, segments, stretches_of, with_first_segment}
 use Rattle.cmark_grammar.specs.Spans as spans
 use Rattle.cmark_grammar.specs.Spans.{span_tag, span_width, Spans}
 use Rattle.cmark_grammar.specs.Tag.{Tag}
-use Rattle.cmark_grammar.specs.TagEnd.{end_of as end_of_tag}
 use Rattle.cmark_block_model.proofs.BoundaryLaws.{derived-boundaries}
 use Rattle.cmark_inline_model.specs.CharacterRanges.{CutNoCharacter, HaveRanges}
 use Rattle.cmark_inline_model.specs.CutRanges.{IsAfterPipe}
@@ -47,11 +44,7 @@ use Rattle.cmark_inline_model.proofs.TokenPlaces.{IsPlace}
 
 -- a place that holds of two holds of the greater
 max-of : (P : ℕ → Type 0) (a b : ℕ) → P a → P b → P (max a b)
-max-of P a b p q = go (nat_le a b) refl
-  where
-    go : (z : Bool) → nat_le a b ≡ z → P (max a b)
-    go true e = subst P (let l : a ≤ b = grind (arith) in let m : b ≡ max a b = omega arith in m) q
-    go false e = subst P (let l : b < a = grind (arith) in let m : a ≡ max a b = omega arith in m) p
+max-of P a b p q = grind arith
 
 module _ (Edge : ℕ → Type 0) (Ascii : ℕ → Type 0) (at-ascii : (i : ℕ) → Ascii i → Edge i) (following-ascii : (i : ℕ) → Ascii i → Edge (suc i)) (at-start : Edge 0) where
   -- both ends of each item and of each element are such places
@@ -82,20 +75,7 @@ module _ (Edge : ℕ → Type 0) (Ascii : ℕ → Type 0) (at-ascii : (i : ℕ) 
     where
       by : SiblingEdges (with_characters after (drop 1 cs)) → SiblingEdges (with_characters after cs) → (kind : ItemKind) → x.kind ≡ kind
           → SiblingEdges (quote_as (λ cs. Single (item (Written (encode_utf8 (get_or cs 0 0))) x.start x.end) (with_characters after (drop 1 cs))) (λ cs. Single x (with_characters after cs)) kind cs)
-      by i k (Quoted quote) e = (h.0, h.1, tt, i)
-      by i k Plain e = (h.0, h.1, h.2, k)
-      by i k Own e = (h.0, h.1, h.2, k)
-      by i k (Written text) e = (h.0, h.1, h.2, k)
-      by i k (Delimiters run) e = (h.0, h.1, h.2, k)
-      by i k (Code text) e = (h.0, h.1, h.2, k)
-      by i k (InlineMath text) e = (h.0, h.1, h.2, k)
-      by i k (DisplayMath text) e = (h.0, h.1, h.2, k)
-      by i k (Autolink uri) e = (h.0, h.1, h.2, k)
-      by i k Html e = (h.0, h.1, h.2, k)
-      by i k (OwnedHtml text) e = (h.0, h.1, h.2, k)
-      by i k (FootnoteReference label) e = (h.0, h.1, h.2, k)
-      by i k SoftBreak e = (h.0, h.1, h.2, k)
-      by i k HardBreak e = (h.0, h.1, h.2, k)
+      by i k kind e = grind arith
 
   -- ## Gaps and bytes
 
@@ -118,14 +98,7 @@ module _ (Edge : ℕ → Type 0) (Ascii : ℕ → Type 0) (at-ascii : (i : ℕ) 
   gaps-edges : (siblings : Inline) → SiblingEdges siblings → GapEdges (gaps_of siblings)
   gaps-edges Nil h = (tt, tt)
   gaps-edges (Around tag start end inside after) h = put-edges (Around tag start end inside) (gaps_of after) (λ gap k. (h.0, h.1, h.2, k)) (gaps-edges after h.3)
-  gaps-edges (Single x after) h = by (gaps-edges after h.3) x.kind
-    where
-      put : GapEdges (gaps_of after) → GapEdges (put_gap (Single x) (gaps_of after))
-      put k = put-edges (Single x) (gaps_of after) (λ gap i. (h.0, h.1, i)) k
-
-      by : GapEdges (gaps_of after) → (kind : ItemKind) → GapEdges (gap_then kind x (gaps_of after))
-      by k (Delimiters run) = none-edges run.run_length (gaps_of after) k
-      by k _ = put k
+  gaps-edges (Single x after) h = grind (arith, put-edges, none-edges, gaps-edges after h.3)
 
   run-edges : (start n : ℕ) (after : List Item) → ((i : ℕ) → i < n → Ascii (start + i)) → ByteEdges after → ByteEdges (bytes_then start n after)
   run-edges start zero after f h = h
@@ -136,23 +109,7 @@ module _ (Edge : ℕ → Type 0) (Ascii : ℕ → Type 0) (at-ascii : (i : ℕ) 
   bytes-edges : (siblings : Inline) → SiblingEdges siblings → ByteEdges (run_bytes siblings)
   bytes-edges Nil h = tt
   bytes-edges (Around tag start end inside after) h = bytes-edges after h.3
-  bytes-edges (Single x after) h = by (bytes-edges after h.3) x.kind h.2
-    where
-      by : ByteEdges (run_bytes after) → (kind : ItemKind) → RunBytes kind x.start → ByteEdges (run_bytes_then kind x.start (run_bytes after))
-      by k (Delimiters run) f = run-edges x.start run.run_length (run_bytes after) f k
-      by k Plain f = k
-      by k Own f = k
-      by k (Written text) f = k
-      by k (Quoted quote) f = k
-      by k (Code text) f = k
-      by k (InlineMath text) f = k
-      by k (DisplayMath text) f = k
-      by k (Autolink uri) f = k
-      by k Html f = k
-      by k (OwnedHtml text) f = k
-      by k (FootnoteReference label) f = k
-      by k SoftBreak f = k
-      by k HardBreak f = k
+  bytes-edges (Single x after) h = grind (arith, run-edges, bytes-edges after h.3)
 
   gap-at : (gaps : List Inline) (n : ℕ) → GapEdges gaps → AllEdges (get_or gaps n Nil)
   gap-at [] n h = tt
@@ -182,43 +139,20 @@ module _ (Edge : ℕ → Type 0) (Ascii : ℕ → Type 0) (at-ascii : (i : ℕ) 
         (edges-append (get_or gaps span.end Nil) (dressed options gaps bytes after) (gap-at gaps span.end g) (dressed-edges after))
 
   pub dress-edges : (options : Options) (siblings : Inline) → SiblingEdges siblings → AllEdges (dress options siblings)
-  dress-edges options siblings h =
-      let q = with_quotes siblings in
-      let k : SiblingEdges q = quoted-edges siblings (quote_characters [] (quotes_of siblings)) h in
-      let g = gaps-edges q k in
-      edges-append (get_or (gaps_of q) 0 Nil) (dressed options (gaps_of q) (run_bytes q) (spans_of (runs_from q 0))) (gap-at (gaps_of q) 0 g)
-      (dressed-edges options (gaps_of q) (run_bytes q) g (bytes-edges q k) (spans_of (runs_from q 0)))
+  dress-edges options siblings h = grind (arith, quoted-edges, gaps-edges, edges-append, gap-at, dressed-edges, bytes-edges)
 
   -- ## Following a pipe
 
   cut-run : (kind : ItemKind) (place start end : ℕ) → place < end → FreeBy kind place start end → RunBytes kind start → RunBytes kind (max start place)
-  cut-run (Delimiters run) place start end lt f r = go (nat_le place start) refl
-    where
-      go : (z : Bool) → nat_le place start ≡ z → (i : ℕ) → i < run.run_length → Ascii (max start place + i)
-      go true e i k = let l : place ≤ start = grind (arith) in subst (λ s. Ascii (s + i)) (let m : start ≡ max start place = omega arith in m) (r i k)
-      go false e i k = absurd (f (let l : start < place = grind (arith) in l) (omega arith))
-  cut-run (Autolink uri) place start end lt f r = absurd f
-  cut-run _ place start end lt f r = tt
+  cut-run kind place start end lt f r = grind arith
 
   from-edges : (place : ℕ) → Edge place → (siblings : Inline) → IsFree place siblings → SiblingEdges siblings → SiblingEdges (from_place place siblings)
   from-edges place p Nil f h = tt
-  from-edges place p (Single x after) f h = go (from-edges place p after f.1 h.3) (nat_le x.end place) refl
-    where
-      go : SiblingEdges (from_place place after) → (z : Bool) → nat_le x.end place ≡ z → SiblingEdges (if z then from_place place after else Single (item x.kind (max x.start place) x.end) after)
-      go i true e = i
-      go i false e = (max-of Edge x.start place h.0 p, h.1, cut-run x.kind place x.start x.end (let l : place < x.end = grind (arith) in l) f.0 h.2, h.3)
-  from-edges place p (Around tag start end inside after) f h = go (from-edges place p after f h.3) (nat_le end place)
-    where
-      go : SiblingEdges (from_place place after) → (z : Bool) → SiblingEdges (if z then from_place place after else Around tag (max start place) end inside after)
-      go i true = i
-      go i false = (max-of Edge start place h.0 p, h.1, h.2, h.3)
+  from-edges place p (Single x after) f h = search (rules, max-of, cut-run, from-edges place p after f.1 h.3)
+  from-edges place p (Around tag start end inside after) f h = grind (arith, max-of, from-edges place p after f h.3)
 
   pub display-edges : (place end : ℕ) → Edge place → (siblings : Inline) → IsFree place siblings → SiblingEdges siblings → SiblingEdges (display_from place end siblings)
-  display-edges place end p siblings f h = go (place == end)
-    where
-      go : (z : Bool) → SiblingEdges (if z then Single (item Own place place) Nil else from_place place siblings)
-      go true = (p, p, tt, tt)
-      go false = from-edges place p siblings f h
+  display-edges place end p siblings f h = grind (arith, from-edges)
 
   -- ## Events
 
@@ -274,18 +208,7 @@ module _ (reader : Reader) (leaf : Leaf) (at : IsPlaced reader leaf) (utf8 : IsU
       go : (kind : ItemKind) → x.kind ≡ kind → edges.Bytes reader leaf at utf8 ends kind x.start x.end → Fills kind x.start x.end → Siblings (item_then kind x after)
       go (Delimiters run) e c f = (a, b, subst (λ q. RunBytes Edge Ascii at-ascii following-ascii at-start q x.start) (sym e) (λ i lt. c (x.start + i) (omega arith) (omega arith)), k)
       go (Autolink uri) e c f = (a, b, (following-ascii x.start c.0, at-ascii (x.end - 1) c.1, tt), k)
-      go Plain e c f = (a, b, subst (λ q. RunBytes Edge Ascii at-ascii following-ascii at-start q x.start) (sym e) tt, k)
-      go Own e c f = (a, b, subst (λ q. RunBytes Edge Ascii at-ascii following-ascii at-start q x.start) (sym e) tt, k)
-      go (Written text) e c f = (a, b, subst (λ q. RunBytes Edge Ascii at-ascii following-ascii at-start q x.start) (sym e) tt, k)
-      go (Quoted quote) e c f = (a, b, subst (λ q. RunBytes Edge Ascii at-ascii following-ascii at-start q x.start) (sym e) tt, k)
-      go (Code text) e c f = (a, b, subst (λ q. RunBytes Edge Ascii at-ascii following-ascii at-start q x.start) (sym e) tt, k)
-      go (InlineMath text) e c f = (a, b, subst (λ q. RunBytes Edge Ascii at-ascii following-ascii at-start q x.start) (sym e) tt, k)
-      go (DisplayMath text) e c f = (a, b, subst (λ q. RunBytes Edge Ascii at-ascii following-ascii at-start q x.start) (sym e) tt, k)
-      go Html e c f = (a, b, subst (λ q. RunBytes Edge Ascii at-ascii following-ascii at-start q x.start) (sym e) tt, k)
-      go (OwnedHtml text) e c f = (a, b, subst (λ q. RunBytes Edge Ascii at-ascii following-ascii at-start q x.start) (sym e) tt, k)
-      go (FootnoteReference label) e c f = (a, b, subst (λ q. RunBytes Edge Ascii at-ascii following-ascii at-start q x.start) (sym e) tt, k)
-      go SoftBreak e c f = (a, b, subst (λ q. RunBytes Edge Ascii at-ascii following-ascii at-start q x.start) (sym e) tt, k)
-      go HardBreak e c f = (a, b, subst (λ q. RunBytes Edge Ascii at-ascii following-ascii at-start q x.start) (sym e) tt, k)
+      go _ e c f = (a, b, subst (λ q. RunBytes Edge Ascii at-ascii following-ascii at-start q x.start) (sym e) tt, k)
 
   footnote-edges : (is_image : Bool) (start : ℕ) (label : List ℕ) (end : ℕ) (others : Inline) → Edge start → Edge (suc start) → Edge end → Siblings others → Siblings (footnote_then is_image start label end others)
   footnote-edges true start label end others a b c k = (a, b, tt, (b, c, tt, k))
@@ -334,11 +257,7 @@ module _ (reader : Reader) (leaf : Leaf) (at : IsPlaced reader leaf) (utf8 : IsU
     where
       -- a leaf begins in the place of its first byte
       begins : begin_of leaf.stretches ≡ place_in reader leaf 0
-      begins = go leaf.stretches at.lines (size-is reader leaf (length reader.source) at.turn within at.lines)
-        where
-          go : (st : List Stretch) → HaveLineEnds reader.source st → length (text_of reader leaf) ≡ size_of st → begin_of st ≡ place_with (length (text_of reader leaf)) st
-          go [] l e = refl
-          go (s ∷ more) l e = sym (place-first reader.source s more l) ∙ ap (λ n. place_with n (s ∷ more)) (sym e)
+      begins = grind (arith, size-is, within, place-first)
 
       first-place : IsPlace reader leaf (length reader.source) at.turn within at.lines (begin_of leaf.stretches)
       first-place = go leaf.stretches at.lines at.turn
@@ -370,9 +289,7 @@ module _ (source : List ℕ) where
   inside-leaves false leaf others e h = h
 
   node-leaves : (reads : ReadsAs) (node : BlockNode) (own : List Segment) → LeafEdges source own → LeafEdges source (node_segments reads node own)
-  node-leaves (AroundNode tag) node own h = both-leaves own (Given (over node (End (end_of_tag tag))) ∷ []) h tt
-  node-leaves Inside node own h = h
-  node-leaves _ node own h = tt
+  node-leaves reads node own h = grind (arith, both-leaves)
 
   first-leaves : (starts : ℕ) (r : Ranged) (others : List Segment) → LeafEdges source others → LeafEdges source (first_of_segments starts (Given r) others)
   first-leaves zero r others h = h

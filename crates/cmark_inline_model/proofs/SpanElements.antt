@@ -1,17 +1,15 @@
 -- What holds of each element among siblings holds among their spans.
-use Rattle.std.specs.Prelude.{zero, suc, ◌-◌, ◌==◌, nat_le, if◌then◌else◌, max, get_or, drop, encode_utf8}
-use Rattle.std.proofs.Common.{◌≡◌, ℕ, ◌+◌, Bool, true, false, List, [], ◌∷◌, Option, Some, None, refl, sym, subst}
-use Rattle.cmark_inline_model.specs.EmphasisModel.{spans_of}
-use Rattle.cmark_grammar.specs.Items.{ItemKind, Autolink, Own, Written, Item}
+use Rattle.std.specs.Prelude.{zero, suc, ◌-◌, get_or, drop, encode_utf8}
+use Rattle.std.proofs.Common.{◌≡◌, ℕ, ◌+◌, List, [], ◌∷◌, Option, Some, None, refl, arith, rules}
+use Rattle.cmark_grammar.specs.Items.{Autolink, Written, Item}
 use Rattle.cmark_grammar.specs.Options.{Options}
-use Rattle.cmark_grammar.specs.Quotes.{quote_characters}
-use Rattle.cmark_grammar.specs.Siblings.{Inline, Nil, Single, Around, append, item, quotes_of, quote_as, with_characters, with_quotes, element, item_then, address_link, from_place, display_from}
-use Rattle.cmark_inline_model.specs.RunSpans.{runs_from, run_bytes, put_gap, no_gaps, gap_then, gaps_of, no_item, dressed}
+use Rattle.cmark_grammar.specs.Siblings.{Inline, Nil, Single, Around, append, item, with_characters, element, item_then, address_link, from_place, display_from}
+use Rattle.cmark_inline_model.specs.RunSpans.{put_gap, no_gaps, gaps_of, no_item, dressed}
 use Rattle.cmark_inline_model.specs.SiblingsModel.{dress}
 use Rattle.cmark_grammar.specs.Spans as spans
 use Rattle.cmark_grammar.specs.Spans.{SpanKind, span_tag, span_width, Spans}
 use Rattle.cmark_grammar.specs.Tag.{Tag, Link}
-use Rattle.cmark_inline_model.proofs.KindViews.{KindView, AQuote, ARun, AnAutolink, AText, kind-view}
+use Rattle.cmark_inline_model.proofs.KindViews.{kind-view}
 
 -- the character of a quote, or any other item
 abbrev pub quoted_then : Item → Inline → List ℕ → Inline
@@ -39,13 +37,7 @@ module _ (Holds : Tag → Inline → Type 0) where
   characters_hold : (siblings : Inline) (cs : List ℕ) → AllElements siblings → AllElements (with_characters siblings cs)
   characters_hold Nil cs h = tt
   characters_hold (Around tag start end inside after) cs h = (h.0, h.1, characters_hold after cs h.2)
-  characters_hold (Single x after) cs h = go (characters_hold after (drop 1 cs) h) (characters_hold after cs h) x.kind (kind-view x.kind)
-    where
-      go : AllElements (with_characters after (drop 1 cs)) → AllElements (with_characters after cs) → (kind : ItemKind) → KindView kind → AllElements (quote_as (quoted_then x after) (other_then x after) kind cs)
-      go quoted other _ (AQuote quote) = quoted
-      go quoted other _ (ARun run) = other
-      go quoted other _ (AnAutolink uri) = other
-      go quoted other _ (AText kind t) = subst AllElements (sym (t.quote (quoted_then x after) (other_then x after) cs)) other
+  characters_hold (Single x after) cs h = search (rules, kind-view, characters_hold after (drop 1 cs) h, characters_hold after cs h)
 
   put_holds : (put : Inline → Inline) (gaps : List Inline) → ((gap : Inline) → AllElements gap → AllElements (put gap)) → AllGaps gaps → AllGaps (put_gap put gaps)
   put_holds put [] keeps h = (keeps Nil tt, tt)
@@ -58,15 +50,7 @@ module _ (Holds : Tag → Inline → Type 0) where
   gaps_hold : (siblings : Inline) → AllElements siblings → AllGaps (gaps_of siblings)
   gaps_hold Nil h = (tt, tt)
   gaps_hold (Around tag start end inside after) h = put_holds (Around tag start end inside) (gaps_of after) (λ gap k. (h.0, h.1, k)) (gaps_hold after h.2)
-  gaps_hold (Single x after) h = go (gaps_hold after h) x.kind (kind-view x.kind)
-    where
-      put : AllGaps (gaps_of after) → AllGaps (put_gap (Single x) (gaps_of after))
-      put k = put_holds (Single x) (gaps_of after) (λ gap e. e) k
-
-      go : AllGaps (gaps_of after) → (kind : ItemKind) → KindView kind → AllGaps (gap_then kind x (gaps_of after))
-      go k _ (ARun run) = none_hold run.run_length (gaps_of after) k
-      go k _ (AText kind t) = subst AllGaps (sym (t.gap x (gaps_of after))) (put k)
-      go k _ _ = put k
+  gaps_hold (Single x after) h = grind (arith, kind-view, put_holds, none_hold, gaps_hold after h)
 
   gap_holds : (gaps : List Inline) (n : ℕ) → AllGaps gaps → AllElements (get_or gaps n Nil)
   gap_holds [] n h = tt
@@ -102,39 +86,17 @@ module _ (Holds : Tag → Inline → Type 0) where
         go i j None e = others_hold j
 
     pub dress-elements : (siblings : Inline) → AllElements siblings → AllElements (dress options siblings)
-    dress-elements siblings h =
-        let quoted = with_quotes siblings in
-        let gaps = gaps_hold quoted (characters_hold siblings (quote_characters [] (quotes_of siblings)) h) in
-        elements-append (get_or (gaps_of quoted) 0 Nil) (dressed options (gaps_of quoted) (run_bytes quoted) (spans_of (runs_from quoted 0))) (gap_holds (gaps_of quoted) 0 gaps)
-        (dressed_hold (gaps_of quoted) (run_bytes quoted) (spans_of (runs_from quoted 0)) gaps)
+    dress-elements siblings h = grind (arith, gaps_hold, characters_hold, elements-append, gap_holds, dressed_hold)
 
   -- ## Items and displays
 
   pub item-elements : (x : Item) (after : Inline) → ((address : List ℕ) (text : Item) → x.kind ≡ Autolink address → Holds (Link (address_link address)) (Single text Nil)) → AllElements after → AllElements (item_then x.kind x after)
-  item-elements x after holds h = go x.kind refl (kind-view x.kind)
-    where
-      go : (kind : ItemKind) → x.kind ≡ kind → KindView kind → AllElements (item_then kind x after)
-      go _ e (AQuote quote) = h
-      go _ e (ARun run) = h
-      go _ e (AnAutolink uri) = (holds uri (item Own (suc x.start) (x.end - 1)) e, tt, h)
-      go _ e (AText kind t) = subst AllElements (sym (t.item x after)) h
+  item-elements x after holds h = grind (arith, kind-view)
 
   from_holds : (place : ℕ) (siblings : Inline) → AllElements siblings → AllElements (from_place place siblings)
   from_holds place Nil h = tt
-  from_holds place (Single x after) h = go (nat_le x.end place) (from_holds place after h)
-    where
-      go : (b : Bool) → AllElements (from_place place after) → AllElements (if b then from_place place after else Single (item x.kind (max x.start place) x.end) after)
-      go true k = k
-      go false k = h
-  from_holds place (Around tag start end inside after) h = go (nat_le end place) (from_holds place after h.2)
-    where
-      go : (b : Bool) → AllElements (from_place place after) → AllElements (if b then from_place place after else Around tag (max start place) end inside after)
-      go true k = k
-      go false k = h
+  from_holds place (Single x after) h = grind (arith, from_holds place after h)
+  from_holds place (Around tag start end inside after) h = grind (arith, from_holds place after h.2)
 
   pub display-elements : (place end : ℕ) (siblings : Inline) → AllElements siblings → AllElements (display_from place end siblings)
-  display-elements place end siblings h = go (place == end)
-    where
-      go : (b : Bool) → AllElements (if b then Single (item Own place place) Nil else from_place place siblings)
-      go true = tt
-      go false = from_holds place siblings h
+  display-elements place end siblings h = grind (arith, from_holds)

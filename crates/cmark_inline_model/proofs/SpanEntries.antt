@@ -1,10 +1,10 @@
 -- The pairs of siblings, written into the entries of a row, make the entries of the spans.
-use Rattle.std.proofs.Common.{◌≡◌, ℕ, zero, suc, ◌+◌, ◌-◌, Bool, true, false, nat_lt, if◌then◌else◌, List, [], ◌∷◌, ◌++◌, length, set, refl, sym, ap, ◌∙◌, subst, arith, append_assoc, length-append, map}
+use Rattle.std.proofs.Common.{◌≡◌, ℕ, zero, suc, ◌+◌, ◌-◌, nat_lt, List, [], ◌∷◌, ◌++◌, length, set, refl, sym, ap, ◌∙◌, subst, arith, append_assoc, length-append, map, rules}
 use Rattle.std.proofs.lemmas.List.{append-nil}
 use Rattle.std.proofs.lemmas.Bool.{ltb-false}
 use Rattle.cmark_grammar.specs.Spans.{SpanKind, span_width, Spans, Nil, Single, Around, join, singles}
 use Rattle.cmark_grammar.specs.Emphasis.{Run, Pair, Sibling, Plain, Delimiter, Piece, Whole, Standing, StandFrom, places_taken}
-use Rattle.cmark_grammar.specs.Emphasis.{paired_count, pair_of, rest_of_opener, rest_of_closer, kinds_of, nest, wrapped, before, row, keep, is_tilde_or_caret, deactivates, deactivated, left_open, stand, Closes}
+use Rattle.cmark_grammar.specs.Emphasis.{paired_count, pair_of, rest_of_opener, rest_of_closer, kinds_of, nest, wrapped, before, row, keep, deactivated, left_open, stand, Closes}
 use Rattle.cmark_inline_model.specs.EmphasisModel.{closed, resolve, pairs_of, spans_of}
 use Rattle.cmark_inline_model.specs.SpanEntries as entries
 use Rattle.cmark_inline_model.specs.SpanEntries.{write, IsWithin, AllWithin}
@@ -22,10 +22,7 @@ write_here : {Entry : Type 0} (xs ys a r : List Entry) (n : ℕ) → length xs �
 write_here [] [] a r n e f = refl
 write_here [] (y ∷ ys) a r n e f = absurd (omega arith)
 write_here (x ∷ xs) [] a r n e f = absurd (omega arith)
-write_here (x ∷ xs) (y ∷ ys) a r n e f =
-    ap (write (suc n) xs) (set_here a n y x (ys ++ r) f ∙ sym (append_assoc a (x ∷ []) (ys ++ r)))
-    ∙ write_here xs ys (a ++ x ∷ []) r (suc n) (omega arith) (omega (arith, length-append a (x ∷ [])))
-    ∙ append_assoc a (x ∷ []) (xs ++ r)
+write_here (x ∷ xs) (y ∷ ys) a r n e f = search (rules, set_here, append_assoc, length-append, write_here xs ys (a ++ x ∷ []) r (suc n) (omega arith) (omega (arith, length-append a (x ∷ []))))
 
 -- the number of entries is the number of the span's bytes on each side
 abbrev pub IsWide : {Entry : Type 0} → (SpanKind → List Entry) → Type 0
@@ -61,10 +58,7 @@ module _ (Entry : Type 0) (single : Entry) (opening closing : SpanKind → List 
   rings (kind ∷ kinds) all = rings kinds (opening kind ++ (all ++ closing kind))
 
   length-ringed : (m : List Entry) (k : SpanKind) → length (opening k ++ (m ++ closing k)) ≡ (span_width k + length m) + span_width k
-  length-ringed m k =
-      let a = length-append (opening k) (m ++ closing k) in
-      let b = length-append m (closing k) in
-      omega (arith, a, b, opening_width k, closing_width k)
+  length-ringed m k = grind (arith, length-append)
 
   length-rings : (ks : List SpanKind) (m : List Entry) → length (rings ks m) ≡ (widths ks + length m) + widths ks
   length-rings [] m = omega arith
@@ -73,11 +67,7 @@ module _ (Entry : Type 0) (single : Entry) (opening closing : SpanKind → List 
   -- one span
   mark_one : (k : SpanKind) (a m b : List Entry) (from to : ℕ) → from ≡ length a + span_width k → to ≡ from + length m
       → write to (closing k) (write (from - span_width k) (opening k) (a ++ (stays (span_width k) ++ (m ++ (stays (span_width k) ++ b))))) ≡ a ++ ((opening k ++ (m ++ closing k)) ++ b)
-  mark_one k a m b from to f t =
-      ap (write to (closing k)) (write_here (opening k) (stays (span_width k)) a (m ++ (stays (span_width k) ++ b)) (from - span_width k) (opening_width k ∙ sym (length-stays (span_width k))) (omega arith))
-      ∙ ap (write to (closing k)) (sym cut)
-      ∙ write_here (closing k) (stays (span_width k)) (a ++ (opening k ++ m)) b to (closing_width k ∙ sym (length-stays (span_width k))) place
-      ∙ together
+  mark_one k a m b from to f t = grind (arith, write_here, length-stays, cut, place, together)
     where
       place : to ≡ length (a ++ (opening k ++ m))
       place = omega (arith, length-append a (opening k ++ m), length-append (opening k) m, opening_width k)
@@ -86,9 +76,7 @@ module _ (Entry : Type 0) (single : Entry) (opening closing : SpanKind → List 
       cut = append_assoc a (opening k ++ m) (stays (span_width k) ++ b) ∙ ap (λ l. a ++ l) (append_assoc (opening k) m (stays (span_width k) ++ b))
 
       together : (a ++ (opening k ++ m)) ++ (closing k ++ b) ≡ a ++ ((opening k ++ (m ++ closing k)) ++ b)
-      together =
-          append_assoc a (opening k ++ m) (closing k ++ b)
-          ∙ ap (λ l. a ++ l) (sym (append_assoc (opening k ++ m) (closing k) b) ∙ ap (λ l. l ++ b) (append_assoc (opening k) m (closing k)))
+      together = cc (append_assoc a (opening k ++ m) (closing k ++ b), append_assoc (opening k ++ m) (closing k) b, append_assoc (opening k) m (closing k))
 
   -- all spans of a pair
   mark-rings : (ks : List SpanKind) (a m b : List Entry) (from to : ℕ) → from ≡ length a + widths ks → to ≡ from + length m → mark_spans ks from to (a ++ (stays (widths ks) ++ (m ++ (stays (widths ks) ++ b)))) ≡ a ++ (rings ks m ++ b)
@@ -108,11 +96,7 @@ module _ (Entry : Type 0) (single : Entry) (opening closing : SpanKind → List 
           ap (λ n. stays n ++ b) e ∙ ap (λ l. l ++ b) (stays-add (span_width k) (widths ks)) ∙ append_assoc (stays (span_width k)) (stays (widths ks)) b
 
       split : a ++ (stays (widths ks + span_width k) ++ (m ++ (stays (widths ks + span_width k) ++ b))) ≡ (a ++ stays (widths ks)) ++ (stays (span_width k) ++ (m ++ (stays (span_width k) ++ (stays (widths ks) ++ b))))
-      split =
-          ap (λ l. a ++ (stays (widths ks + span_width k) ++ (m ++ l))) following
-          ∙ ap (λ l. a ++ (l ++ (m ++ (stays (span_width k) ++ (stays (widths ks) ++ b))))) (stays-add (widths ks) (span_width k))
-          ∙ ap (λ l. a ++ l) (append_assoc (stays (widths ks)) (stays (span_width k)) (m ++ (stays (span_width k) ++ (stays (widths ks) ++ b))))
-          ∙ sym (append_assoc a (stays (widths ks)) (stays (span_width k) ++ (m ++ (stays (span_width k) ++ (stays (widths ks) ++ b)))))
+      split = grind (arith, widths, following, stays-add, append_assoc)
 
   -- the entries of nested spans
   entries-nest : (ks : List SpanKind) (from to : ℕ) (f : Spans) → entries_of (nest ks from to f) ≡ rings ks (entries_of f)
@@ -141,9 +125,7 @@ module _ (Entry : Type 0) (single : Entry) (opening closing : SpanKind → List 
   entries-join : (f g : Spans) → entries_of (join f g) ≡ entries_of f ++ entries_of g
   entries-join Nil g = refl
   entries-join (Single at after) g = ap (λ l. single ∷ l) (entries-join after g)
-  entries-join (Around s inside after) g =
-      ap (λ l. (opening s.kind ++ (entries_of inside ++ closing s.kind)) ++ l) (entries-join after g)
-      ∙ sym (append_assoc (opening s.kind ++ (entries_of inside ++ closing s.kind)) (entries_of after) (entries_of g))
+  entries-join (Around s inside after) g = cc (entries-join after g, append_assoc (opening s.kind ++ (entries_of inside ++ closing s.kind)) (entries_of after) (entries_of g))
 
   singles-join : (n at : ℕ) (g : Spans) → singles at n g ≡ join (singles at n Nil) g
   singles-join zero at g = refl
@@ -162,12 +144,7 @@ module _ (Entry : Type 0) (single : Entry) (opening closing : SpanKind → List 
 
   entries-row : (ps : List Piece) (g : Spans) → entries_of (row ps g) ≡ entries_of (row ps Nil) ++ entries_of g
   entries-row [] g = refl
-  entries-row (p ∷ ps) g =
-      entries-row ps (before p g)
-      ∙ ap (λ l. entries_of (row ps Nil) ++ entries_of l) (before-join p g)
-      ∙ ap (λ l. entries_of (row ps Nil) ++ l) (entries-join (piece p) g)
-      ∙ sym (append_assoc (entries_of (row ps Nil)) (entries_of (piece p)) (entries_of g))
-      ∙ ap (λ l. l ++ entries_of g) (sym (entries-row ps (before p Nil) ∙ ap (λ l. entries_of (row ps Nil) ++ l) (entries-before p)))
+  entries-row (p ∷ ps) g = search (rules, before-join, entries-join, append_assoc, entries-before, entries-row ps (before p g), entries-row ps (before p Nil))
 
   row_more : (p : Piece) (b : List Piece) (own more : List Entry) → own ≡ entries_of (row b Nil) → more ≡ entries_of (piece p) → own ++ more ≡ entries_of (row b (before p Nil))
   row_more p b own more h k =
@@ -203,36 +180,18 @@ module _ (Entry : Type 0) (single : Entry) (opening closing : SpanKind → List 
       i.cut ∙ ap (λ l. l ++ i.own) i.before ∙ i.holds
 
   covers-keep : (r : Run) (front : List Piece) (a : List Entry) → length a ≡ r.at → Covers a front → Covers (a ++ stays r.left) (keep r front)
-  covers-keep r front a place h = go (nat_lt 0 r.left) refl
-    where
-      go : (b : Bool) → nat_lt 0 r.left ≡ b → Covers (a ++ stays r.left) (if b then Standing r ∷ front else front)
-      go false e =
-          let z : r.left ≡ 0 = omega (arith, ltb-false 0 r.left e) in
-          subst (λ k. Covers (a ++ stays k) front) (sym z) (subst (λ l. Covers l front) (sym (append-nil a)) h)
-      go true e = record { front = a; own = stays r.left; cut = refl; here = (place, refl); before = h }
+  covers-keep r front a place h = grind (arith, nat_lt, ltb-false, append-nil)
 
   covers-stand : (r : Run) (front : List Piece) (a : List Entry) → length a ≡ r.at → Covers a front → Covers (a ++ stays r.left) (stand r front)
-  covers-stand r front a place h = go r.opens
-    where
-      go : (b : Bool) → Covers (a ++ stays r.left) (if b then keep r front else Whole (singles r.at r.left Nil) ∷ front)
-      go true = covers-keep r front a place h
-      go false = record { front = a; own = stays r.left; cut = refl; here = sym (entries-singles r.left r.at); before = h }
+  covers-stand r front a place h = grind (arith, covers-keep, entries-singles)
 
   covers-deactivated : (ps : List Piece) (s : List Entry) → Covers s ps → Covers s (map deactivated ps)
   covers-deactivated [] s h = h
   covers-deactivated (Whole f ∷ ps) s h = record { front = h.front; own = h.own; cut = h.cut; here = h.here; before = covers-deactivated ps h.front h.before }
-  covers-deactivated (Standing r ∷ ps) s h = go (is_tilde_or_caret r.delimiter) (covers-deactivated ps h.front h.before)
-    where
-      go : (b : Bool) → Covers h.front (map deactivated ps) → Covers s ((if b then Whole (singles r.at r.left Nil) else Standing r) ∷ map deactivated ps)
-      go true i = record { front = h.front; own = h.own; cut = h.cut; here = h.here.1 ∙ sym (entries-singles r.left r.at); before = i }
-      go false i = record { front = h.front; own = h.own; cut = h.cut; here = h.here; before = i }
+  covers-deactivated (Standing r ∷ ps) s h = grind (arith, entries-singles, covers-deactivated ps h.front h.before)
 
   covers-left : (c : Run) (ps : List Piece) (s : List Entry) → Covers s ps → Covers s (left_open c ps)
-  covers-left c ps s h = go (deactivates c)
-    where
-      go : (b : Bool) → Covers s (if b then map deactivated ps else ps)
-      go true = covers-deactivated ps s h
-      go false = h
+  covers-left c ps s h = grind (arith, covers-deactivated)
 
   -- the entries after a pair
   record Paired (s following : List Entry) (b : List Piece) (o c : Run) (front : List Piece) : Type 0 where
@@ -259,10 +218,7 @@ module _ (Entry : Type 0) (single : Entry) (opening closing : SpanKind → List 
       let left : stays o.left ≡ stays (o.left - n) ++ stays (widths ks) = (let e : o.left ≡ (o.left - n) + widths ks = omega (arith, w, le) in ap stays e ∙ stays-add (o.left - n) (widths ks)) in
       let right : stays c.left ≡ stays (widths ks) ++ stays (c.left - n) = (let e : c.left ≡ widths ks + (c.left - n) = omega (arith, w, le') in ap stays e ∙ stays-add (widths ks) (c.left - n)) in
       let rest = stays (c.left - n) ++ following in
-      let split : s ++ (stays c.left ++ following) ≡ (first ++ stays (o.left - n)) ++ (stays (widths ks) ++ (inner ++ (stays (widths ks) ++ rest))) =
-      ap (λ l. l ++ (stays c.left ++ following)) (whole ∙ ap (λ l. first ++ (l ++ inner)) left)
-      ∙ ap (λ l. (first ++ ((stays (o.left - n) ++ stays (widths ks)) ++ inner)) ++ (l ++ following)) right
-      ∙ regroup first (stays (o.left - n)) (stays (widths ks)) inner (stays (widths ks)) (stays (c.left - n)) following in
+      let split : s ++ (stays c.left ++ following) ≡ (first ++ stays (o.left - n)) ++ (stays (widths ks) ++ (inner ++ (stays (widths ks) ++ rest))) = cc (regroup first (stays (o.left - n)) (stays (widths ks)) inner (stays (widths ks)) (stays (c.left - n)) following) in
       let front_size : length (first ++ stays (o.left - n)) ≡ length first + (o.left - n) = length-append first (stays (o.left - n)) ∙ ap (λ k. length first + k) (length-stays (o.left - n)) in
       record {
         now = (first ++ stays (o.left - n)) ++ rings ks inner;
@@ -293,11 +249,7 @@ module _ (Entry : Type 0) (single : Entry) (opening closing : SpanKind → List 
   rest_sum o c = let le = count-closer o c in omega (arith, le)
 
   whole_length : (s b : List Entry) (c : Run) → length s ≡ c.at → length (s ++ (stays c.left ++ b)) ≡ (c.at + c.left) + length b
-  whole_length s b c e =
-      let x = length-append s (stays c.left ++ b) in
-      let y = length-append (stays c.left) b in
-      let z = length-stays c.left in
-      omega (arith, x, y, z, e)
+  whole_length s b c e = grind (arith, length-append, length-stays)
 
   -- the entries after the pairs of a run
   record Went (s following : List Entry) (pairs : List Pair) (c d : Run) (pieces : List Piece) : Type 0 where
@@ -309,10 +261,7 @@ module _ (Entry : Type 0) (single : Entry) (opening closing : SpanKind → List 
     within : AllWithin ((c.at + c.left) + length following) pairs
 
   goes : (pairs : List Pair) (c d : Run) (ps qs : List Piece) (s following : List Entry) → Closes c ps pairs d qs → Covers s ps → length s ≡ c.at → Went s following pairs c d qs
-  goes [] c d ps qs s following h cov place =
-      subst (λ r. Went s following [] c r qs) (sym h.1)
-      (subst (λ l. Went s following [] c c l) (sym h.2)
-      (record { now = s; marked = refl; covers = covers-left c ps s cov; place = place; sum = refl; within = tt }))
+  goes [] c d ps qs s following h cov place = grind (arith, covers-left)
   goes (p ∷ more) c d ps qs s following h cov place =
       let pr = covers-pair s following h.between h.opener c h.front (subst (Covers s) h.cut cov) place in
       let i =

@@ -1,31 +1,30 @@
 -- What holds of the kind of each item among siblings holds among their spans, and of the events.
-use Rattle.std.specs.Prelude.{zero, suc, ◌-◌, ◌==◌, ◌&&◌, ◌||◌, nat_le, if◌then◌else◌, max, get_or, drop}
-use Rattle.std.proofs.Common.{◌≡◌, ℕ, ◌+◌, Bool, true, false, List, [], ◌∷◌, ◌++◌, Option, Some, None, refl, sym, subst, ◌∙◌, eqb-true, append_assoc}
+use Rattle.std.specs.Prelude.{zero, suc, ◌-◌, ◌==◌, ◌||◌, if◌then◌else◌, get_or, drop}
+use Rattle.std.proofs.Common.{◌≡◌, ℕ, ◌+◌, Bool, true, false, List, [], ◌∷◌, ◌++◌, Option, Some, None, refl, sym, subst, ◌∙◌, eqb-true, append_assoc, arith, rules}
 use Rattle.cmark_grammar.specs.BracketDecisions.{linked}
 use Rattle.cmark_grammar.specs.Emphasis.{emphasis_kinds, tilde_kinds, caret_kinds, equals_kinds, kinds_of}
 use Rattle.cmark_inline_model.specs.EmphasisModel.{spans_of}
 use Rattle.cmark_grammar.specs.Event.{Start, End, Ranged}
 use Rattle.cmark_grammar.specs.Flanking.{is_delimiter_run}
 use Rattle.cmark_grammar.specs.InlineReading.{event_of, inline_events, over}
-use Rattle.cmark_grammar.specs.Items.{ItemKind, Own, InlineMath, DisplayMath, FootnoteReference, Item}
+use Rattle.cmark_grammar.specs.Items.{ItemKind, Item}
 use Rattle.cmark_grammar.specs.LinkType as link_type
 use Rattle.cmark_grammar.specs.Options.{Options}
 use Rattle.cmark_grammar.specs.Parts.{Parts, Nil as NoParts, Single as SinglePart, Form, Closing, Opening, Linking, Footnote, Wiki}
 use Rattle.cmark_grammar.specs.Questions.{Exchange}
 use Rattle.cmark_grammar.specs.Quotes.{quote_characters}
 use Rattle.cmark_grammar.specs.Readers.{Reader}
-use Rattle.cmark_grammar.specs.Siblings.{Inline, Nil, Single, Around, append, item, quotes_of, quote_as, with_characters, with_quotes, element, item_then, tag_by, from_place, display_from, footnote_then}
-use Rattle.cmark_inline_model.specs.RunSpans.{run_then, runs_from, run_bytes, run_bytes_then, bytes_then, put_gap, no_gaps, gap_then, gaps_of, no_item, dressed}
+use Rattle.cmark_grammar.specs.Siblings.{Inline, Nil, Single, Around, append, quotes_of, with_characters, with_quotes, element, item_then, tag_by, from_place, display_from, footnote_then}
+use Rattle.cmark_inline_model.specs.RunSpans.{run_then, runs_from, run_bytes, bytes_then, put_gap, no_gaps, gaps_of, no_item, dressed}
 use Rattle.cmark_inline_model.specs.SiblingsModel.{dress, siblings_of, spans_in}
 use Rattle.cmark_grammar.specs.Spans as spans
-use Rattle.cmark_grammar.specs.Spans.{SpanKind, Emphasis, Strong, SingleTilde, DoubleTilde, Caret, DoubleEquals, span_tag, span_width, Spans}
-use Rattle.cmark_grammar.specs.Tag as tag
+use Rattle.cmark_grammar.specs.Spans.{SpanKind, SingleTilde, Caret, DoubleEquals, span_tag, span_width, Spans}
 use Rattle.cmark_grammar.specs.Tag.{Tag, Linked}
 use Rattle.cmark_grammar.specs.TagEnd.{end_of}
 use Rattle.cmark_inline_model.specs.FormedParts.{AllFormed}
 use Rattle.cmark_inline_model.specs.LinkRules.{IsFormedRightly, LeadsBy}
 use Rattle.cmark_inline_model.specs.OptionRules.{IsRead, AllItems, IsLinkGiven, IsTagGiven, IsEndGiven, IsGiven, AreGiven}
-use Rattle.cmark_inline_model.proofs.KindViews.{KindView, AQuote, ARun, AnAutolink, AText, kind-view}
+use Rattle.cmark_inline_model.proofs.KindViews.{KindView, kind-view}
 use Rattle.cmark_inline_model.proofs.SpanElements.{quoted_then, other_then}
 use Rattle.cmark_inline_model.proofs.SpanKinds.{AllKinds, AllSpans, OfDelimiter, OfRuns, spans-hold}
 
@@ -59,13 +58,7 @@ module _ (options : Options) where
   characters_read : (siblings : Inline) (cs : List ℕ) → AreRead siblings → AreRead (with_characters siblings cs)
   characters_read Nil cs h = tt
   characters_read (Around tag start end inside after) cs h = (h.0, h.1, characters_read after cs h.2)
-  characters_read (Single x after) cs h = go (characters_read after (drop 1 cs) h.1) (characters_read after cs h.1) x.kind (kind-view x.kind)
-    where
-      go : AreRead (with_characters after (drop 1 cs)) → AreRead (with_characters after cs) → (kind : ItemKind) → KindView kind → AreRead (quote_as (quoted_then x after) (other_then x after) kind cs)
-      go quoted other _ (AQuote quote) = (tt, quoted)
-      go quoted other _ (ARun run) = (h.0, other)
-      go quoted other _ (AnAutolink uri) = (h.0, other)
-      go quoted other _ (AText kind t) = subst AreRead (sym (t.quote (quoted_then x after) (other_then x after) cs)) (h.0, other)
+  characters_read (Single x after) cs h = search (rules, kind-view, quoted_then, other_then, characters_read after (drop 1 cs) h.1, characters_read after cs h.1)
 
   put_read : (put : Inline → Inline) (gaps : List Inline) → ((gap : Inline) → AreRead gap → AreRead (put gap)) → GapsRead gaps → GapsRead (put_gap put gaps)
   put_read put [] keeps h = (keeps Nil tt, tt)
@@ -78,15 +71,7 @@ module _ (options : Options) where
   gaps_read : (siblings : Inline) → AreRead siblings → GapsRead (gaps_of siblings)
   gaps_read Nil h = (tt, tt)
   gaps_read (Around tag start end inside after) h = put_read (Around tag start end inside) (gaps_of after) (λ gap k. (h.0, h.1, k)) (gaps_read after h.2)
-  gaps_read (Single x after) h = go (gaps_read after h.1) x.kind (kind-view x.kind)
-    where
-      put : GapsRead (gaps_of after) → GapsRead (put_gap (Single x) (gaps_of after))
-      put k = put_read (Single x) (gaps_of after) (λ gap e. (h.0, e)) k
-
-      go : GapsRead (gaps_of after) → (kind : ItemKind) → KindView kind → GapsRead (gap_then kind x (gaps_of after))
-      go k _ (ARun run) = none_read run.run_length (gaps_of after) k
-      go k _ (AText kind t) = subst GapsRead (sym (t.gap x (gaps_of after))) (put k)
-      go k _ _ = put k
+  gaps_read (Single x after) h = grind (arith, kind-view, put_read, none_read, gaps_read after h.1)
 
   bytes_read : (start size : ℕ) (after : List Item) → ItemsRead after → ItemsRead (bytes_then start size after)
   bytes_read start zero after h = h
@@ -95,13 +80,7 @@ module _ (options : Options) where
   runs_read : (siblings : Inline) → ItemsRead (run_bytes siblings)
   runs_read Nil = tt
   runs_read (Around tag start end inside after) = runs_read after
-  runs_read (Single x after) = go (runs_read after) x.kind (kind-view x.kind)
-    where
-      go : ItemsRead (run_bytes after) → (kind : ItemKind) → KindView kind → ItemsRead (run_bytes_then kind x.start (run_bytes after))
-      go k _ (AQuote quote) = k
-      go k _ (ARun run) = bytes_read x.start run.run_length (run_bytes after) k
-      go k _ (AnAutolink uri) = k
-      go k _ (AText kind t) = subst ItemsRead (sym (t.bytes x.start (run_bytes after))) k
+  runs_read (Single x after) = grind (arith, kind-view, bytes_read, runs_read after)
 
   gap_read : (gaps : List Inline) (n : ℕ) → GapsRead gaps → AreRead (get_or gaps n Nil)
   gap_read [] n h = tt
@@ -123,20 +102,7 @@ module _ (options : Options) where
   KindRead _ = Unit {0}
 
   tag_read : (kind : SpanKind) (t : Tag) → KindRead kind → span_tag options kind ≡ Some t → IsTagGiven options t
-  tag_read Emphasis t h e = subst (IsTagGiven options) (some_is e) tt
-  tag_read Strong t h e = subst (IsTagGiven options) (some_is e) tt
-  tag_read SingleTilde t h e = subst (IsTagGiven options) (some_is e) (go options.subscript refl)
-    where
-      go : (b : Bool) → options.subscript ≡ b → IsTagGiven options (if b then tag.Subscript else tag.Strikethrough)
-      go true f = f
-      go false f = or_first options.strikethrough options.subscript h f
-  tag_read DoubleTilde t h e = go options.strikethrough refl e
-    where
-      go : (b : Bool) → options.strikethrough ≡ b → (if b then Some tag.Strikethrough else None) ≡ Some t → IsTagGiven options t
-      go true f i = subst (IsTagGiven options) (some_is i) f
-      go false f i = absurd (let d : ⊥ = cc in d)
-  tag_read Caret t h e = subst (IsTagGiven options) (some_is e) h
-  tag_read DoubleEquals t h e = subst (IsTagGiven options) (some_is e) h
+  tag_read kind t h e = grind (arith, some_is, or_first)
 
   emphasis_kinds_read : (count : ℕ) → AllKinds KindRead (emphasis_kinds count)
   emphasis_kinds_read zero = tt
@@ -158,25 +124,13 @@ module _ (options : Options) where
   equals_kinds_read on (suc (suc count)) = (on, equals_kinds_read on count)
 
   tilde_on : (size : ℕ) → is_delimiter_run options 126 size ≡ true → (options.strikethrough || options.subscript) ≡ true
-  tilde_on size e = go (options.strikethrough || options.subscript) e
-    where
-      go : (b : Bool) → ((b && ((size == 1) || (size == 2))) || false) ≡ true → b ≡ true
-      go true e = refl
-      go false e = e
+  tilde_on size e = grind arith
 
   caret_on : (size : ℕ) → is_delimiter_run options 94 size ≡ true → options.superscript ≡ true
-  caret_on size e = go options.superscript e
-    where
-      go : (b : Bool) → ((b && (size == 1)) || false) ≡ true → b ≡ true
-      go true e = refl
-      go false e = e
+  caret_on size e = grind arith
 
   equals_on : (size : ℕ) → is_delimiter_run options 61 size ≡ true → options.highlight ≡ true
-  equals_on size e = go options.highlight e
-    where
-      go : (b : Bool) → (b && (size == 2)) ≡ true → b ≡ true
-      go true e = refl
-      go false e = e
+  equals_on size e = grind arith
 
   delimiter_read : (delimiter size : ℕ) → is_delimiter_run options delimiter size ≡ true → OfDelimiter KindRead delimiter
   unfolding kinds_of
@@ -194,10 +148,7 @@ module _ (options : Options) where
   marks_read (Single x after) n h = go (λ m. marks_read after m h.1) x.kind h.0 (kind-view x.kind)
     where
       go : ((m : ℕ) → OfRuns KindRead (runs_from after m)) → (kind : ItemKind) → IsRead options kind → KindView kind → OfRuns KindRead (run_then n kind (runs_from after))
-      go i _ k (AQuote quote) = i n
-      go i _ k (ARun run) = (delimiter_read run.delimiter run.run_length k, i (n + run.run_length))
-      go i _ k (AnAutolink uri) = i n
-      go i _ k (AText kind t) = subst (OfRuns KindRead) (sym (t.run n (runs_from after))) (i n)
+      go i kind k h = grind (arith, delimiter_read)
 
   dressed_read : (gaps : List Inline) (bytes : List Item) (f : Spans) → AllSpans KindRead f → GapsRead gaps → ItemsRead bytes → AreRead (dressed options gaps bytes f)
   dressed_read gaps bytes spans.Nil a h k = tt
@@ -225,33 +176,15 @@ module _ (options : Options) where
       (dressed_read (gaps_of quoted) (run_bytes quoted) (spans_of (runs_from quoted 0)) kinds gaps (runs_read quoted))
 
   item_read : (x : Item) (after : Inline) → IsRead options x.kind → AreRead after → AreRead (item_then x.kind x after)
-  item_read x after h k = go x.kind h (kind-view x.kind)
-    where
-      go : (kind : ItemKind) → IsRead options kind → KindView kind → AreRead (item_then kind x after)
-      go _ g (AQuote quote) = (h, k)
-      go _ g (ARun run) = (h, k)
-      go _ g (AnAutolink uri) = (g, (tt, tt), k)
-      go _ g (AText kind t) = subst AreRead (sym (t.item x after)) (h, k)
+  item_read x after h k = grind (arith, kind-view)
 
   from_read : (place : ℕ) (siblings : Inline) → AreRead siblings → AreRead (from_place place siblings)
   from_read place Nil h = tt
-  from_read place (Single x after) h = go (nat_le x.end place) (from_read place after h.1)
-    where
-      go : (b : Bool) → AreRead (from_place place after) → AreRead (if b then from_place place after else Single (item x.kind (max x.start place) x.end) after)
-      go true k = k
-      go false k = h
-  from_read place (Around tag start end inside after) h = go (nat_le end place) (from_read place after h.2)
-    where
-      go : (b : Bool) → AreRead (from_place place after) → AreRead (if b then from_place place after else Around tag (max start place) end inside after)
-      go true k = k
-      go false k = h
+  from_read place (Single x after) h = grind (arith, from_read place after h.1)
+  from_read place (Around tag start end inside after) h = grind (arith, from_read place after h.2)
 
   display_read : (place end : ℕ) (siblings : Inline) → AreRead siblings → AreRead (display_from place end siblings)
-  display_read place end siblings h = go (place == end)
-    where
-      go : (b : Bool) → AreRead (if b then Single (item Own place place) Nil else from_place place siblings)
-      go true = (tt, tt)
-      go false = from_read place siblings h
+  display_read place end siblings h = grind (arith, from_read)
 
   footnote_read : (is_image : Bool) (start : ℕ) (label : List ℕ) (end : ℕ) (others : Inline) → options.footnotes ≡ true → AreRead others → AreRead (footnote_then is_image start label end others)
   footnote_read true start label end others on h = (tt, (on, h))
@@ -279,10 +212,7 @@ module _ (reader : Reader) (asked : List Exchange) where
       footnote_read reader.options opener.is_image opener.start label end (siblings_of reader.options after) k.0 (siblings_read after h.1 k.2)
   siblings_read (Form opener inside closer (Wiki name None end) after) h k =
       (link_read reader.options opener.is_image (wiki_linked name false) tt, (tt, tt), siblings_read after h.1 k.2)
-  siblings_read (Form opener inside closer (Wiki name (Some place) end) after) h k =
-      let inner = siblings_of reader.options inside in
-      let display = dress_read reader.options (display_from place closer.start inner) (display_read reader.options place closer.start inner (siblings_read inside h.0 k.1)) in
-      (link_read reader.options opener.is_image (wiki_linked name true) tt, display, siblings_read after h.1 k.2)
+  siblings_read (Form opener inside closer (Wiki name (Some place) end) after) h k = grind (arith, dress_read, display_read, link_read, siblings_read inside h.0 k.1, siblings_read after h.1 k.2)
   siblings_read (Closing closer after) h k = (tt, siblings_read after h k)
   siblings_read (Opening opener after) h k = (tt, siblings_read after h k)
 
@@ -292,17 +222,10 @@ module _ (reader : Reader) (asked : List Exchange) where
 -- their events
 module _ (options : Options) (source : List ℕ) where
   event_given : (x : Item) (kind : ItemKind) → IsRead options kind → IsGiven options (event_of source x kind)
-  event_given x (InlineMath text) h = h
-  event_given x (DisplayMath text) h = h
-  event_given x (FootnoteReference label) h = h
-  event_given x _ h = tt
+  event_given x kind h = grind arith
 
   end_given : (tag : Tag) → IsTagGiven options tag → IsEndGiven options (end_of tag)
-  end_given tag.Strikethrough h = h
-  end_given tag.Superscript h = h
-  end_given tag.Subscript h = h
-  end_given tag.Highlight h = h
-  end_given _ h = tt
+  end_given tag h = grind arith
 
   pub events-given : (spans : Inline) (rest : List Ranged) → AreRead options spans → AreGiven options rest → AreGiven options (inline_events source spans ++ rest)
   events-given Nil rest h k = k

@@ -1,7 +1,7 @@
 -- The kinds of spans that the delimiter runs of siblings form: those of the runs' delimiters.
 use Rattle.std.specs.Prelude.{map}
-use Rattle.std.proofs.Common.{◌≡◌, ℕ, zero, suc, ◌+◌, ◌-◌, Bool, true, false, nat_lt, if◌then◌else◌, List, [], ◌∷◌, ◌++◌, refl, sym, subst}
-use Rattle.cmark_grammar.specs.Emphasis.{Run, Pair, Sibling, Plain, Delimiter, Piece, Whole, Standing, pair_of, rest_of_opener, rest_of_closer, kinds_of, nest, wrapped, row, keep, is_tilde_or_caret, deactivates, deactivated, left_open, stand, Closes}
+use Rattle.std.proofs.Common.{◌≡◌, ℕ, zero, suc, ◌+◌, ◌-◌, nat_lt, List, [], ◌∷◌, ◌++◌, refl, sym, subst, arith}
+use Rattle.cmark_grammar.specs.Emphasis.{Run, Pair, Sibling, Plain, Delimiter, Piece, Whole, Standing, pair_of, rest_of_opener, rest_of_closer, kinds_of, nest, wrapped, row, keep, deactivated, left_open, stand, Closes}
 use Rattle.cmark_inline_model.specs.EmphasisModel.{closed, resolve, spans_of}
 use Rattle.cmark_grammar.specs.Spans.{SpanKind, span_width, Spans, Nil, Single, Around, join, singles}
 use Rattle.cmark_inline_model.proofs.EmphasisSound.{closed-closes}
@@ -69,39 +69,21 @@ module _ (Holds : SpanKind → Type 0) where
   others_hold (Standing run ∷ first) others h = others_hold first others h
 
   keep_holds : (run : Run) (pieces : List Piece) → OfPieces pieces → OfPieces (keep run pieces)
-  keep_holds run pieces h = go (nat_lt 0 run.left)
-    where
-      go : (b : Bool) → OfPieces (if b then Standing run ∷ pieces else pieces)
-      go true = h
-      go false = h
+  keep_holds run pieces h = grind (arith, nat_lt)
 
   stand_holds : (run : Run) (pieces : List Piece) → OfPieces pieces → OfPieces (stand run pieces)
-  stand_holds run pieces h = go run.opens
-    where
-      go : (b : Bool) → OfPieces (if b then keep run pieces else Whole (singles run.at run.left Nil) ∷ pieces)
-      go true = keep_holds run pieces h
-      go false = (singles_hold run.at run.left Nil tt, h)
+  stand_holds run pieces h = grind (arith, keep_holds, singles_hold)
 
   deactivated_hold : (pieces : List Piece) → OfPieces pieces → OfPieces (map deactivated pieces)
   deactivated_hold [] h = tt
   deactivated_hold (Whole f ∷ pieces) h = (h.0, deactivated_hold pieces h.1)
-  deactivated_hold (Standing run ∷ pieces) h = go (is_tilde_or_caret run.delimiter) (deactivated_hold pieces h)
-    where
-      go : (b : Bool) → OfPieces (map deactivated pieces) → OfPieces ((if b then Whole (singles run.at run.left Nil) else Standing run) ∷ map deactivated pieces)
-      go true k = (singles_hold run.at run.left Nil tt, k)
-      go false k = k
+  deactivated_hold (Standing run ∷ pieces) h = grind (arith, singles_hold, deactivated_hold pieces h)
 
   left_holds : (closer : Run) (pieces : List Piece) → OfPieces pieces → OfPieces (left_open closer pieces)
-  left_holds closer pieces h = go (deactivates closer)
-    where
-      go : (b : Bool) → OfPieces (if b then map deactivated pieces else pieces)
-      go true = deactivated_hold pieces h
-      go false = h
+  left_holds closer pieces h = grind (arith, deactivated_hold)
 
   wrapped_holds : (o c : Run) (inside : Spans) → OfDelimiter c.delimiter → AllSpans inside → AllSpans (wrapped (pair_of o c) inside)
-  wrapped_holds o c inside delimiter h =
-      let pair = pair_of o c in
-      nest_holds (kinds_of pair.delimiter pair.count) pair.from pair.to inside (subst OfDelimiter (sym (mark_of_pair o c)) delimiter pair.count) h
+  wrapped_holds o c inside delimiter h = grind (arith, nest_holds, mark_of_pair)
 
   closes_hold : (pairs : List Pair) (c d : Run) (pieces now : List Piece) → Closes c pieces pairs d now → OfDelimiter c.delimiter → OfPieces pieces → OfPieces now
   closes_hold [] c d pieces now h delimiter k = subst OfPieces (sym h.2) (left_holds c pieces k)

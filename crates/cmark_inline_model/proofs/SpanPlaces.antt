@@ -1,10 +1,10 @@
 -- The spans of siblings take the places of the siblings.
-use Rattle.std.proofs.Common.{◌≡◌, ℕ, zero, suc, ◌+◌, ◌-◌, ◌≤◌, ◌==◌, Bool, true, false, nat_lt, if◌then◌else◌, List, [], ◌∷◌, ◌++◌, refl, sym, ◌∙◌, subst, arith}
+use Rattle.std.proofs.Common.{◌≡◌, ℕ, zero, suc, ◌+◌, ◌-◌, ◌≤◌, ◌==◌, Bool, nat_lt, if◌then◌else◌, List, [], ◌∷◌, ◌++◌, refl, sym, ◌∙◌, subst, arith, rules}
 use Rattle.std.specs.Prelude.{map}
 use Rattle.std.proofs.lemmas.Bool.{ltb-true, ltb-false}
 use Rattle.cmark_grammar.specs.Spans.{SpanKind, span_width, Spans, Nil, Single, Around, join, singles, TakePlaces}
 use Rattle.cmark_grammar.specs.Emphasis.{Run, Pair, Sibling, Plain, Delimiter, Piece, Whole, Standing, StandFrom, places_taken}
-use Rattle.cmark_grammar.specs.Emphasis.{paired_count, pair_of, rest_of_opener, rest_of_closer, emphasis_kinds, tilde_kinds, caret_kinds, equals_kinds, kinds_of, nest, wrapped, row, keep, is_tilde_or_caret, deactivates, deactivated, left_open, stand, Closes}
+use Rattle.cmark_grammar.specs.Emphasis.{paired_count, pair_of, rest_of_opener, rest_of_closer, emphasis_kinds, tilde_kinds, caret_kinds, equals_kinds, kinds_of, nest, wrapped, row, keep, deactivated, left_open, stand, Closes}
 use Rattle.cmark_inline_model.specs.EmphasisModel.{closed, resolve, spans_of}
 use Rattle.cmark_inline_model.proofs.EmphasisSound.{closed-closes}
 
@@ -34,24 +34,13 @@ unfolding kinds_of
 widths-kinds delimiter n = go (delimiter == 126) (delimiter == 94) (delimiter == 61)
   where
     go : (a b c : Bool) → widths (if a then tilde_kinds n else if b then caret_kinds n else if c then equals_kinds n else emphasis_kinds n) ≡ n
-    go true b c = widths-tilde n
-    go false true c = widths-caret n
-    go false false true = widths-equals n
-    go false false false = widths-emphasis n
+    go a b c = grind (arith, widths-tilde, widths-caret, widths-equals, widths-emphasis)
 
 pub count-opener : (o c : Run) → paired_count o c ≤ o.left
-count-opener o c = go (nat_lt o.left c.left) refl
-  where
-    go : (b : Bool) → nat_lt o.left c.left ≡ b → (if b then o.left else c.left) ≤ o.left
-    go true e = omega arith
-    go false e = omega (arith, ltb-false o.left c.left e)
+count-opener o c = grind (arith, nat_lt, ltb-false)
 
 pub count-closer : (o c : Run) → paired_count o c ≤ c.left
-count-closer o c = go (nat_lt o.left c.left) refl
-  where
-    go : (b : Bool) → nat_lt o.left c.left ≡ b → (if b then o.left else c.left) ≤ c.left
-    go true e = omega (arith, ltb-true o.left c.left e)
-    go false e = omega arith
+count-closer o c = grind (arith, nat_lt, ltb-true)
 
 takes-join : (f g : Spans) (n k m : ℕ) → TakePlaces n f k → TakePlaces k g m → TakePlaces n (join f g) m
 takes-join Nil g n k m h i = subst (λ j. TakePlaces j g m) (sym h) i
@@ -63,10 +52,7 @@ takes-singles zero n m g h = let e : n + 0 ≡ n = omega arith in subst (λ k. T
 takes-singles (suc c) n m g h = let e : n + suc c ≡ suc n + c = omega arith in (refl, takes-singles c (suc n) m g (subst (λ k. TakePlaces k g m) e h))
 
 takes-nest : (ks : List SpanKind) (from to : ℕ) (f : Spans) → widths ks ≤ from → TakePlaces from f to → TakePlaces (from - widths ks) (nest ks from to f) (to + widths ks)
-takes-nest [] from to f le h =
-    let a : from ≡ from - 0 = omega arith in
-    let b : to ≡ to + 0 = omega arith in
-    subst (λ k. TakePlaces k f (to + 0)) a (subst (λ k. TakePlaces from f k) b h)
+takes-nest [] from to f le h = grind arith
 takes-nest (k ∷ ks) from to f le h =
     let w = span_width k in
     let a : from ≡ (from - w) + w = omega (arith, le) in
@@ -95,9 +81,7 @@ record Parted (following front : List Piece) (g : Spans) (m : ℕ) : Type 0 wher
 
 reach-cut : (b rest : List Piece) (g : Spans) (m e : ℕ) → ReachTo (b ++ rest) m → TakePlaces m g e → Parted b rest g e
 reach-cut [] rest g m e h i = record { at = m; own = i; rest = h }
-reach-cut (Whole f ∷ b) rest g m e h i =
-    let c = reach-cut b rest (join f g) h.at e h.front (takes-join f g h.at m e h.here i) in
-    record { at = c.at; own = c.own; rest = c.rest }
+reach-cut (Whole f ∷ b) rest g m e h i = search (rules, takes-join, reach-cut b rest (join f g) h.at e h.front (takes-join f g h.at m e h.here i))
 reach-cut (Standing r ∷ b) rest g m e h i =
     let c = reach-cut b rest (singles r.at r.left g) r.at e h.1 (takes-singles r.left r.at e g (subst (λ k. TakePlaces k g e) (sym h.0) i)) in
     record { at = c.at; own = c.own; rest = c.rest }
@@ -111,34 +95,18 @@ reach-text : (r : Run) (ps : List Piece) → ReachTo ps r.at → ReachTo (Whole 
 reach-text r ps h = record { at = r.at; here = takes-singles r.left r.at (r.at + r.left) Nil refl; front = h }
 
 reach-keep : (r : Run) (ps : List Piece) → ReachTo ps r.at → ReachTo (keep r ps) (r.at + r.left)
-reach-keep r ps h = go (nat_lt 0 r.left) refl
-  where
-    go : (b : Bool) → nat_lt 0 r.left ≡ b → ReachTo (if b then Standing r ∷ ps else ps) (r.at + r.left)
-    go true e = (refl, h)
-    go false e = let z : r.at ≡ r.at + r.left = omega (arith, ltb-false 0 r.left e) in subst (ReachTo ps) z h
+reach-keep r ps h = grind (arith, nat_lt, ltb-false)
 
 reach-stand : (r : Run) (ps : List Piece) → ReachTo ps r.at → ReachTo (stand r ps) (r.at + r.left)
-reach-stand r ps h = go r.opens
-  where
-    go : (b : Bool) → ReachTo (if b then keep r ps else Whole (singles r.at r.left Nil) ∷ ps) (r.at + r.left)
-    go true = reach-keep r ps h
-    go false = reach-text r ps h
+reach-stand r ps h = grind (arith, reach-keep, reach-text)
 
 reach-deactivated : (ps : List Piece) (m : ℕ) → ReachTo ps m → ReachTo (map deactivated ps) m
 reach-deactivated [] m h = h
 reach-deactivated (Whole f ∷ ps) m h = record { at = h.at; here = h.here; front = reach-deactivated ps h.at h.front }
-reach-deactivated (Standing r ∷ ps) m h = go (is_tilde_or_caret r.delimiter) (reach-deactivated ps r.at h.1)
-  where
-    go : (b : Bool) → ReachTo (map deactivated ps) r.at → ReachTo ((if b then Whole (singles r.at r.left Nil) else Standing r) ∷ map deactivated ps) m
-    go true i = subst (ReachTo (Whole (singles r.at r.left Nil) ∷ map deactivated ps)) h.0 (reach-text r (map deactivated ps) i)
-    go false i = (h.0, i)
+reach-deactivated (Standing r ∷ ps) m h = grind (arith, reach-text, reach-deactivated ps r.at h.1)
 
 reach-left : (c : Run) (ps : List Piece) (m : ℕ) → ReachTo ps m → ReachTo (left_open c ps) m
-reach-left c ps m h = go (deactivates c)
-  where
-    go : (b : Bool) → ReachTo (if b then map deactivated ps else ps) m
-    go true = reach-deactivated ps m h
-    go false = h
+reach-left c ps m h = grind (arith, reach-deactivated)
 
 reach-pair : (b : List Piece) (o c : Run) (front : List Piece) → ReachTo (b ++ (Standing o ∷ front)) c.at → ReachTo (Whole (wrapped (pair_of o c) (row b Nil)) ∷ keep (rest_of_opener o c) front) (rest_of_closer o c).at
 unfolding rest_of_opener rest_of_closer pair_of
@@ -179,9 +147,7 @@ goes (p ∷ more) c d ps qs h r =
 
 reaches : (ts : List Sibling) (ps : List Piece) (n : ℕ) → ReachTo ps n → StandFrom n ts → ReachTo (resolve ts ps).pieces (n + places_taken ts)
 reaches [] ps n h st = let e : n ≡ n + 0 = omega arith in subst (ReachTo ps) e h
-reaches (Plain at ∷ ts) ps n h st =
-    let e : suc n + places_taken ts ≡ n + suc (places_taken ts) = omega arith in
-    subst (ReachTo (resolve ts (Whole (Single at Nil) ∷ ps)).pieces) e (reaches ts (Whole (Single at Nil) ∷ ps) (suc n) (record { at = n; here = (st.0, refl); front = h }) st.1)
+reaches (Plain at ∷ ts) ps n h st = search (rules, reaches ts (Whole (Single at Nil) ∷ ps) (suc n) (record { at = n; here = (st.0, refl); front = h }) st.1)
 reaches (Delimiter c ∷ ts) ps n h st =
     let d = closed c ps in
     let w = goes d.pairs c d.rest ps d.pieces (closed-closes c ps) (subst (ReachTo ps) (sym st.0) h) in

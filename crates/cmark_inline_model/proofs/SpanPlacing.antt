@@ -1,6 +1,6 @@
 -- What the spans of all siblings contain is what the spans of the delimiter runs alone contain, with the other siblings between the bytes
 -- of the runs. So both readings of a list of siblings give the same.
-use Rattle.std.proofs.Common.{◌≡◌, ◌⊎◌, inl, inr, ℕ, zero, suc, ◌+◌, ◌-◌, ◌<◌, ◌≤◌, Bool, true, false, nat_lt, List, [], ◌∷◌, length, get_or, drop, map, refl, sym, ap, ◌∙◌, subst, arith}
+use Rattle.std.proofs.Common.{◌≡◌, ◌⊎◌, inl, inr, ℕ, zero, suc, ◌+◌, ◌-◌, ◌<◌, ◌≤◌, Bool, true, false, nat_lt, List, [], ◌∷◌, length, get_or, drop, map, refl, sym, ap, ◌∙◌, subst, arith, rules}
 use Rattle.std.proofs.lemmas.Bool.{ltb-true, ltb-false}
 use Rattle.std.proofs.lemmas.List.{drop_all}
 use Rattle.cmark_grammar.specs.Emphasis.{Sibling, Plain, Delimiter, StandFrom, places_taken}
@@ -8,7 +8,7 @@ use Rattle.cmark_grammar.specs.Items.{ItemKind, Own, Delimiters, Item}
 use Rattle.cmark_grammar.specs.Options.{Options}
 use Rattle.cmark_grammar.specs.Siblings.{Inline, Nil, Single, Around, append, item, element, start_of, end_of, siblings_from, sibling_then, byte_by_byte, item_by_item, one_by_one, with_spans, with_quotes, IsDressed}
 use Rattle.cmark_grammar.specs.Spans as spans
-use Rattle.cmark_grammar.specs.Spans.{SpanKind, Emphasis, Strong, SingleTilde, DoubleTilde, Caret, DoubleEquals, span_tag, span_width, Spans, TakePlaces}
+use Rattle.cmark_grammar.specs.Spans.{SpanKind, span_tag, span_width, Spans, TakePlaces}
 use Rattle.cmark_grammar.specs.Tag.{Tag}
 use Rattle.cmark_inline_model.specs.EmphasisModel.{pairs_of, spans_of}
 use Rattle.cmark_inline_model.specs.RunSpans.{run_then, runs_from, bytes_then, run_bytes_then, run_bytes, put_gap, no_gaps, gap_then, gaps_of, no_item, dressed, dressed_all, IsDressedByRuns}
@@ -93,27 +93,8 @@ at-place : (cells : List Cell) (n : ℕ) → n < length cells → IsByte cells n
 at-place [] n h = absurd (let d : ⊥ = omega (arith, h) in d)
 at-place (Other one ∷ cells) zero h = inr (record { one = one; here = refl; same = refl; first = refl })
 at-place (Byte x ∷ cells) zero h = inl (record { x = x; here = refl; byte = refl; next = refl; gap = first-gap cells; none = refl })
-at-place (Other one ∷ cells) (suc n) h = go (at-place cells n (omega (arith, h)))
-  where
-    go : IsByte cells n ⊎ IsOther cells n → IsByte (Other one ∷ cells) (suc n) ⊎ IsOther (Other one ∷ cells) (suc n)
-    go (inl b) = inl (record {
-      x = b.x;
-      here = b.here;
-      byte = b.byte;
-      next = b.next;
-      gap =
-          ap (λ k. get_or (put_gap (append one) (gaps_in cells)) k Nil) b.next
-          ∙ put-rest (append one) (gaps_in cells) (rank_in cells n)
-          ∙ ap (λ k. get_or (gaps_in cells) k Nil) (sym b.next)
-          ∙ b.gap;
-      none = b.none;
-    })
-    go (inr o) = inr (record { one = o.one; here = o.here; same = o.same; first = o.first })
-at-place (Byte x ∷ cells) (suc n) h = go (at-place cells n (omega (arith, h)))
-  where
-    go : IsByte cells n ⊎ IsOther cells n → IsByte (Byte x ∷ cells) (suc n) ⊎ IsOther (Byte x ∷ cells) (suc n)
-    go (inl b) = inl (record { x = b.x; here = b.here; byte = b.byte; next = ap suc b.next; gap = b.gap; none = b.none })
-    go (inr o) = inr (record { one = o.one; here = o.here; same = ap suc o.same; first = o.first })
+at-place (Other one ∷ cells) (suc n) h = search (rules, put-rest, at-place cells n (omega (arith, h)))
+at-place (Byte x ∷ cells) (suc n) h = search (rules, one, at-place cells n (omega (arith, h)))
 
 -- ## Spans around cells
 
@@ -125,19 +106,10 @@ append_more (Around tag start end inside after) b c = ap (Around tag start end i
 takes-up : (f : Spans) (n m : ℕ) → TakePlaces n f m → n ≤ m
 takes-up spans.Nil n m h = omega (arith, h)
 takes-up (spans.Single at after) n m h = let i = takes-up after (suc n) m h.1 in omega (arith, i)
-takes-up (spans.Around span inside after) n m h =
-    let i = takes-up inside (n + span_width span.kind) h.mid h.inside in
-    let j = takes-up after span.end m h.after in
-    let e = h.end in
-    omega (arith, i, j, e)
+takes-up (spans.Around span inside after) n m h = search (rules, takes-up inside (n + span_width span.kind) h.mid h.inside, takes-up after span.end m h.after)
 
 wide : (kind : SpanKind) → 0 < span_width kind
-wide Emphasis = omega arith
-wide Strong = omega arith
-wide SingleTilde = omega arith
-wide DoubleTilde = omega arith
-wide Caret = omega arith
-wide DoubleEquals = omega arith
+wide kind = grind arith
 
 module _ (options : Options) (cells : List Cell) where
   abbrev rank : ℕ → ℕ
@@ -163,19 +135,7 @@ module _ (options : Options) (cells : List Cell) where
   single-says n after h i = go (at-place cells n h)
     where
       go : IsByte cells n ⊎ IsOther cells n → Says (spans.Single n after) n
-      go (inl b) =
-          ap (λ (x : Inline). append x (placed after)) b.here
-          ∙ ap (Single b.x) i
-          ∙ ap (λ y. Single y (append (lead (drop (suc n) cells)) (between after))) (sym b.byte)
-          ∙ ap (λ g. Single (get_or (bytes_in cells) (rank n) no_item) (append g (between after))) (sym b.gap ∙ ap (λ k. get_or (gaps_in cells) k Nil) b.next)
-          ∙ ap (dressed options (gaps_in cells) (bytes_in cells)) (sym (down-byte rank n after b.next))
-          ∙ ap (λ l. append l (between (spans.Single n after))) (sym b.none)
-      go (inr o) =
-          ap (λ (x : Inline). append x (placed after)) o.here
-          ∙ ap (append o.one) i
-          ∙ sym (append_more o.one (lead (drop (suc n) cells)) (between after))
-          ∙ ap (λ l. append l (between after)) (sym o.first)
-          ∙ ap (λ f. append (lead (drop n cells)) (dressed options (gaps_in cells) (bytes_in cells) f)) (sym (down-plain rank n after o.same))
+      go h = grind (arith, down-byte, append_more, down-plain)
 
   around-says : (kind : SpanKind) (n mid : ℕ) (inside after : Spans) → AreBytes rank n (n + span_width kind) → AreBytes rank mid (mid + span_width kind) → n + span_width kind ≤ mid → mid + span_width kind ≤ length cells
       → Says inside (n + span_width kind) → Says after (mid + span_width kind)
@@ -208,9 +168,7 @@ module _ (options : Options) (cells : List Cell) where
 
   spans-say : (f : Spans) (n m : ℕ) → TakePlaces n f m → Fits rank f → m ≤ length cells → lead (drop m cells) ≡ Nil → Says f n
   spans-say spans.Nil n m h fit le none = ap (λ l. append l Nil) (sym (ap (λ k. lead (drop k cells)) h ∙ none))
-  spans-say (spans.Single at after) n m h fit le none =
-      let up = takes-up after (suc n) m h.1 in
-      subst (λ k. Says (spans.Single k after) n) (sym h.0) (single-says n after (omega (arith, up, le)) (spans-say after (suc n) m h.1 fit le none))
+  spans-say (spans.Single at after) n m h fit le none = search (rules, takes-up, single-says, spans-say after (suc n) m h.1 fit le none)
   spans-say (spans.Around span inside after) n m h fit le none =
       let w = span_width span.kind in
       let wide_so = wide span.kind in
@@ -257,27 +215,12 @@ record Cells (ones : List Inline) (bytes : List Item) (gaps : List Inline) (cell
 
 item-cells : (kind : ItemKind) (x : Item) (ones : List Inline) (bytes : List Item) (gaps : List Inline) (cells : List Cell) → Cells ones bytes gaps cells
     → Cells (item_by_item kind x ones) (run_bytes_then kind x.start bytes) (gap_then kind x gaps) (cells_then kind x cells)
-item-cells (Delimiters run) x ones bytes gaps cells h = record {
-  ones_are = ones-bytes x.start run.run_length cells ones h.ones_are;
-  bytes_are = bytes-bytes x.start run.run_length cells bytes h.bytes_are;
-  gaps_are = gaps-bytes x.start run.run_length cells gaps h.gaps_are;
-}
-item-cells kind x ones bytes gaps cells h = record {
-  ones_are = ap (λ l. Single x Nil ∷ l) h.ones_are;
-  bytes_are = h.bytes_are;
-  gaps_are = put-single x gaps ∙ ap (put_gap (append (Single x Nil))) h.gaps_are;
-}
+item-cells kind x ones bytes gaps cells h = grind (arith, ones-bytes, bytes-bytes, gaps-bytes, put-single)
 
 cells-are : (s : Inline) → Cells (one_by_one s) (run_bytes s) (gaps_of s) (cells_of s)
 cells-are Nil = record { ones_are = refl; bytes_are = refl; gaps_are = refl }
 cells-are (Single x after) = item-cells x.kind x (one_by_one after) (run_bytes after) (gaps_of after) (cells_of after) (cells-are after)
-cells-are (Around tag start end inside after) =
-    let h = cells-are after in
-    record {
-      ones_are = ap (λ l. Around tag start end inside Nil ∷ l) h.ones_are;
-      bytes_are = h.bytes_are;
-      gaps_are = put-around tag start end inside (gaps_of after) ∙ ap (put_gap (append (Around tag start end inside Nil))) h.gaps_are;
-    }
+cells-are (Around tag start end inside after) = grind (arith, put-around, cells-are after)
 
 -- ## The places of siblings among all cells
 
@@ -308,9 +251,7 @@ record RunCells (cells : List Cell) (n count : ℕ) (rest : List Cell) : Type 0 
   others : drop (n + count) cells ≡ rest
 
 run-cells : (cells : List Cell) (n start count : ℕ) (rest : List Cell) → drop n cells ≡ byte_cells start count rest → RunCells cells n count rest
-run-cells cells n start zero rest e =
-    let z : n + 0 ≡ n = omega arith in
-    record { bytes = λ i a b. absurd (let d : ⊥ = omega (arith, a, b) in d); others = ap (λ k. drop k cells) z ∙ e }
+run-cells cells n start zero rest e = grind arith
 run-cells cells n start (suc count) rest e =
     let x = item Own start (suc start) in
     let more = run-cells cells (suc n) (suc start) count rest (following cells n (Byte x) (byte_cells (suc start) count rest) e) in
@@ -331,9 +272,7 @@ record Placed (cells : List Cell) (n : ℕ) (siblings runs : List Sibling) : Typ
 
 other-placed : (cells : List Cell) (n : ℕ) (one : Inline) (rest : List Cell) (siblings : List Sibling) (runs : ℕ → List Sibling) → drop n cells ≡ Other one ∷ rest
     → Placed cells (suc n) siblings (runs (rank_in cells (suc n))) → Placed cells n (Plain n ∷ siblings) (runs (rank_in cells n))
-other-placed cells n one rest siblings runs e h =
-    let same = rank-other cells n one rest e in
-    record { ranked = (same, h.ranked); runs_are = h.runs_are ∙ ap runs same; stand = (refl, h.stand) }
+other-placed cells n one rest siblings runs e h = grind (arith, rank-other)
 
 item-placed : (kind : ItemKind) (x : Item) (cells rest : List Cell) (n : ℕ) (siblings runs : ℕ → List Sibling) → drop n cells ≡ cells_then kind x rest
     → ((m : ℕ) → drop m cells ≡ rest → Placed cells m (siblings m) (runs (rank_in cells m)))

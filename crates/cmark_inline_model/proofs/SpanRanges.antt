@@ -1,20 +1,20 @@
 -- If a leaf's siblings are in order, so are its spans, except for cuts by a pipe.
 use Rattle.std.specs.Prelude.{zero, suc, ◌-◌, get_or, drop}
-use Rattle.std.proofs.Common.{◌≡◌, ◌⊎◌, inl, inr, ℕ, ◌+◌, ◌<◌, ◌≤◌, List, [], ◌∷◌, length, Option, Some, None, refl, sym, ap, subst, arith, ◌∙◌}
+use Rattle.std.proofs.Common.{◌≡◌, ◌⊎◌, inl, inr, ℕ, ◌+◌, ◌<◌, ◌≤◌, List, [], ◌∷◌, length, Option, Some, None, refl, sym, ap, subst, arith, ◌∙◌, rules}
 use Rattle.cmark_grammar.specs.Emphasis.{places_taken}
 use Rattle.cmark_inline_model.specs.EmphasisModel.{spans_of}
 use Rattle.cmark_grammar.specs.Items.{ItemKind, Delimiters, Autolink, Item}
 use Rattle.cmark_grammar.specs.Options.{Options}
 use Rattle.cmark_grammar.specs.Quotes.{quote_characters}
-use Rattle.cmark_grammar.specs.Siblings.{Inline, Nil, Single, Around, append, quotes_of, quote_as, with_characters, with_quotes, element}
-use Rattle.cmark_inline_model.specs.RunSpans.{run_then, runs_from, bytes_then, run_bytes_then, run_bytes, put_gap, no_gaps, gap_then, gaps_of, no_item, dressed}
+use Rattle.cmark_grammar.specs.Siblings.{Inline, Nil, Single, Around, append, quotes_of, with_characters, with_quotes, element}
+use Rattle.cmark_inline_model.specs.RunSpans.{run_then, runs_from, bytes_then, run_bytes_then, run_bytes, put_gap, no_gaps, gaps_of, no_item, dressed}
 use Rattle.cmark_inline_model.specs.SiblingsModel.{dress}
 use Rattle.cmark_grammar.specs.Spans as spans
 use Rattle.cmark_grammar.specs.Spans.{span_tag, span_width, Spans, TakePlaces}
 use Rattle.cmark_grammar.specs.Tag.{Tag}
 use Rattle.cmark_inline_model.proofs.SpanPlaces.{places}
 use Rattle.cmark_inline_model.specs.CutRanges.{IsLinkOrImage}
-use Rattle.cmark_inline_model.proofs.KindViews.{KindView, AQuote, ARun, AnAutolink, AText, kind-view}
+use Rattle.cmark_inline_model.proofs.KindViews.{KindView, kind-view}
 use Rattle.cmark_inline_model.proofs.SpanCosts.{runs-stand, takes-up, width-some}
 use Rattle.cmark_inline_model.proofs.SpanElements.{quoted_then, other_then}
 
@@ -66,14 +66,7 @@ module _ (Pipe : ℕ → Type 0) where
   characters_order : (from : ℕ) (siblings : Inline) (to : ℕ) (cs : List ℕ) → SiblingOrder from siblings to → SiblingOrder from (with_characters siblings cs) to
   characters_order from Nil to cs h = h
   characters_order from (Around tag start end inside after) to cs h = (h.0, h.1, h.2, h.3, h.4, characters_order end after to cs h.5, h.6)
-  characters_order from (Single x after) to cs h = go x.kind (kind-view x.kind) refl (characters_order x.end after to (drop 1 cs) h.3) (characters_order x.end after to cs h.3)
-    where
-      go : (kind : ItemKind) → KindView kind → x.kind ≡ kind → SiblingOrder x.end (with_characters after (drop 1 cs)) to → SiblingOrder x.end (with_characters after cs) to
-          → SiblingOrder from (quote_as (quoted_then x after) (other_then x after) kind cs) to
-      go _ (AQuote quote) e quoted other = (h.0, h.1, tt, quoted)
-      go _ (ARun run) e quoted other = (h.0, h.1, h.2, other)
-      go _ (AnAutolink uri) e quoted other = (h.0, h.1, h.2, other)
-      go _ (AText kind t) e quoted other = subst (λ l. SiblingOrder from l to) (sym (t.quote (quoted_then x after) (other_then x after) cs)) (h.0, h.1, h.2, other)
+  characters_order from (Single x after) to cs h = search (rules, kind-view, quoted_then, other_then, characters_order x.end after to (drop 1 cs) h.3, characters_order x.end after to cs h.3)
 
   -- ## Gaps and bytes in turn
 
@@ -84,9 +77,7 @@ module _ (Pipe : ℕ → Type 0) where
 
   layout_put : (from mid : ℕ) (put : Inline → Inline) (gaps : List Inline) (bytes : List Item) (to : ℕ) → ((gap : Inline) (up : ℕ) → InlineOrder mid gap up → InlineOrder from (put gap) up)
       → Layout mid gaps bytes to → Layout from (put_gap put gaps) bytes to
-  layout_put from mid put [] bytes to f h = absurd h
-  layout_put from mid put (gap ∷ gaps) [] to f h = f gap to h
-  layout_put from mid put (gap ∷ gaps) (b ∷ bytes) to f h = (f gap b.start h.0, h.1, h.2)
+  layout_put from mid put gaps bytes to f h = grind arith
 
   layout_lower : (from mid : ℕ) (gaps : List Inline) (bytes : List Item) (to : ℕ) → from ≤ mid → Layout mid gaps bytes to → Layout from gaps bytes to
   layout_lower from mid [] bytes to e h = absurd h
@@ -101,18 +92,7 @@ module _ (Pipe : ℕ → Type 0) where
   layout : (from : ℕ) (siblings : Inline) (to : ℕ) → SiblingOrder from siblings to → Layout from (gaps_of siblings) (run_bytes siblings) to
   layout from Nil to h = h
   layout from (Around tag start end inside after) to h = layout_put from end (Around tag start end inside) (gaps_of after) (run_bytes after) to (λ gap up k. (h.0, h.1, h.2, h.3, h.4, k)) (layout end after to h.5)
-  layout from (Single x after) to h = go x.kind (kind-view x.kind) h.2 (layout x.end after to h.3)
-    where
-      put : Layout x.end (gaps_of after) (run_bytes after) to → Layout from (put_gap (Single x) (gaps_of after)) (run_bytes after) to
-      put k = layout_put from x.end (Single x) (gaps_of after) (run_bytes after) to (λ gap up i. (h.0, h.1, i)) k
-
-      go : (kind : ItemKind) → KindView kind → Fills kind x.start x.end → Layout x.end (gaps_of after) (run_bytes after) to
-          → Layout from (gap_then kind x (gaps_of after)) (run_bytes_then kind x.start (run_bytes after)) to
-      go _ (ARun run) f k = layout_run from x.start run.run_length x.end (gaps_of after) (run_bytes after) to h.0 f k
-      go _ (AText kind t) f k =
-          subst (λ l. Layout from l (run_bytes_then kind x.start (run_bytes after)) to) (sym (t.gap x (gaps_of after)))
-          (subst (λ l. Layout from (put_gap (Single x) (gaps_of after)) l to) (sym (t.bytes x.start (run_bytes after))) (put k))
-      go _ _ f k = put k
+  layout from (Single x after) to h = grind (arith, kind-view, layout_put, layout_run, layout x.end after to h.3)
 
   bytes_size : (start size : ℕ) (after : List Item) → length (bytes_then start size after) ≡ size + length after
   bytes_size start zero after = omega arith
@@ -125,10 +105,7 @@ module _ (Pipe : ℕ → Type 0) where
     where
       go : ((m : ℕ) → length (run_bytes after) ≡ places_taken (runs_from after m)) → (kind : ItemKind) → KindView kind
           → length (run_bytes_then kind x.start (run_bytes after)) ≡ places_taken (run_then n kind (runs_from after))
-      go i _ (AQuote quote) = i n
-      go i _ (ARun run) = let e = i (n + run.run_length) in let f = bytes_size x.start run.run_length (run_bytes after) in omega arith
-      go i _ (AnAutolink uri) = i n
-      go i _ (AText kind t) = ap length (t.bytes x.start (run_bytes after)) ∙ i n ∙ ap places_taken (sym (t.run n (runs_from after)))
+      go i kind h = grind (arith, bytes_size)
 
   -- the end of the byte before the index, or `from`; and the start of the byte with the index, or `to`
   abbrev following : (from : ℕ) → List Item → ℕ → ℕ

@@ -1,19 +1,19 @@
 -- The cost of the references of a leaf that end up to an offset: in its events at most that in its parts, and nothing before it.
-use Rattle.std.specs.Prelude.{nat_le, if◌then◌else◌, sum}
-use Rattle.std.proofs.Common.{◌≡◌, ℕ, ◌+◌, ◌<◌, ◌≤◌, Bool, true, false, List, [], ◌∷◌, ◌++◌, refl, sym, ap, arith, append_assoc}
+use Rattle.std.specs.Prelude.{nat_le, if◌then◌else◌}
+use Rattle.std.proofs.Common.{◌≡◌, ℕ, ◌+◌, ◌<◌, ◌≤◌, Bool, true, false, List, [], ◌∷◌, ◌++◌, refl, ap, arith, append_assoc}
 use Rattle.cmark_grammar.specs.Event.{Start, End, Ranged}
 use Rattle.cmark_grammar.specs.InlineReading.{inline_events, over}
 use Rattle.cmark_grammar.specs.Items.{Bracket}
 use Rattle.cmark_grammar.specs.Options.{Options}
 use Rattle.cmark_grammar.specs.Parts.{Formed, Parts, Nil as NoParts, Single as SinglePart, Form, Closing, Opening, Linking, Footnote, Wiki}
-use Rattle.cmark_grammar.specs.Siblings.{Inline, Nil, Single, Around, address_link, tag_by}
+use Rattle.cmark_grammar.specs.Siblings.{Inline, Nil, Single, Around}
 use Rattle.cmark_inline_model.specs.SiblingsModel.{spans_in}
 use Rattle.cmark_grammar.specs.Tag.{Tag, Linked}
 use Rattle.cmark_grammar.specs.TagEnd.{end_of}
 use Rattle.cmark_inline_model.specs.ReferenceExpansion.{cost, costs}
 use Rattle.cmark_inline_model.specs.PartRanges.{StandBetween}
 use Rattle.cmark_inline_model.specs.PartRanges as ranges
-use Rattle.cmark_inline_model.specs.ReadingLinks.{LinkEvent, Begins, Finishes, Neither, of_tag, of_end, own_cost, spent_by, spent_before}
+use Rattle.cmark_inline_model.specs.ReadingLinks.{LinkEvent, of_tag, of_end, own_cost, spent_by, spent_before}
 use Rattle.cmark_inline_model.proofs.CostLists.{total, total-append, sum-total}
 use Rattle.cmark_inline_model.proofs.LinkSpans.{TagView, ALink, NoLink, tag-view, span-neither, item-neither}
 use Rattle.cmark_inline_model.proofs.PartOrders.{part-up}
@@ -31,16 +31,7 @@ module _ (place : ℕ) where
   if_none false l e = refl
 
   pub to-is-priced : IsPriced priced_to price_to
-  to-is-priced = record {
-    span = λ options kind tag end e. if_none (nat_le end place) (begun_cost (of_tag tag)) (ap begun_cost (span-neither options kind tag e));
-    linked = by;
-    autolink = λ uri end. if_none (nat_le end place) (own_cost (address_link uri)) (address-free uri);
-    wiki = λ name has_pothole end. if_none (nat_le end place) [] refl;
-  }
-    where
-      by : (is_image : Bool) (linked : Linked) (end : ℕ) → priced_to (tag_by is_image linked) end ≡ price_to linked end
-      by true linked end = refl
-      by false linked end = refl
+  to-is-priced = grind (arith, if_none, begun_cost, span-neither, address-free)
 
   -- the cost of the references of these parts that end up to the offset
   abbrev pub spent_to : Parts → ℕ
@@ -53,18 +44,10 @@ module _ (place : ℕ) where
   spans-spent options parts = let f = spans-priced priced_to price_to to-is-priced options parts in f.less
 
   price_less : (linked : Linked) (end : ℕ) → total (price_to linked end) ≤ total (own_cost linked)
-  price_less linked end = go (nat_le end place)
-    where
-      go : (b : Bool) → total (if b then own_cost linked else []) ≤ total (own_cost linked)
-      go true = omega arith
-      go false = omega arith
+  price_less linked end = grind (arith, total)
 
   price_later : (linked : Linked) (end : ℕ) → place < end → total (price_to linked end) ≡ 0
-  price_later linked end h = go (nat_le end place) refl
-    where
-      go : (b : Bool) → nat_le end place ≡ b → total (if b then own_cost linked else []) ≡ 0
-      go true e = absurd (let l : end ≤ place = grind (arith) in omega arith)
-      go false e = refl
+  price_later linked end h = grind (arith, total)
 
   pub spent-form : (a : List ℕ) (b : List ℕ) (c : List ℕ) → total (a ++ (b ++ c)) ≡ total a + (total b + total c)
   spent-form a b c = let e = total-append a (b ++ c) in let f = total-append b c in omega arith
@@ -73,21 +56,9 @@ module _ (place : ℕ) where
   pub spent-less : (parts : Parts) → spent_to parts ≤ total (costs parts)
   spent-less NoParts = omega arith
   spent-less (SinglePart x after) = spent-less after
-  spent-less (Form opener inside closer (Linking target) after) =
-      let i = spent-less inside in let j = spent-less after in let p = price_less target.linked target.end in
-      let e = spent-form (prices priced_to price_to to-is-priced inside) (price_to target.linked target.end) (prices priced_to price_to to-is-priced after) in
-      let f = spent-form (costs inside) (own_cost target.linked) (costs after) in
-      omega arith
-  spent-less (Form opener inside closer (Footnote label end) after) =
-      let i = spent-less inside in let j = spent-less after in
-      let e = total-append (prices priced_to price_to to-is-priced inside) (prices priced_to price_to to-is-priced after) in
-      let f = total-append (costs inside) (costs after) in
-      omega arith
-  spent-less (Form opener inside closer (Wiki name display end) after) =
-      let i = spent-less inside in let j = spent-less after in
-      let e = total-append (prices priced_to price_to to-is-priced inside) (prices priced_to price_to to-is-priced after) in
-      let f = total-append (costs inside) (costs after) in
-      omega arith
+  spent-less (Form opener inside closer (Linking target) after) = grind (arith, price_less, spent-form, prices, to-is-priced, spent-less inside, spent-less after)
+  spent-less (Form opener inside closer (Footnote label end) after) = grind (arith, total-append, prices, to-is-priced, spent-less inside, spent-less after)
+  spent-less (Form opener inside closer (Wiki name display end) after) = grind (arith, total-append, prices, to-is-priced, spent-less inside, spent-less after)
   spent-less (Closing closer after) = spent-less after
   spent-less (Opening opener after) = spent-less after
 
@@ -119,33 +90,17 @@ module _ (place : ℕ) where
 
   -- a form that ends after the offset costs only its content and the later parts
   pub spent-inside : (opener : Bracket) (inside : Parts) (closer : Bracket) (formed : Formed) (after : Parts) → place < ranges.end_of formed → spent_to after ≡ 0 → spent_to (Form opener inside closer formed after) ≡ spent_to inside
-  spent-inside opener inside closer (Linking target) after h k =
-      let p = price_later target.linked target.end h in
-      let e = spent-form (prices priced_to price_to to-is-priced inside) (price_to target.linked target.end) (prices priced_to price_to to-is-priced after) in
-      omega arith
-  spent-inside opener inside closer _ after h k =
-      let e = total-append (prices priced_to price_to to-is-priced inside) (prices priced_to price_to to-is-priced after) in omega arith
+  spent-inside opener inside closer formed after h k = grind (arith, price_later, spent-form, prices, to-is-priced, total-append)
 
   -- and no form costs more than is subtracted from the limit
   pub spent-form-less : (opener : Bracket) (inside : Parts) (closer : Bracket) (formed : Formed) (after : Parts)
       → spent_to (Form opener inside closer formed after) ≤ total (costs inside) + (total (cost formed) + spent_to after)
-  spent-form-less opener inside closer (Linking target) after =
-      let i = spent-less inside in let p = price_less target.linked target.end in
-      let e = spent-form (prices priced_to price_to to-is-priced inside) (price_to target.linked target.end) (prices priced_to price_to to-is-priced after) in
-      omega arith
-  spent-form-less opener inside closer _ after =
-      let i = spent-less inside in let e = total-append (prices priced_to price_to to-is-priced inside) (prices priced_to price_to to-is-priced after) in omega arith
+  spent-form-less opener inside closer formed after = grind (arith, spent-less, price_less, spent-form, prices, to-is-priced, total-append)
 
   -- ## Events
 
   by_total : (l : LinkEvent) (end : ℕ) → spent_by l end place ≡ total (if nat_le end place then begun_cost l else [])
-  by_total (Begins is_image linked) end = go (nat_le end place)
-    where
-      go : (b : Bool) → (if b then sum (own_cost linked) else 0) ≡ total (if b then own_cost linked else [])
-      go true = sum-total (own_cost linked)
-      go false = refl
-  by_total (Finishes is_image) end = sym (ap total (if_none (nat_le end place) [] refl))
-  by_total Neither end = sym (ap total (if_none (nat_le end place) [] refl))
+  by_total l end = grind (arith, total, sum-total, if_none)
 
   ended : (t : Tag) (end : ℕ) → TagView t → spent_by (of_end (end_of t)) end place ≡ 0
   ended t end (NoLink e f) = ap (λ l. spent_by l end place) f
@@ -153,10 +108,7 @@ module _ (place : ℕ) where
 
   pub events-spent : (source : List ℕ) (spans : Inline) (rest : List Ranged) → spent_before place (inline_events source spans ++ rest) ≡ spent_in spans + spent_before place rest
   events-spent source Nil rest = omega arith
-  events-spent source (Single x after) rest =
-      let i = events-spent source after rest in
-      let e = ap (λ l. spent_by l x.end place) (item-neither source x x.kind) in
-      omega arith
+  events-spent source (Single x after) rest = grind (arith, item-neither, events-spent source after rest)
   events-spent source (Around t start end inside after) rest =
       let last = over source start end (End (end_of t)) in
       let j = ap (λ es. spent_before place (over source start end (Start t) ∷ es)) (append_assoc (inline_events source inside) (last ∷ inline_events source after) rest) in

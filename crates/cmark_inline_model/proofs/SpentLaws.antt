@@ -20,7 +20,7 @@ use Rattle.cmark_grammar.specs.SpanDocuments.{Segment, Given, Content, segments,
 use Rattle.cmark_inline_model.specs.ReferenceExpansion.{cost, costs, Spends, PaysBy, Pays}
 use Rattle.cmark_inline_model.specs.LinkRules.{AsksRightly}
 use Rattle.cmark_inline_model.specs.Progress.{Keeps}
-use Rattle.cmark_inline_model.specs.ReadingLinks.{LinkEvent, costs_by, reference_costs}
+use Rattle.cmark_inline_model.specs.ReadingLinks.{reference_costs}
 use Rattle.cmark_inline_model.proofs.CostLists.{total, sum-total, total-append, spends-within}
 use Rattle.cmark_inline_model.proofs.DecisionLaws.{decide-recorded, decide-pays}
 use Rattle.cmark_inline_model.proofs.DecisionRules.{asks-rightly}
@@ -90,13 +90,8 @@ module _ (reader : Reader) (Says : Saying) where
 
   all_taken : (limit spent : ℕ) (others : List Segment) (before after : Between) (events : List Ranged) → before.expansion_left ≡ limit - spent → AreNeither others
       → ReadsAll reader Says others before events after → IsTaken limit spent after events
-  all_taken limit spent [] before after events e n h =
-      let a : after.expansion_left ≡ before.expansion_left = ap (λ (b : Between). b.expansion_left) h.1 in
-      subst (IsTaken limit spent after) (sym h.0) (record { more = 0; left = omega arith; all = omega arith })
-  all_taken limit spent (Given r ∷ others) before after events e n h =
-      let i = all_taken limit spent others before after h.0 e n.1 h.1 in
-      subst (IsTaken limit spent after) (sym h.2)
-      (record { more = i.more; left = i.left; all = subst (λ (l : LinkEvent). total (costs_by l [] (λ more. reference_costs more h.0)) ≤ i.more) (sym n.0) i.all })
+  all_taken limit spent [] before after events e n h = grind arith
+  all_taken limit spent (Given r ∷ others) before after events e n h = grind (arith, total, all_taken limit spent others before after h.0 e n.1 h.1)
   all_taken limit spent (Content leaf ∷ others) before after events e n h =
       let parts = h.3.parts in
       let spans = spans_in reader.options parts in

@@ -60,6 +60,4 @@ module _ (reader : Reader) (from : ℕ) (within : from ≤ length reader.source)
       (ends.of_lines reader.source (segments d) (after-lines reader.source from within options lookup)) (after-fronts reader.source from within options lookup)
 
   pub after-no-pipes : HaveNoPipesBetween reader (segments (document_after reader.source options lookup from))
-  after-no-pipes =
-      let left = segments (document_after reader.source options lookup from) in
-      no_pipes reader left (all_between reader left after-placed (after-gaps reader.source from within options lookup))
+  after-no-pipes = grind (arith, no_pipes, all_between, after-placed, after-gaps)

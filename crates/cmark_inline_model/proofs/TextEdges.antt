@@ -2,7 +2,7 @@
 use Rattle.std.specs.Prelude.{suc, zero, ◌-◌, ◌==◌, ◌&&◌, ◌||◌, not, nat_lt, if◌then◌else◌, get_or, drop, take, codes, take_while, max, IsUtf8}
 use Rattle.std.specs.List.{prefix_len}
 use Rattle.std.specs.Str.{IsCharBoundary}
-use Rattle.std.proofs.Common.{◌≡◌, ◌⊎◌, inl, inr, ◌<◌, ◌≤◌, ◌+◌, ℕ, Bool, true, false, List, [], ◌∷◌, length, Option, Some, None, refl, sym, ap, ◌∙◌, subst, arith, length-drop, drop-drop, eqb-true, true≢false, append-nil}
+use Rattle.std.proofs.Common.{◌≡◌, ◌<◌, ◌≤◌, ◌+◌, ℕ, Bool, true, false, List, [], ◌∷◌, length, Option, Some, None, refl, sym, ap, ◌∙◌, subst, arith, length-drop, drop-drop, eqb-true, true≢false, append-nil, rules}
 use Rattle.std.proofs.lemmas.Bool.{eq-eqb, ltb-true, ltb-false}
 use Rattle.std.proofs.lemmas.List.{get_or-drop}
 use Rattle.std.proofs.Math.Seq.{take-length}
@@ -14,10 +14,10 @@ use Rattle.cmark_grammar.specs.Columns.{is_blank_byte}
 use Rattle.cmark_grammar.specs.Dashes.{dashes_of, dash_text}
 use Rattle.cmark_grammar.specs.Emphasis.{Run}
 use Rattle.cmark_grammar.specs.Flanking.{flanking, is_run_delimiter}
-use Rattle.cmark_grammar.specs.Formulas.{is_dollar, Braces, no_braces, braces_after, inline_in, display_in}
-use Rattle.cmark_grammar.specs.InlineHtml.{after_markup, takes_lines}
-use Rattle.cmark_grammar.specs.InlineTokens.{as_in, item_at, bracket, is_plain, from, before, place_of, size_to, character_before, character_at, line_begins, read_on, break_or, code_or, escaped_backtick, escape_at, entity_or, autolink_or, tag_or_text, source_from, markup_or, less_than, run_at, formula_or, dollar, dots, hyphens, quote_at, smart_or, begins, begins_at, goes_on, plain_end, longest, token}
-use Rattle.cmark_grammar.specs.Items.{ItemKind, Plain, Own, Quoted, Code, Item, Written, InlineMath, DisplayMath, Delimiters, Autolink, Html, OwnedHtml, SoftBreak, HardBreak, Token, Stands, Opens, Closes, Ends}
+use Rattle.cmark_grammar.specs.Formulas.{is_dollar, Braces, no_braces, braces_after}
+use Rattle.cmark_grammar.specs.InlineHtml.{after_markup}
+use Rattle.cmark_grammar.specs.InlineTokens.{as_in, item_at, bracket, is_plain, from, before, place_of, size_to, character_before, character_at, line_begins, read_on, break_or, code_or, escaped_backtick, escape_at, entity_or, autolink_or, tag_or_text, source_from, markup_or, less_than, run_at, formula_or, dollar, dots, hyphens, smart_or, begins, begins_at, goes_on, plain_end, longest, token}
+use Rattle.cmark_grammar.specs.Items.{ItemKind, Plain, Own, Code, Written, Delimiters, Autolink, SoftBreak, HardBreak, Token, Stands, Opens, Closes, Ends}
 use Rattle.cmark_grammar.specs.LabelsOverLines.{piped}
 use Rattle.cmark_grammar.specs.LeafText.{InTurn, Leaf, end_of}
 use Rattle.cmark_grammar.specs.Letters.{first_is, starts}
@@ -25,10 +25,9 @@ use Rattle.cmark_grammar.specs.LineBreaks.{LineBreak, backslash_break_in, blank_
 use Rattle.cmark_grammar.specs.Lines.{is_content}
 use Rattle.cmark_grammar.specs.LinkDefinitions.{Parsed, after_leading_blanks}
 use Rattle.cmark_grammar.specs.Options.{Options}
-use Rattle.cmark_grammar.specs.Quotes.{quote_beside}
 use Rattle.cmark_grammar.specs.Readers.{Reader}
 use Rattle.cmark_grammar.specs.Tags.{after_tag, no_prefix}
-use Rattle.cmark_grammar.specs.Tokens.{Entity, entity_in, is_punctuation, slice}
+use Rattle.cmark_grammar.specs.Tokens.{Entity, entity_in, slice}
 use Rattle.cmark_inline_model.specs.PlacedTokens.{one_stretch, text_reader}
 use Rattle.cmark_inline_model.proofs.BreakRests.{BreakTaken, blank-taken, backslash-taken, blank_word}
 use Rattle.cmark_inline_model.proofs.FindRests.{IsAfter, ParsedAfter, following-rest, autolink-following, code-following, display-following, inline-following, tag-following}
@@ -133,9 +132,7 @@ module _ (options : Options) (lookup : Lookup) (is_cell : Bool) (text : List ℕ
         subst Word (let q : k + (i - k) ≡ i = omega arith in q) (word-at (i - k) (omega arith) w)
 
     rest-place : (rest : List ℕ) (n : ℕ) → k ≤ length text → rest ≡ drop n l → n ≤ length l → place_of one alone rest ≡ k + n
-    rest-place rest n le e w =
-        let d = length-drop k text in let m = ap length here in let r = ap length e in let s = length-drop n l in
-        (let q : length text - length rest ≡ k + n = omega (arith, le, w, d, m, r, s) in q)
+    rest-place rest n le e w = grind (arith, length-drop)
 
     rest-edge : (rest : List ℕ) → IsAfter l rest → Edge (place_of one alone rest)
     rest-edge rest h =
@@ -204,9 +201,7 @@ module _ (options : Options) (lookup : Lookup) (is_cell : Bool) (text : List ℕ
         last = t.blanks + t.more
 
         size : size_to one alone k found.following ≡ suc last
-        size =
-            let f = t.fits in let e = ap length t.following in let d = length-drop (t.blanks + suc t.more) (b ∷ bs) in
-            ap (λ l. length l - length found.following) from-own ∙ (let q : length (b ∷ bs) - length found.following ≡ suc last = omega arith in q)
+        size = grind (arith, length-drop, from-own, last)
 
         ends : Edge end
         ends =
@@ -225,10 +220,7 @@ module _ (options : Options) (lookup : Lookup) (is_cell : Bool) (text : List ℕ
     code-edged None h some w = words-edged Own (backticks (b ∷ bs)) some w (words-bytes k (b ∷ bs) here (backticks (b ∷ bs)) w) (λ a. tt)
 
     entity-edged : IsWord b → (entity : Option Entity) → EntityLeads bs entity → Edged (entity_or one alone k entity)
-    entity-edged w (Some entity) h =
-        let lead = leads-cons IsWord b h.0 bs w h.2 in
-        (edge, λ p. (let e = subst (λ n. Edge (k + n)) (sym h.1) (words-edge k (b ∷ bs) here (suc h.0) edge lead) in ((let z = h.1 in let q : 0 < k + entity.size = omega arith in q), e, e, tt)))
-    entity-edged w None h = plain k (suc k) edge
+    entity-edged w entity h = grind (arith, leads-cons, words-edge, plain)
 
     backtick-word : (c : ℕ) → is_backtick c ≡ true → IsWord c
     backtick-word c e = word-is c 96 refl (omega arith) e
@@ -237,13 +229,7 @@ module _ (options : Options) (lookup : Lookup) (is_cell : Bool) (text : List ℕ
     next = ap (λ j. drop j text) (let q : suc k ≡ k + 1 = omega arith in q) ∙ sym (drop-drop 1 k text) ∙ ap (drop 1) here
 
     escape-edged : IsWord b → Edged (escape_at one alone k bs)
-    escape-edged w =
-        let other = if first_is is_punctuation bs then item_at Plain (suc k) (k + 2) else item_at Plain k (suc k) in
-        when (first_is is_backtick bs) (escaped_backtick one alone (suc k) (backticks bs) (code_in (drop 1 bs))) (if is_cell && starts piped bs then item_at Plain (k + 2) (k + 3) else other)
-        (λ e. escaped (code_in (drop 1 bs)))
-        (λ e. when (is_cell && starts piped bs) (item_at Plain (k + 2) (k + 3)) other
-        (λ f. plain (k + 2) (k + 3) (piped-edge f))
-        (λ f. when (first_is is_punctuation bs) (item_at Plain (suc k) (k + 2)) (item_at Plain k (suc k)) (λ g. plain (suc k) (k + 2) (second w)) (λ g. plain k (suc k) edge)))
+    escape-edged w = search (rules, when, escaped, plain, piped-edge, second)
       where
         escaped : (found : Option Parsed) → Edged (escaped_backtick one alone (suc k) (backticks bs) found)
         escaped (Some found) = plain (suc k) (suc (suc k)) (second w)
@@ -263,12 +249,7 @@ module _ (options : Options) (lookup : Lookup) (is_cell : Bool) (text : List ℕ
             subst Edge (let q : suc (suc k + 0) ≡ k + 2 = omega arith in q) (following-ascii (suc k + 0) (ascii-at (suc k) bs next 0 (omega arith) a.ascii))
 
     tag-edged : IsWord b → (found : Option (List ℕ)) → ((rest : List ℕ) → found ≡ Some rest → IsAfter (b ∷ bs) rest) → Edged (tag_or_text one alone k found)
-    tag-edged w None h = one-edged Own w tt
-    tag-edged w (Some rest) h = kind (takes_lines (take (size_to one alone k rest) (from one alone k)))
-      where
-        kind : (x : Bool) → Edged (item_at (if x then OwnedHtml (take (size_to one alone k rest) (from one alone k)) else Html) k (place_of one alone rest))
-        kind true = rest-edged (OwnedHtml (take (size_to one alone k rest) (from one alone k))) rest (h rest refl) tt
-        kind false = rest-edged Html rest (h rest refl) tt
+    tag-edged w found h = grind (arith, one-edged, rest-edged)
 
     -- after `<`
     autolink-edged : IsWord b → (found : Option Parsed) (other : Token) → ParsedAfter bs found → Edged other → Edged (autolink_or one alone k found other)
@@ -318,10 +299,7 @@ module _ (options : Options) (lookup : Lookup) (is_cell : Bool) (text : List ℕ
     twice-following (Some found) h = following-rest (b ∷ bs) (drop 1 bs) found.following (2, refl) h
 
     dollar-edged : IsWord b → (braces : Braces) → Edged (dollar one alone k bs braces)
-    dollar-edged w braces =
-        when (first_is is_dollar bs) (formula_or one alone DisplayMath k (display_in braces (drop 1 bs))) (formula_or one alone InlineMath k (inline_in braces bs))
-        (λ e. formula-edged w DisplayMath (λ t s e. tt) (display_in braces (drop 1 bs)) (twice-following (display_in braces (drop 1 bs)) (display-following braces (drop 1 bs))))
-        (λ e. formula-edged w InlineMath (λ t s e. tt) (inline_in braces bs) (more-following b bs (inline_in braces bs) (inline-following braces bs)))
+    dollar-edged w braces = grind (arith, when, formula-edged, twice-following, display-following, more-following, inline-following)
 
     -- a run
     run-word : (c : ℕ) → IsWord b → (c == b) ≡ true → IsWord c
@@ -350,38 +328,13 @@ module _ (options : Options) (lookup : Lookup) (is_cell : Bool) (text : List ℕ
         (λ e. words-edged (Written (dash_text (dashes_of n))) n (let l = ltb-false n 2 e in omega arith) h (words-bytes k (b ∷ bs) here n h) (λ a. tt))
 
     quote-word : ((b == 34) || (b == 39)) ≡ true → IsWord b
-    quote-word e = go (or-either (b == 34) (b == 39) e)
-      where
-        go : ((b == 34) ≡ true) ⊎ ((b == 39) ≡ true) → IsWord b
-        go (inl f) = word-is b 34 refl (omega arith) f
-        go (inr f) = word-is b 39 refl (omega arith) f
+    quote-word e = grind (arith, or-either, word-is)
 
     smart-edged : Edged (smart_or one alone k b)
-    smart-edged =
-        let n = prefix_len (λ c. c == 45) (from one alone k) in
-        let quoted = if (b == 34) || (b == 39) then quote_at one alone k b else item_at Plain k (suc k) in
-        when (b == 46) (dots one alone k) (if b == 45 then hyphens one alone k n else quoted) (λ e. dots-edged)
-        (λ e. when (b == 45) (hyphens one alone k n) quoted (λ f. hyphens-edged)
-        (λ f. when ((b == 34) || (b == 39)) (quote_at one alone k b) (item_at Plain k (suc k)) (λ g. one-edged (Quoted (quote_beside (b == 34) (character_before one alone k) (character_at one alone (suc k)))) (quote-word g) tt) (λ g. plain k (suc k) edge)))
+    smart-edged = search (rules, when, dots-edged, hyphens-edged, one-edged, quote-word, plain)
 
     mark-word : is_run_delimiter b ≡ true → IsWord b
-    mark-word e = one-of (or-either (b == 42) ((b == 95) || ((b == 126) || ((b == 94) || (b == 61)))) e)
-      where
-        four : ((b == 94) ≡ true) ⊎ ((b == 61) ≡ true) → IsWord b
-        four (inl f) = word-is b 94 refl (omega arith) f
-        four (inr f) = word-is b 61 refl (omega arith) f
-
-        three : ((b == 126) ≡ true) ⊎ (((b == 94) || (b == 61)) ≡ true) → IsWord b
-        three (inl f) = word-is b 126 refl (omega arith) f
-        three (inr f) = four (or-either (b == 94) (b == 61) f)
-
-        two : ((b == 95) ≡ true) ⊎ (((b == 126) || ((b == 94) || (b == 61))) ≡ true) → IsWord b
-        two (inl f) = word-is b 95 refl (omega arith) f
-        two (inr f) = three (or-either (b == 126) ((b == 94) || (b == 61)) f)
-
-        one-of : ((b == 42) ≡ true) ⊎ (((b == 95) || ((b == 126) || ((b == 94) || (b == 61)))) ≡ true) → IsWord b
-        one-of (inl f) = word-is b 42 refl (omega arith) f
-        one-of (inr f) = two (or-either (b == 95) ((b == 126) || ((b == 94) || (b == 61))) f)
+    mark-word e = grind (arith, or-either, word-is)
 
     -- a bracket of n words
     opener-edges : (is_image : Bool) (n : ℕ) → 0 < n → (is_image ≡ false → k + n ≡ suc k) → Leads IsWord n (b ∷ bs) → Edged (Opens (bracket is_image k (k + n)))
@@ -438,11 +391,7 @@ module _ (options : Options) (lookup : Lookup) (is_cell : Bool) (text : List ℕ
   high-plain k b bs h = go
     where
       not-is : (c : ℕ) → c < 128 → (b == c) ≡ false
-      not-is c lt = by (b == c) refl
-        where
-          by : (x : Bool) → (b == c) ≡ x → x ≡ false
-          by true e = absurd (let z = eqb-true b c e in omega arith)
-          by false e = refl
+      not-is c lt = grind (arith, eqb-true)
 
       abbrev-if : (x : Bool) (t other : Token) → x ≡ false → (if x then t else other) ≡ other
       abbrev-if true t other e = cc
@@ -457,18 +406,10 @@ module _ (options : Options) (lookup : Lookup) (is_cell : Bool) (text : List ℕ
       and-false false y e = refl
 
       content : not (is_content b) ≡ false
-      content = by (b == 10) (b == 13) (not-is 10 (omega arith)) (not-is 13 (omega arith))
-        where
-          by : (x y : Bool) → x ≡ false → y ≡ false → not (not x && not y) ≡ false
-          by true y e f = cc
-          by false true e f = cc
-          by false false e f = refl
+      content = cc (not-is 10 (omega arith), not-is 13 (omega arith))
 
       smart : (x : Bool) → (if x then smart_or one alone k b else item_at Plain k (suc k)) ≡ item_at Plain k (suc k)
-      smart false = refl
-      smart true =
-          abbrev-if (b == 46) _ _ (not-is 46 (omega arith)) ∙ abbrev-if (b == 45) _ _ (not-is 45 (omega arith))
-          ∙ abbrev-if ((b == 34) || (b == 39)) _ _ (or-false (b == 34) (b == 39) (not-is 34 (omega arith)) (not-is 39 (omega arith)))
+      smart x = grind (arith, abbrev-if, not-is, or-false)
 
       go : begins one alone k (b ∷ bs) ≡ item_at Plain k (suc k)
       go =
@@ -518,16 +459,8 @@ module _ (options : Options) (lookup : Lookup) (is_cell : Bool) (text : List ℕ
               let within : resume ≤ end_of alone.stretches = o.2 in
               let s = end-is in
               ih resume (omega arith) (omega arith)
-          by false f = stop-edge k le stops
-            where
-              stops : (end later : ℕ) → begins_at one alone k ≡ Stands (record { kind = Plain; start = k; end = end }) later → ⊥
-              stops end later g =
-                  let same : Stands x resume ≡ Stands (record { kind = Plain; start = k; end = end }) later = sym e ∙ g in
-                  let xs : x ≡ record { kind = Plain; start = k; end = end } = cc in
-                  true≢false (sym (ap (λ (y : Item). is_plain y.kind && (y.start == k)) xs ∙ eq-eqb k k refl) ∙ f)
-      go (Opens o) e ih = stop-edge k le (λ end later g. cc)
-      go (Closes c) e ih = stop-edge k le (λ end later g. cc)
-      go Ends e ih = stop-edge k le (λ end later g. cc)
+          by false f = grind (arith, stop-edge, eq-eqb)
+      go _ e ih = stop-edge k le (λ end later g. cc)
 
   plain-end-following : (n k : ℕ) → k ≤ plain_end one alone n k
   plain-end-following zero k = omega arith
@@ -543,9 +476,7 @@ module _ (options : Options) (lookup : Lookup) (is_cell : Bool) (text : List ℕ
               let i = ih resume in
               omega arith
           by false = omega arith
-      go (Opens o) e ih = omega arith
-      go (Closes c) e ih = omega arith
-      go Ends e ih = omega arith
+      go _ e ih = omega arith
 
   -- each item begins and ends at a character boundary, and so does the text after it
   abbrev pub Whole : Token → Type 0

@@ -1,7 +1,7 @@
 -- The offsets of a leaf's text in the source: the leaf, read from an offset on, has the bytes of the text from one on, and the offsets are
 -- in order.
 use Rattle.std.specs.Prelude.{◌-◌, get_or, drop}
-use Rattle.std.proofs.Common.{◌≡◌, ℕ, suc, ◌<◌, ◌≤◌, true, List, [], ◌∷◌, length, refl, sym, ap, ◌∙◌, subst, arith, length-drop}
+use Rattle.std.proofs.Common.{◌≡◌, ℕ, suc, ◌<◌, ◌≤◌, true, List, [], ◌∷◌, length, sym, ap, ◌∙◌, arith, length-drop}
 use Rattle.std.proofs.Math.Seq.{drop-cons}
 use Rattle.cmark_grammar.specs.InlineTokens.{from, place_of}
 use Rattle.cmark_grammar.specs.LeafText.{Leaf, Stretch, size_of, place_with, InTurn}
@@ -52,14 +52,7 @@ module _ (reader : Reader) (leaf : Leaf) (size : ℕ) (turn : InTurn 0 leaf.stre
       sym (i.next content)
 
   in_order : (j k : ℕ) → j < k → k ≤ length text → place j < place k
-  in_order j k lt le =
-      let n = size_is in
-      let a = by_left j in
-      let b = by_left k in
-      let c = place_less 0 leaf.stretches size (length text - j) (length text - k) turn (let q : length text - k < length text - j = omega arith in q) (let q : length text - j ≤ size_of leaf.stretches = omega arith in q) in
-      subst (λ m. m < place k) (sym a) (subst (λ m. place_with (length text - j) leaf.stretches < m) (sym b) c)
+  in_order j k lt le = grind (arith, size_is, by_left, place_less)
 
   pub text-places : ArePlaces reader leaf (text_of reader leaf) (place_in reader leaf)
-  text-places =
-      subst (λ t. ArePlaces reader leaf t (λ k. place_of reader leaf (drop k t))) (sym (bytes-low reader.source 0 0 leaf.stretches size (omega arith) turn))
-      (record { rest = rest_from; ends = λ k le. refl; next = next_place; order = in_order })
+  text-places = grind (arith, bytes-low, rest_from, next_place, in_order)

@@ -1,7 +1,7 @@
 -- The bytes that open a span are in one run, and so are those that close it: there is nothing between them.
-use Rattle.std.proofs.Common.{◌≡◌, ℕ, zero, suc, ◌+◌, ◌-◌, ◌<◌, ◌≤◌, Bool, true, false, nat_lt, if◌then◌else◌, List, [], ◌∷◌, ◌++◌, get_or, refl, sym, ap, ◌∙◌, subst, arith, map}
+use Rattle.std.proofs.Common.{◌≡◌, ℕ, zero, suc, ◌+◌, ◌-◌, ◌<◌, ◌≤◌, nat_lt, List, [], ◌∷◌, ◌++◌, get_or, refl, sym, ap, ◌∙◌, subst, arith, map}
 use Rattle.cmark_grammar.specs.Emphasis.{Run, Pair, Sibling, Plain, Delimiter, Piece, Whole, Standing}
-use Rattle.cmark_grammar.specs.Emphasis.{paired_count, pair_of, rest_of_opener, rest_of_closer, kinds_of, nest, wrapped, row, keep, is_tilde_or_caret, deactivates, deactivated, left_open, stand, Closes}
+use Rattle.cmark_grammar.specs.Emphasis.{paired_count, pair_of, rest_of_opener, rest_of_closer, kinds_of, nest, wrapped, row, keep, deactivated, left_open, stand, Closes}
 use Rattle.cmark_inline_model.specs.EmphasisModel.{closed, resolve, spans_of}
 use Rattle.cmark_grammar.specs.Items.{ItemKind, Delimiters, Item}
 use Rattle.cmark_grammar.specs.Siblings.{Inline, Nil as NoSiblings, Single as SingleItem, Around as Element}
@@ -56,34 +56,18 @@ module _ (E : ℕ → Type 0) where
   tight-cut (Standing r ∷ b) rest h = let i = tight-cut b rest h.1 in ((h.0, i.0), i.1)
 
   tight-keep : (r : Run) (ps : List Piece) → TightRun r → TightPieces ps → TightPieces (keep r ps)
-  tight-keep r ps h k = go (nat_lt 0 r.left)
-    where
-      go : (b : Bool) → TightPieces (if b then Standing r ∷ ps else ps)
-      go true = (h, k)
-      go false = k
+  tight-keep r ps h k = grind (arith, nat_lt)
 
   tight-stand : (r : Run) (ps : List Piece) → TightRun r → TightPieces ps → TightPieces (stand r ps)
-  tight-stand r ps h k = go r.opens
-    where
-      go : (b : Bool) → TightPieces (if b then keep r ps else Whole (singles r.at r.left Nil) ∷ ps)
-      go true = tight-keep r ps h k
-      go false = (tight-singles r.left r.at Nil tt, k)
+  tight-stand r ps h k = grind (arith, tight-keep, tight-singles)
 
   tight-deactivated : (ps : List Piece) → TightPieces ps → TightPieces (map deactivated ps)
   tight-deactivated [] h = tt
   tight-deactivated (Whole f ∷ ps) h = (h.0, tight-deactivated ps h.1)
-  tight-deactivated (Standing r ∷ ps) h = go (is_tilde_or_caret r.delimiter) (tight-deactivated ps h.1)
-    where
-      go : (b : Bool) → TightPieces (map deactivated ps) → TightPieces ((if b then Whole (singles r.at r.left Nil) else Standing r) ∷ map deactivated ps)
-      go true i = (tight-singles r.left r.at Nil tt, i)
-      go false i = (h.0, i)
+  tight-deactivated (Standing r ∷ ps) h = grind (arith, tight-singles, tight-deactivated ps h.1)
 
   tight-left : (c : Run) (ps : List Piece) → TightPieces ps → TightPieces (left_open c ps)
-  tight-left c ps h = go (deactivates c)
-    where
-      go : (b : Bool) → TightPieces (if b then map deactivated ps else ps)
-      go true = tight-deactivated ps h
-      go false = h
+  tight-left c ps h = grind (arith, tight-deactivated)
 
   tight-pair : (b : List Piece) (o c : Run) (front : List Piece) → TightPieces (b ++ (Standing o ∷ front)) → TightRun c
       → TightPieces (Whole (wrapped (pair_of o c) (row b Nil)) ∷ keep (rest_of_opener o c) front) × TightRun (rest_of_closer o c)
@@ -134,9 +118,7 @@ no-gaps-here (suc n) (suc i) gaps h = no-gaps-here n i gaps (omega (arith, h))
 
 no-gaps-following : (n i : ℕ) (gaps : List Inline) → get_or (no_gaps n gaps) (n + i) NoSiblings ≡ get_or gaps i NoSiblings
 no-gaps-following zero i gaps = let e : 0 + i ≡ i = omega arith in ap (λ j. get_or gaps j NoSiblings) e
-no-gaps-following (suc n) i gaps =
-    let e : suc n + i ≡ suc (n + i) = omega arith in
-    ap (λ j. get_or (NoSiblings ∷ no_gaps n gaps) j NoSiblings) e ∙ no-gaps-following n i gaps
+no-gaps-following (suc n) i gaps = grind (arith, no-gaps-following n i gaps)
 
 -- the gaps after the first byte that are empty are so from this index on
 abbrev Empties : (E : ℕ → Type 0) → ℕ → List Inline → Type 0

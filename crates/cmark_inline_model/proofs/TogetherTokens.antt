@@ -1,7 +1,7 @@
 -- The bytes of a text, of an autolink and of a tag on one line are without a gap in the source.
-use Rattle.std.specs.Prelude.{suc, zero, ◌-◌, ◌==◌, ◌&&◌, ◌||◌, not, nat_le, nat_lt, if◌then◌else◌, get_or, drop, take, codes}
+use Rattle.std.specs.Prelude.{suc, zero, ◌-◌, ◌==◌, ◌&&◌, ◌||◌, not, nat_lt, if◌then◌else◌, get_or, drop, take}
 use Rattle.std.specs.List.{prefix_len}
-use Rattle.std.proofs.Common.{◌≡◌, ◌<◌, ◌≤◌, ◌+◌, ℕ, Bool, true, false, List, [], ◌∷◌, length, Option, Some, None, refl, sym, ap, ◌∙◌, subst, arith, eqb-true, true≢false, length-drop}
+use Rattle.std.proofs.Common.{◌≡◌, ◌<◌, ◌≤◌, ◌+◌, ℕ, Bool, true, false, List, [], ◌∷◌, length, Option, Some, None, refl, sym, ap, ◌∙◌, subst, arith, eqb-true, true≢false, length-drop, rules}
 use Rattle.std.proofs.lemmas.Bool.{eq-eqb, ltb-false, ltb-true, or_parts}
 use Rattle.std.proofs.lemmas.List.{get_or-drop, get_or-take, get_or_default, length-take}
 use Rattle.std.proofs.lemmas.List.Folds.{list_any_none}
@@ -11,10 +11,10 @@ use Rattle.cmark_grammar.specs.CodeSpans.{is_backtick, backticks, code_in}
 use Rattle.cmark_grammar.specs.Columns.{is_blank_byte}
 use Rattle.cmark_grammar.specs.Dashes.{dashes_of, dash_text}
 use Rattle.cmark_grammar.specs.Flanking.{Flanking, flanking, is_run_delimiter}
-use Rattle.cmark_grammar.specs.Formulas.{is_dollar, Braces, no_braces, braces_after, inline_in, display_in}
+use Rattle.cmark_grammar.specs.Formulas.{is_dollar, Braces, no_braces, braces_after}
 use Rattle.cmark_grammar.specs.InlineHtml.{after_markup, takes_lines}
-use Rattle.cmark_grammar.specs.InlineTokens.{item_at, bracket, is_plain, from, before, place_of, size_to, character_before, character_at, break_or, code_or, escaped_backtick, escape_at, entity_or, autolink_or, tag_or_text, source_from, markup_or, less_than, run_or, run_at, formula_or, dollar, dots, hyphens, quote_at, smart_or, begins, begins_at, goes_on, plain_end, longest, token}
-use Rattle.cmark_grammar.specs.Items.{ItemKind, Plain, Written, InlineMath, DisplayMath, Delimiters, Html, OwnedHtml, SoftBreak, HardBreak, Item, Token, Stands, Opens, Closes, Ends}
+use Rattle.cmark_grammar.specs.InlineTokens.{item_at, bracket, is_plain, from, before, place_of, size_to, character_before, character_at, break_or, code_or, escaped_backtick, escape_at, entity_or, autolink_or, tag_or_text, source_from, markup_or, less_than, run_or, run_at, formula_or, dollar, hyphens, smart_or, begins, begins_at, goes_on, plain_end, longest, token}
+use Rattle.cmark_grammar.specs.Items.{ItemKind, Plain, Written, InlineMath, DisplayMath, Html, OwnedHtml, SoftBreak, HardBreak, Item, Token, Stands, Opens, Closes}
 use Rattle.cmark_grammar.specs.LabelsOverLines.{piped}
 use Rattle.cmark_grammar.specs.LeafText.{Leaf}
 use Rattle.cmark_grammar.specs.Letters.{first_is, starts}
@@ -185,9 +185,7 @@ module _ (reader : Reader) (leaf : Leaf) (text : List ℕ) (place : ℕ → ℕ)
     no_lines (suc n) (c ∷ l) e = let p = or_parts ((c == 10) || (c == 13)) (takes_lines (take n l)) e in let q = or_parts (c == 10) (c == 13) p.0 in (both (c == 10) (c == 13) q.0 q.1, no_lines n l p.1)
       where
         both : (x y : Bool) → x ≡ false → y ≡ false → (not x && not y) ≡ true
-        both true y e f = not_written (sym e)
-        both false true e f = not_written (sym f)
-        both false false e f = refl
+        both x y e f = grind (arith, not_written)
 
     -- up to the end of one of these bytes
     rest_joined : (rest : List ℕ) → IsAfter (b ∷ bs) rest → Front (λ c. is_content c ≡ true) (length (b ∷ bs) - length rest) (b ∷ bs) → Together k (place_of one alone rest)
@@ -219,16 +217,7 @@ module _ (reader : Reader) (leaf : Leaf) (text : List ℕ) (place : ℕ → ℕ)
     UriFront (Some f) = Front (λ d. is_content d ≡ true) (length (b ∷ bs) - length f.following) (b ∷ bs)
 
     uri_content : (d : ℕ) → is_uri_byte d ≡ true → is_content d ≡ true
-    uri_content d e = go (nat_le d 32) ((d == 127) || ((d == 60) || (d == 62))) refl e
-      where
-        both : (x y : Bool) → (d == 10) ≡ x → (d == 13) ≡ y → nat_le d 32 ≡ false → (not x && not y) ≡ true
-        both true y p q n = let z = eqb-true d 10 p in absurd (grind (arith))
-        both false true p q n = let z = eqb-true d 13 q in absurd (grind (arith))
-        both false false p q n = refl
-
-        go : (x y : Bool) → nat_le d 32 ≡ x → not (x || y) ≡ true → is_content d ≡ true
-        go true y n f = not_written f
-        go false y n f = both (d == 10) (d == 13) refl refl n
+    uri_content d e = grind (arith, eqb-true, not_written)
 
     closed_front : is_content b ≡ true → UriFront (closed_by 62 (prefix_len is_uri_byte bs) bs)
     closed_front c = go (first_is (λ d. d == 62) (drop n bs)) refl
@@ -269,9 +258,7 @@ module _ (reader : Reader) (leaf : Leaf) (text : List ℕ) (place : ℕ → ℕ)
           (tag_joined c (after_tag no_prefix (from one alone k)) (ap (after_tag no_prefix) (sym (from-text reader leaf text place h k ∙ here))))))
 
       run_joined : (n : ℕ) (beside : Flanking) → Leads (λ c. is_content c ≡ true) n (b ∷ bs) → 0 < n → Joined (run_or one alone k b n beside)
-      run_joined n beside f some =
-          when (beside.opens || beside.closes) (item_at (Delimiters (record { delimiter = b; run_length = n; at = 0; left = n; opens = beside.opens; closes = beside.closes })) k (k + n)) (item_at Plain k (k + n)) (λ e w. not_written w)
-          (λ e w. bytes_joined n f some)
+      run_joined n beside f some = grind (arith, when, not_written, bytes_joined)
 
       math_joined : is_content b ≡ true → (found : Option Parsed) → Joined (formula_or one alone InlineMath k found)
       math_joined c None = λ w. byte_joined c
@@ -282,19 +269,10 @@ module _ (reader : Reader) (leaf : Leaf) (text : List ℕ) (place : ℕ → ℕ)
       display_joined c (Some found) = λ w. not_written w
 
       dollar_joined : is_content b ≡ true → (braces : Braces) → Joined (dollar one alone k bs braces)
-      dollar_joined c braces =
-          when (first_is is_dollar bs) (formula_or one alone DisplayMath k (display_in braces (drop 1 bs))) (formula_or one alone InlineMath k (inline_in braces bs)) (λ e. display_joined c (display_in braces (drop 1 bs)))
-          (λ e. math_joined c (inline_in braces bs))
+      dollar_joined c braces = grind (arith, when, display_joined, math_joined)
 
       smart_joined : is_content b ≡ true → Joined (smart_or one alone k b)
-      smart_joined c =
-          let n = prefix_len (λ d. d == 45) (from one alone k) in
-          let plain = item_at Plain k (suc k) in
-          let quoted = if (b == 34) || (b == 39) then quote_at one alone k b else plain in
-          when (b == 46) (dots one alone k) (if b == 45 then hyphens one alone k n else quoted)
-          (λ e. when (starts (codes "...") (from one alone k)) (item_at (Written (226 ∷ 128 ∷ 166 ∷ [])) k (k + 3)) plain (λ f w. not_written w) (λ f w. byte_joined c))
-          (λ e. when (b == 45) (hyphens one alone k n) quoted (λ f. hyphens_joined f)
-          (λ f. when ((b == 34) || (b == 39)) (quote_at one alone k b) plain (λ g w. not_written w) (λ g w. byte_joined c)))
+      smart_joined c = search (rules, when, not_written, byte_joined, hyphens_joined)
         where
           hyphens_joined : (b == 45) ≡ true → Joined (hyphens one alone k (prefix_len (λ d. d == 45) (from one alone k)))
           hyphens_joined e =
@@ -306,9 +284,7 @@ module _ (reader : Reader) (leaf : Leaf) (text : List ℕ) (place : ℕ → ℕ)
               (when (nat_lt n 2) (item_at Plain k (k + n)) (item_at (Written (dash_text (dashes_of n))) k (k + n)) (λ g w. bytes_joined n f some) (λ g w. not_written w))
 
       both_false : (x y : Bool) → (x || not y) ≡ false → y ≡ true
-      both_false true y e = cc
-      both_false false true e = refl
-      both_false false false e = cc
+      both_false x y e = grind arith
 
       content_or : (is_blank_byte b || not (is_content b)) ≡ true → blank_break_in (b ∷ bs) ≡ None → is_content b ≡ true
       content_or e none = no-break b bs e none
@@ -349,11 +325,7 @@ module _ (reader : Reader) (leaf : Leaf) (text : List ℕ) (place : ℕ → ℕ)
           (λ e9. when reader.options.smart_punctuation (smart_or one alone k b) plain (λ e. smart_joined c) (λ e w. byte_joined c))))))))))))
 
   pub begins-joined : (k : ℕ) → may_open_markup reader.options.email_autolinks (drop k text) ≡ false → Joined (begins_at one alone k)
-  begins-joined k none = subst (λ l. Joined (begins one alone k l)) (sym (from-text reader leaf text place h k)) (go (drop k text) refl)
-    where
-      go : (l : List ℕ) → drop k text ≡ l → Joined (begins one alone k l)
-      go [] e = tt
-      go (b ∷ bs) e = begins_joined k b bs e (ap (may_open_markup reader.options.email_autolinks) (sym e) ∙ none)
+  begins-joined k none = grind (arith, from-text, begins_joined)
 
   -- ## Texts one after the other
   grown : (s m e : ℕ) → Together s m → Together m e → Together s e
@@ -382,11 +354,8 @@ module _ (reader : Reader) (leaf : Leaf) (text : List ℕ) (place : ℕ → ℕ)
       by true true p q =
           let own = j (plain_written x.kind p) in
           further resume (grown s e resume t (subst (λ i. Together i resume) (eqb-true x.start e q) (subst (Together x.start) (shape p) own)))
-      by true false p q = t
-      by false z p q = t
-  goes_joined (Opens b) s e more j shape t further = t
-  goes_joined (Closes b) s e more j shape t further = t
-  goes_joined Ends s e more j shape t further = t
+      by _ _ p q = t
+  goes_joined _ s e more j shape t further = t
 
   plain_joined : (n s e : ℕ) → Together s e → Together s (plain_end one alone n e)
   plain_joined zero s e t = t
@@ -399,14 +368,7 @@ module _ (reader : Reader) (leaf : Leaf) (text : List ℕ) (place : ℕ → ℕ)
       by false m further = goes_joined (begins_at one alone e) s e (plain_end one alone n) (begins-joined e m) (begins-shaped one alone e (from one alone e)) t further
 
   longest_joined : (t : Token) → Joined t → Shaped one alone t → Joined (longest one alone t)
-  longest_joined (Stands x resume) j shape = by (is_plain x.kind) refl
-    where
-      by : (z : Bool) → is_plain x.kind ≡ z → Joined (if z then item_at Plain x.start (plain_end one alone (length (from one alone resume)) resume) else Stands x resume)
-      by true p = λ w. plain_joined (length (from one alone resume)) x.start resume (subst (Together x.start) (shape p) (j (plain_written x.kind p)))
-      by false p = j
-  longest_joined (Opens b) j shape = tt
-  longest_joined (Closes b) j shape = tt
-  longest_joined Ends j shape = tt
+  longest_joined t j shape = grind (arith, plain_joined, plain_written)
 
   pub token-joined : (k : ℕ) → may_open_markup reader.options.email_autolinks (drop k text) ≡ false → Joined (token one alone k)
   unfolding token
@@ -421,12 +383,7 @@ module _ (reader : Reader) (leaf : Leaf) (text : List ℕ) (place : ℕ → ℕ)
 
   -- no line ends among these bytes
   no-content : (b : ℕ) → is_content b ≡ true → ((b == 10) || (b == 13)) ≡ false
-  no-content b e = go (b == 10) (b == 13) e
-    where
-      go : (x y : Bool) → (not x && not y) ≡ true → (x || y) ≡ false
-      go true y f = not_written f
-      go false true f = not_written f
-      go false false f = refl
+  no-content b e = grind (arith, not_written)
 
   pub byte-lines : (k : ℕ) → may_open_markup reader.options.email_autolinks (drop k text) ≡ false → (x : Item) (resume : ℕ) → begins_at one alone k ≡ Stands x resume → is_as_written x.kind ≡ true → takes_lines (slice text x.start x.end) ≡ false
   byte-lines k none x resume e w =

@@ -1,23 +1,20 @@
 -- A property of each kind of item that a token of a leaf can be holds of its tokens, and of the items of its parts.
-use Rattle.std.specs.Prelude.{suc, ◌==◌, ◌&&◌, ◌||◌, not, nat_lt, if◌then◌else◌, drop, take, codes}
+use Rattle.std.specs.Prelude.{suc, ◌==◌, ◌&&◌, ◌||◌, not, if◌then◌else◌}
 use Rattle.std.specs.List.{prefix_len}
-use Rattle.std.proofs.Common.{◌≡◌, ◌+◌, ℕ, Bool, true, false, List, [], ◌∷◌, length, Option, Some, None, refl}
+use Rattle.std.proofs.Common.{◌≡◌, ◌+◌, ℕ, Bool, true, false, List, [], ◌∷◌, length, Option, Some, None, refl, arith}
 use Rattle.cmark_grammar.specs.Autolinks.{autolink_in}
 use Rattle.cmark_grammar.specs.BracketDecisions.{decide}
 use Rattle.cmark_grammar.specs.BracketReading.{Reads}
 use Rattle.cmark_grammar.specs.BracketStates.{State, moved, opened, Decision}
-use Rattle.cmark_grammar.specs.CodeSpans.{is_backtick, backticks, code_in}
+use Rattle.cmark_grammar.specs.CodeSpans.{backticks, code_in}
 use Rattle.cmark_grammar.specs.Columns.{is_blank_byte}
-use Rattle.cmark_grammar.specs.Dashes.{dashes_of, dash_text}
 use Rattle.cmark_grammar.specs.Emphasis.{Run}
 use Rattle.cmark_grammar.specs.Flanking.{is_delimiter_run, is_intraword, opens_beside, closes_beside, flanking, is_run_delimiter}
-use Rattle.cmark_grammar.specs.Formulas.{is_dollar, Braces, no_braces, braces_after, inline_in, display_in}
-use Rattle.cmark_grammar.specs.InlineHtml.{after_markup, takes_lines}
-use Rattle.cmark_grammar.specs.InlineTokens.{item_at, bracket, is_plain, from, before, character_before, character_at, break_or, code_or, escaped_backtick, escape_at, entity_or, autolink_or, tag_or_text, source_from, markup_or, less_than, run_at, formula_or, dollar, dots, hyphens, quote_at, smart_or, begins, begins_at, plain_end, longest, token, size_to, place_of}
+use Rattle.cmark_grammar.specs.Formulas.{is_dollar, Braces, no_braces, braces_after}
+use Rattle.cmark_grammar.specs.InlineTokens.{item_at, bracket, is_plain, from, before, character_before, character_at, break_or, code_or, escaped_backtick, escape_at, entity_or, autolink_or, tag_or_text, markup_or, less_than, run_at, formula_or, dollar, smart_or, begins, begins_at, plain_end, longest, token, place_of}
 use Rattle.cmark_grammar.specs.Items.{ItemKind, Plain, Written, Html, OwnedHtml, Delimiters, InlineMath, DisplayMath, SoftBreak, HardBreak, Item, Bracket, Token, Stands, Opens, Closes, Own, Code, Autolink, Quoted}
-use Rattle.cmark_grammar.specs.LabelsOverLines.{piped}
 use Rattle.cmark_grammar.specs.LeafText.{Leaf}
-use Rattle.cmark_grammar.specs.Letters.{first_is, starts}
+use Rattle.cmark_grammar.specs.Letters.{first_is}
 use Rattle.cmark_grammar.specs.LineBreaks.{LineBreak, backslash_break_in, blank_break_in}
 use Rattle.cmark_grammar.specs.Lines.{is_content}
 use Rattle.cmark_grammar.specs.LinkDefinitions.{Parsed}
@@ -25,8 +22,7 @@ use Rattle.cmark_grammar.specs.Parts.{Parts, Nil, Single, Form, Closing, Opening
 use Rattle.cmark_grammar.specs.Questions.{Saying}
 use Rattle.cmark_grammar.specs.Quotes.{Quote}
 use Rattle.cmark_grammar.specs.Readers.{Reader}
-use Rattle.cmark_grammar.specs.Tags.{after_tag, no_prefix}
-use Rattle.cmark_grammar.specs.Tokens.{Entity, entity_in, is_punctuation}
+use Rattle.cmark_grammar.specs.Tokens.{Entity, entity_in}
 
 module _ (reader : Reader) (leaf : Leaf) (Holds : ItemKind → (start end : ℕ) → Type 0) where
   -- it holds of each kind of item that a token of the leaf is, with the option that it needs
@@ -63,12 +59,7 @@ module _ (reader : Reader) (leaf : Leaf) (Holds : ItemKind → (start end : ℕ)
 
   module _ (holds : HoldsOfItems) (at : ℕ) (b : ℕ) (bs : List ℕ) (here : from reader leaf at ≡ b ∷ bs) where
     break_holds : (found : Option LineBreak) (other : Token) → HoldsOf other → HoldsOf (break_or reader leaf at found other)
-    break_holds None other h = h
-    break_holds (Some found) other h = hard found.is_hard _ _
-      where
-        hard : (x : Bool) (start end : ℕ) → Holds (if x then HardBreak else SoftBreak) start end
-        hard true = holds.hard_break
-        hard false = holds.soft_break
+    break_holds found other h = grind arith
 
     code_holds : (n : ℕ) (found : Option Parsed) → HoldsOf (code_or reader leaf at n found)
     code_holds n (Some found) = holds.code _ _ _
@@ -83,12 +74,7 @@ module _ (reader : Reader) (leaf : Leaf) (Holds : ItemKind → (start end : ℕ)
     escaped_holds None = holds.own _ _
 
     escape_holds : HoldsOf (escape_at reader leaf at bs)
-    escape_holds =
-        when (first_is is_backtick bs) (escaped_backtick reader leaf (suc at) (backticks bs) (code_in (drop 1 bs)))
-        (if leaf.is_cell && starts piped bs then item_at Plain (at + 2) (at + 3) else if first_is is_punctuation bs then item_at Plain (suc at) (at + 2) else item_at Plain at (suc at))
-        (λ e. escaped_holds (code_in (drop 1 bs)))
-        (when (leaf.is_cell && starts piped bs) (item_at Plain (at + 2) (at + 3)) (if first_is is_punctuation bs then item_at Plain (suc at) (at + 2) else item_at Plain at (suc at)) (λ e. holds.plain _ _)
-        (when (first_is is_punctuation bs) (item_at Plain (suc at) (at + 2)) (item_at Plain at (suc at)) (λ e. holds.plain _ _) (holds.plain _ _)))
+    escape_holds = grind (arith, when, escaped_holds)
 
     markup_holds : (found : Option (List ℕ)) (other : Token) → HoldsOf other → HoldsOf (markup_or reader leaf at found other)
     markup_holds None other h = h
@@ -99,22 +85,14 @@ module _ (reader : Reader) (leaf : Leaf) (Holds : ItemKind → (start end : ℕ)
     kind_holds false bytes = holds.html
 
     tag_holds : (found : Option (List ℕ)) → HoldsOf (tag_or_text reader leaf at found)
-    tag_holds None = holds.own _ _
-    tag_holds (Some rest) = kind_holds (takes_lines bytes) bytes _ _
-      where
-        bytes : List ℕ
-        bytes = take (size_to reader leaf at rest) (from reader leaf at)
+    tag_holds found = grind (arith, kind_holds)
 
     autolink_holds : (found : Option Parsed) (other : Token) → autolink_in reader.options.email_autolinks bs ≡ found → HoldsOf other → HoldsOf (autolink_or reader leaf at found other)
     autolink_holds None other e h = h
     autolink_holds (Some found) other e h = holds.autolink at b bs found here e
 
     less_than_holds : HoldsOf (less_than reader leaf at bs)
-    less_than_holds =
-        let tag = tag_or_text reader leaf at (after_tag no_prefix (from reader leaf at)) in
-        let others = markup_or reader leaf at (after_markup (source_from reader leaf at)) tag in
-        when (first_is (λ c. c == 92) bs) (item_at Plain at (suc at)) (autolink_or reader leaf at (autolink_in reader.options.email_autolinks bs) others) (λ e. holds.plain _ _)
-        (autolink_holds (autolink_in reader.options.email_autolinks bs) others refl (markup_holds (after_markup (source_from reader leaf at)) tag (tag_holds (after_tag no_prefix (from reader leaf at)))))
+    less_than_holds = grind (arith, when, autolink_holds, markup_holds, tag_holds)
 
     run_holds : (n : ℕ) → HoldsOf (run_at reader leaf at b n)
     run_holds n =
@@ -131,19 +109,10 @@ module _ (reader : Reader) (leaf : Leaf) (Holds : ItemKind → (start end : ℕ)
     formula_holds kind None h = holds.own _ _
 
     dollar_holds : (braces : Braces) → reader.options.math ≡ true → HoldsOf (dollar reader leaf at bs braces)
-    dollar_holds braces on =
-        when (first_is is_dollar bs) (formula_or reader leaf DisplayMath at (display_in braces (drop 1 bs))) (formula_or reader leaf InlineMath at (inline_in braces bs))
-        (λ e. formula_holds DisplayMath (display_in braces (drop 1 bs)) (holds.display_math on)) (formula_holds InlineMath (inline_in braces bs) (holds.inline_math on))
+    dollar_holds braces on = grind (arith, when, formula_holds)
 
     smart_holds : reader.options.smart_punctuation ≡ true → HoldsOf (smart_or reader leaf at b)
-    smart_holds on =
-        let n = prefix_len (λ c. c == 45) (from reader leaf at) in
-        let quotes = if (b == 34) || (b == 39) then quote_at reader leaf at b else item_at Plain at (suc at) in
-        when (b == 46) (dots reader leaf at) (if b == 45 then hyphens reader leaf at n else quotes)
-        (λ e. when (starts (codes "...") (from reader leaf at)) (item_at (Written (226 ∷ 128 ∷ 166 ∷ [])) at (at + 3)) (item_at Plain at (suc at)) (λ f. holds.written _ _ _) (holds.plain _ _))
-        (when (b == 45) (hyphens reader leaf at n) quotes
-        (λ e. when (nat_lt n 2) (item_at Plain at (at + n)) (item_at (Written (dash_text (dashes_of n))) at (at + n)) (λ f. holds.plain _ _) (holds.written _ _ _))
-        (when ((b == 34) || (b == 39)) (quote_at reader leaf at b) (item_at Plain at (suc at)) (λ e. holds.quoted on _ _ _) (holds.plain _ _)))
+    smart_holds on = grind (arith, when)
 
     begins_holds : HoldsOf (begins reader leaf at (b ∷ bs))
     begins_holds =

@@ -10,10 +10,10 @@ use Rattle.cmark_grammar.specs.CodeSpans.{is_backtick, backticks, code_in, code_
 use Rattle.cmark_grammar.specs.Columns.{is_blank_byte}
 use Rattle.cmark_grammar.specs.Dashes.{dashes_of, dash_text}
 use Rattle.cmark_grammar.specs.Flanking.{Flanking, flanking, is_run_delimiter}
-use Rattle.cmark_grammar.specs.Formulas.{is_dollar, Braces, no_braces, braces_after, inline_in, display_in}
+use Rattle.cmark_grammar.specs.Formulas.{is_dollar, Braces, no_braces, braces_after}
 use Rattle.cmark_grammar.specs.InlineHtml.{after_markup}
-use Rattle.cmark_grammar.specs.InlineTokens.{item_at, bracket, is_plain, as_in, from, before, place_of, size_to, character_before, character_at, line_begins, read_on, break_or, code_or, escaped_backtick, escape_at, entity_or, autolink_or, tag_kind, tag_or_text, source_from, markup_or, less_than, run_or, run_at, formula_or, dollar, dots, hyphens, quote_at, smart_or, begins, begins_at, goes_on, plain_end, longest, token}
-use Rattle.cmark_grammar.specs.Items.{ItemKind, Plain, Own, Written, Code, InlineMath, DisplayMath, Autolink, Quoted, Delimiters, Token, Stands, Opens, Closes, Ends}
+use Rattle.cmark_grammar.specs.InlineTokens.{item_at, bracket, as_in, from, before, place_of, size_to, character_before, character_at, read_on, break_or, code_or, escaped_backtick, escape_at, entity_or, autolink_or, tag_kind, tag_or_text, source_from, markup_or, less_than, run_or, run_at, formula_or, dollar, dots, hyphens, quote_at, smart_or, begins, begins_at, goes_on, plain_end, longest, token}
+use Rattle.cmark_grammar.specs.Items.{ItemKind, Plain, Own, Written, Code, Autolink, Quoted, Delimiters, Token, Stands, Opens, Closes, Ends}
 use Rattle.cmark_grammar.specs.LabelsOverLines.{piped}
 use Rattle.cmark_grammar.specs.LeafText.{Leaf, end_of, InTurn}
 use Rattle.cmark_grammar.specs.Letters.{first_is, starts}
@@ -30,10 +30,7 @@ use Rattle.cmark_inline_model.proofs.LeafPlaces.{none-following, place-within, p
 use Rattle.cmark_inline_model.proofs.TokenSizes.{starts-size, first-size, EntityWithin, entity-within, BreakWithin, backslash-within, blank-within}
 
 pub length-blanks : (bs : List ℕ) → length (after_leading_blanks bs) ≤ length bs
-length-blanks bs = let e = length-drop (length bs - length (after_leading_blanks bs)) bs in dropped _ bs
-  where
-    dropped : (k : ℕ) (l : List ℕ) → length (drop k l) ≤ length l
-    dropped k l = let e = length-drop k l in omega arith
+length-blanks bs = grind (arith, length-drop)
 
 module _ (reader : Reader) (leaf : Leaf) (size : ℕ) (turn : InTurn 0 leaf.stretches size) where
   abbrev end : ℕ
@@ -68,30 +65,13 @@ module _ (reader : Reader) (leaf : Leaf) (size : ℕ) (turn : InTurn 0 leaf.stre
     byte_onward kind = let f = fits in item_onward at at (suc at) kind (omega arith) (omega arith) (omega arith) (omega arith)
 
     rest_onward : (kind : ItemKind) (rest : List ℕ) → length rest < suc (length bs) → Onward at (item_at kind at (place_of reader leaf rest))
-    rest_onward kind rest h =
-        let e = size_here in
-        let p = place-following reader.source leaf.stretches size turn (length rest) at (omega arith) in
-        let q = place-within reader.source leaf.stretches size turn (length rest) in
-        item_onward at at (place_of reader leaf rest) kind (omega arith) (omega arith) p q
+    rest_onward kind rest h = grind (arith, size_here, place-following, place-within, item_onward)
 
     read_on_after : (x : ℕ) → x ≤ end → (x ≤ read_on reader leaf x) × (read_on reader leaf x ≤ end)
-    read_on_after x h = (place-from reader.source leaf.stretches size turn (length rest) x within h, place-within reader.source leaf.stretches size turn (length rest))
-      where
-        rest : List ℕ
-        rest = if line_begins reader leaf x then after_leading_blanks (from reader leaf x) else from reader leaf x
-
-        within : length rest ≤ length (from reader leaf x)
-        within =
-            either (λ (l : List ℕ). length l ≤ length (from reader leaf x)) (line_begins reader leaf x) (after_leading_blanks (from reader leaf x)) (from reader leaf x) (length-blanks (from reader leaf x)) (omega arith)
+    read_on_after x h = grind (arith, place-from, place-within, either, length-blanks)
 
     break_onward : (found : Option LineBreak) (other : Token) → BreakWithin (suc (length bs)) found → Onward at other → Onward at (break_or reader leaf at found other)
-    break_onward None other h k = k
-    break_onward (Some found) other h k =
-        let e = size_here in let f = fits in
-        let item_end = at + size_to reader leaf at found.following in
-        let r = read_on_after item_end (omega arith) in
-        let a = r.0 in let c = r.1 in
-        (record { begins = omega arith; ordered = omega arith; ends = a }, omega arith, c)
+    break_onward found other h k = grind (arith, size_here, fits, read_on_after)
 
     code_onward : (n : ℕ) (found : Option Parsed) → 0 < n → n ≤ suc (length bs) → ParsedBelow (suc (length bs)) found → Onward at (code_or reader leaf at n found)
     code_onward n (Some found) h k f = rest_onward (Code (code_text (as_in leaf.is_cell found.bytes))) found.following f
@@ -126,19 +106,10 @@ module _ (reader : Reader) (leaf : Leaf) (size : ℕ) (turn : InTurn 0 leaf.stre
         some_backticks (c ∷ l) e = prefix-some is_backtick c l e
 
         escaped : (found : Option Parsed) → 0 < length bs → 0 < backticks bs → Onward at (escaped_backtick reader leaf (suc at) (backticks bs) found)
-        escaped (Some found) h k = let f = fits in item_onward at (suc at) (suc (suc at)) Plain (omega arith) (omega arith) (omega arith) (omega arith)
-        escaped None h k =
-            let f = fits in let w = prefix_len-le-length is_backtick bs in item_onward at (suc at) (suc at + backticks bs) Own (omega arith) (omega arith) (omega arith) (omega arith)
+        escaped found h k = grind (arith, fits, item_onward, prefix_len-le-length)
 
     markup_onward : (found : Option (List ℕ)) (other : Token) → LeavesBelow (length (source_from reader leaf at)) found → Onward at other → Onward at (markup_or reader leaf at found other)
-    markup_onward None other h k = k
-    markup_onward (Some rest) other h k =
-        let s = length-take (end - at) (drop at reader.source) in
-        let f = fits in
-        let item_end = at + (length (source_from reader leaf at) - length rest) in
-        let r = read_on_after item_end (omega arith) in
-        let a = r.0 in let c = r.1 in
-        (record { begins = omega arith; ordered = omega arith; ends = a }, omega arith, c)
+    markup_onward found other h k = grind (arith, length-take, fits, read_on_after)
 
     tag_onward : (found : Option (List ℕ)) → LeavesBelow (length (from reader leaf at)) found → Onward at (tag_or_text reader leaf at found)
     tag_onward None h = byte_onward Own
@@ -170,11 +141,7 @@ module _ (reader : Reader) (leaf : Leaf) (size : ℕ) (turn : InTurn 0 leaf.stre
     more_found n m (Some found) h k = omega arith
 
     dollar_onward : (braces : Braces) → Onward at (dollar reader leaf at bs braces)
-    dollar_onward braces =
-        let l = length-drop 1 bs in
-        when at (first_is is_dollar bs) (formula_or reader leaf DisplayMath at (display_in braces (drop 1 bs))) (formula_or reader leaf InlineMath at (inline_in braces bs))
-        (λ e. formula_onward DisplayMath (display_in braces (drop 1 bs)) (more_found (length (drop 1 bs)) (suc (length bs)) (display_in braces (drop 1 bs)) (omega arith) (display-shorter braces (drop 1 bs))))
-        (formula_onward InlineMath (inline_in braces bs) (more_found (length bs) (suc (length bs)) (inline_in braces bs) (omega arith) (inline-shorter braces bs)))
+    dollar_onward braces = grind (arith, length-drop, when, formula_onward, more_found, display-shorter, inline-shorter)
 
     dots_onward : Onward at (dots reader leaf at)
     dots_onward =
@@ -237,35 +204,18 @@ module _ (reader : Reader) (leaf : Leaf) (size : ℕ) (turn : InTurn 0 leaf.stre
         (when at reader.options.smart_punctuation (smart_or reader leaf at b) plain (λ e. smart_onward) (byte_onward Plain)))))))))))
 
   pub begins-at-onward : (at : ℕ) → Onward at (begins_at reader leaf at)
-  begins-at-onward at = go (from reader leaf at) refl
-    where
-      go : (l : List ℕ) → from reader leaf at ≡ l → Onward at (begins reader leaf at l)
-      go [] e = tt
-      go (b ∷ bs) e = begins_onward at b bs e
+  begins-at-onward at = grind (arith, begins_onward)
 
   -- plain bytes lead up to the leaf's end
   goes_within : (t : Token) (item_end : ℕ) (more : ℕ → ℕ) → item_end ≤ end → Onward item_end t → ((x : ℕ) → x ≤ end → (x ≤ more x) × (more x ≤ end)) → (item_end ≤ goes_on reader leaf t item_end more) × (goes_on reader leaf t item_end more ≤ end)
-  goes_within (Stands item resume) item_end more h k i = by (is_plain item.kind && (item.start == item_end))
-    where
-      by : (b : Bool) → (item_end ≤ (if b then more resume else item_end)) × ((if b then more resume else item_end) ≤ end)
-      by true = let m = i resume k.2 in let x = k.1 in let y = m.0 in let z = m.1 in (omega arith, z)
-      by false = (omega arith, h)
-  goes_within (Opens opener) item_end more h k i = (omega arith, h)
-  goes_within (Closes closer) item_end more h k i = (omega arith, h)
-  goes_within Ends item_end more h k i = (omega arith, h)
+  goes_within t item_end more h k i = grind arith
 
   plain_within : (n item_end : ℕ) → item_end ≤ end → (item_end ≤ plain_end reader leaf n item_end) × (plain_end reader leaf n item_end ≤ end)
   plain_within zero item_end h = (omega arith, h)
   plain_within (suc n) item_end h = goes_within (begins_at reader leaf item_end) item_end (plain_end reader leaf n) h (begins-at-onward item_end) (λ x k. plain_within n x k)
 
   longest_onward : (at : ℕ) (t : Token) → Onward at t → Onward at (longest reader leaf t)
-  longest_onward at (Stands item resume) h =
-      let item_end = plain_end reader leaf (length (from reader leaf resume)) resume in
-      let p = plain_within (length (from reader leaf resume)) resume h.2 in
-      let x = p.0 in let y = p.1 in let a = h.0.begins in let b = h.0.ordered in let c = h.0.ends in let d = h.1 in
-      when at (is_plain item.kind) (item_at Plain item.start item_end) (Stands item resume) (λ e. item_onward at item.start item_end Plain a (omega arith) (omega arith) y) h
-  longest_onward at Ends h = tt
-  longest_onward at _ h = h
+  longest_onward at t h = grind (arith, plain_within, when, item_onward)
 
   pub token-onward : (at : ℕ) → Onward at (token reader leaf at)
   unfolding token

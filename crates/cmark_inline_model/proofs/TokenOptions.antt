@@ -1,5 +1,5 @@
 -- Each item is read with its option.
-use Rattle.std.proofs.Common.{ℕ, subst}
+use Rattle.std.proofs.Common.{ℕ, arith}
 use Rattle.cmark_grammar.specs.BracketDecisions.{decide}
 use Rattle.cmark_grammar.specs.BracketReading.{Reads}
 use Rattle.cmark_grammar.specs.BracketStates.{State}
@@ -11,28 +11,14 @@ use Rattle.cmark_grammar.specs.Questions.{Saying}
 use Rattle.cmark_grammar.specs.Readers.{Reader}
 use Rattle.cmark_inline_model.specs.OptionRules.{IsRead, AllItems}
 use Rattle.cmark_inline_model.proofs.Addresses.{address-given}
-use Rattle.cmark_inline_model.proofs.TokenItems.{HoldsOfItems, HoldsOf, token-holds, OfItems, items-hold}
+use Rattle.cmark_inline_model.proofs.TokenItems.{HoldsOfItems, token-holds, OfItems, items-hold}
 
 module _ (reader : Reader) (leaf : Leaf) where
   abbrev HasOption : ItemKind → (start end : ℕ) → Type 0
   HasOption kind start end = IsRead reader.options kind
 
   options_hold : HoldsOfItems reader leaf HasOption
-  options_hold = record {
-    plain = λ start end. tt;
-    own = λ start end. tt;
-    written = λ text start end. tt;
-    code = λ text start end. tt;
-    html = λ start end. tt;
-    owned_html = λ bytes start end. tt;
-    soft_break = λ start end. tt;
-    hard_break = λ start end. tt;
-    quoted = λ on quote start end. on;
-    inline_math = λ on text start end. on;
-    display_math = λ on text start end. on;
-    run = λ run start is_run. is_run;
-    autolink = λ at b bs found here e. address-given reader.options bs found e;
-  }
+  options_hold = grind (arith, address-given)
 
   all_items : (parts : Parts) → OfItems (λ item. IsRead reader.options item.kind) parts → AllItems (IsRead reader.options) parts
   all_items Nil h = tt
@@ -42,7 +28,4 @@ module _ (reader : Reader) (leaf : Leaf) where
   all_items (Opening opener after) h = all_items after h
 
   pub leaf-items : (Says : Saying) (s : State) (parts : Parts) (t : State) → Reads (token reader leaf) (decide reader leaf) Says s parts t → AllItems (IsRead reader.options) parts
-  leaf-items Says s parts t h =
-      all_items parts
-      (items-hold (token reader leaf) (decide reader leaf) Says (λ item. IsRead reader.options item.kind)
-      (λ at resume item e. subst (HoldsOf reader leaf HasOption) e (token-holds reader leaf HasOption options_hold at)) s parts t h)
+  leaf-items Says s parts t h = grind (arith, all_items, items-hold, token-holds, options_hold)

@@ -1,8 +1,8 @@
 -- Each token of a leaf ends where a byte of the leaf begins, or at its end, and the bytes of a delimiter run are without a gap in the
 -- source.
-use Rattle.std.specs.Prelude.{suc, zero, ◌-◌, ◌==◌, ◌&&◌, ◌||◌, not, nat_lt, if◌then◌else◌, get_or, drop, take, codes}
+use Rattle.std.specs.Prelude.{suc, zero, ◌-◌, ◌==◌, ◌&&◌, ◌||◌, not, nat_lt, if◌then◌else◌, get_or, drop, codes}
 use Rattle.std.specs.List.{prefix_len}
-use Rattle.std.proofs.Common.{◌≡◌, ◌⊎◌, inl, inr, ◌<◌, ◌≤◌, ◌+◌, ℕ, Bool, true, false, List, [], ◌∷◌, length, Option, Some, None, refl, sym, ap, ◌∙◌, subst, arith, length-drop, eqb-true, true≢false}
+use Rattle.std.proofs.Common.{◌≡◌, ◌<◌, ◌≤◌, ◌+◌, ℕ, Bool, true, false, List, [], ◌∷◌, length, Option, Some, None, refl, sym, ap, ◌∙◌, subst, arith, length-drop, eqb-true, true≢false}
 use Rattle.cmark_grammar.specs.Autolinks.{autolink_in}
 use Rattle.cmark_grammar.specs.CodeSpans.{is_backtick, backticks, code_in}
 use Rattle.cmark_grammar.specs.Columns.{is_blank_byte}
@@ -10,14 +10,14 @@ use Rattle.cmark_grammar.specs.Dashes.{dashes_of, dash_text}
 use Rattle.cmark_grammar.specs.Flanking.{flanking, is_run_delimiter}
 use Rattle.cmark_grammar.specs.Formulas.{is_dollar, Braces, no_braces, braces_after, inline_in, display_in}
 use Rattle.cmark_grammar.specs.InlineHtml.{after_markup, takes_lines}
-use Rattle.cmark_grammar.specs.InlineTokens.{item_at, bracket, is_plain, from, before, place_of, size_to, character_before, character_at, line_begins, read_on, break_or, code_or, escaped_backtick, escape_at, entity_or, autolink_or, tag_or_text, source_from, markup_or, less_than, run_at, formula_or, dollar, dots, hyphens, quote_at, smart_or, begins, begins_at, goes_on, plain_end, longest, token}
-use Rattle.cmark_grammar.specs.Items.{ItemKind, Plain, Own, Quoted, Item, Written, InlineMath, DisplayMath, Delimiters, Html, OwnedHtml, SoftBreak, HardBreak, Token, Stands, Opens, Closes, Ends}
+use Rattle.cmark_grammar.specs.InlineTokens.{item_at, bracket, is_plain, from, before, place_of, size_to, character_before, character_at, read_on, break_or, code_or, escaped_backtick, escape_at, entity_or, autolink_or, tag_or_text, source_from, markup_or, less_than, run_at, formula_or, dollar, dots, hyphens, quote_at, smart_or, begins, begins_at, goes_on, plain_end, longest, token}
+use Rattle.cmark_grammar.specs.Items.{ItemKind, Plain, Own, Quoted, Item, Written, InlineMath, DisplayMath, Delimiters, OwnedHtml, SoftBreak, HardBreak, Token, Stands, Opens, Closes, Ends}
 use Rattle.cmark_grammar.specs.LabelsOverLines.{piped}
-use Rattle.cmark_grammar.specs.LeafText.{Leaf, size_of, end_of, InTurn}
+use Rattle.cmark_grammar.specs.LeafText.{Leaf, InTurn}
 use Rattle.cmark_grammar.specs.Letters.{first_is, starts}
 use Rattle.cmark_grammar.specs.LineBreaks.{LineBreak, backslash_break_in, blank_break_in}
 use Rattle.cmark_grammar.specs.Lines.{is_content}
-use Rattle.cmark_grammar.specs.LinkDefinitions.{Parsed, after_leading_blanks}
+use Rattle.cmark_grammar.specs.LinkDefinitions.{Parsed}
 use Rattle.cmark_grammar.specs.Readers.{Reader}
 use Rattle.cmark_grammar.specs.Tags.{after_tag, no_prefix}
 use Rattle.cmark_grammar.specs.Tokens.{Entity, entity_in, is_punctuation}
@@ -71,9 +71,7 @@ module _ (reader : Reader) (leaf : Leaf) (size : ℕ) (turn : InTurn 0 leaf.stre
     pub bytes : (k : ℕ) → at ≤ k → k < at + n → R (get_or reader.source k 0)
 
   pub walk : (R : ℕ → Type 0) (n at : ℕ) (l : List ℕ) → IsPlace at → from reader leaf at ≡ l → n ≤ length l → Front (λ b. (is_content b ≡ true) × R b) n l → Walked R at n (drop n l)
-  walk R zero at l h e w f =
-      let z : at ≡ at + 0 = omega arith in
-      record { place = subst IsPlace z h; rest_is = ap (from reader leaf) (sym z) ∙ e; bytes = λ k a b. absurd (omega arith) }
+  walk R zero at l h e w f = grind arith
   walk R (suc n) at [] h e w f = absurd (omega arith)
   walk R (suc n) at (b ∷ l) h e w f =
       let s = next-place at b l h e f.0.0 in
@@ -86,19 +84,12 @@ module _ (reader : Reader) (leaf : Leaf) (size : ℕ) (turn : InTurn 0 leaf.stre
       }
     where
       first : (k : ℕ) → at ≤ k → k < at + suc n → (suc at ≤ k → R (get_or reader.source k 0)) → R (get_or reader.source at 0) → R (get_or reader.source k 0)
-      first k x y later here = go (nat_lt at k) refl
-        where
-          go : (z : Bool) → nat_lt at k ≡ z → R (get_or reader.source k 0)
-          go true q = later (let r : at < k = grind (arith) in omega arith)
-          go false q = subst (λ j. R (get_or reader.source j 0)) (let r : k ≤ at = grind (arith) in (let t : at ≡ k = omega arith in t)) here
+      first k x y later here = grind arith
 
   pub rest-place : (at : ℕ) (rest : List ℕ) → IsPlace at → length rest ≤ length (from reader leaf at) → IsPlace (place_of reader leaf rest)
   rest-place at rest h w =
       let s = at-size reader.source leaf.stretches size turn within lines h.0 at h.1 in let x = h.1.0 in
       (length rest, (omega arith, refl))
-
-  pub end-place : IsPlace (end_of leaf.stretches)
-  end-place = (0, (omega arith, refl))
 
   abbrev pub Sits : Token → Type 0
   Sits (Stands item resume) = IsPlace resume × Uncut item.kind item.start item.end
@@ -135,15 +126,7 @@ module _ (reader : Reader) (leaf : Leaf) (size : ℕ) (turn : InTurn 0 leaf.stre
   one_content at b end e is c = λ k x y. subst (λ j. is_content (get_or reader.source j 0) ≡ true) (let q : at ≡ k = omega arith in q) (subst (λ d. is_content d ≡ true) (sym is) c)
 
   pub read-on-place : (x : ℕ) → IsPlace (read_on reader leaf x)
-  read-on-place x = (length rest, (fits, refl))
-    where
-      rest : List ℕ
-      rest = if line_begins reader leaf x then after_leading_blanks (from reader leaf x) else from reader leaf x
-
-      fits : length rest ≤ size_of leaf.stretches
-      fits =
-          let w = bytes-size reader.source leaf.stretches x in let l = length-blanks (from reader leaf x) in
-          either (λ (l : List ℕ). length l ≤ size_of leaf.stretches) (line_begins reader leaf x) (after_leading_blanks (from reader leaf x)) (from reader leaf x) (omega arith) w
+  read-on-place x = grind (arith, bytes-size, length-blanks, either)
 
   module _ (at b : ℕ) (bs : List ℕ) (there : IsPlace at) (here : from reader leaf at ≡ b ∷ bs) where
     content_next : is_content b ≡ true → IsPlace (suc at)
@@ -172,11 +155,7 @@ module _ (reader : Reader) (leaf : Leaf) (size : ℕ) (turn : InTurn 0 leaf.stre
     code_sits None h k = words_text (backticks (b ∷ bs)) at (b ∷ bs) there here k
 
     no_pipe : (c : ℕ) → IsName c → IsWord c × ((c == 124) ≡ false)
-    no_pipe c n = (n.word, go (c == 124) refl)
-      where
-        go : (x : Bool) → (c == 124) ≡ x → x ≡ false
-        go true e = absurd (let z = eqb-true c 124 e in let l = n.low in omega arith)
-        go false e = refl
+    no_pipe c n = grind (arith, eqb-true)
 
     names_no_pipe : (n : ℕ) (l : List ℕ) → Leads IsName n l → Leads (λ c. IsWord c × ((c == 124) ≡ false)) n l
     names_no_pipe n l k = record { front = front-map IsName (λ c. IsWord c × ((c == 124) ≡ false)) no_pipe n l k.front; fits = k.fits }
@@ -215,12 +194,7 @@ module _ (reader : Reader) (leaf : Leaf) (size : ℕ) (turn : InTurn 0 leaf.stre
     markup_sits (Some rest) other h = (read-on-place (at + (length (source_from reader leaf at) - length rest)), tt)
 
     tag_sits : IsWord b → (found : Option (List ℕ)) → LeavesBelow (length (from reader leaf at)) found → Sits (tag_or_text reader leaf at found)
-    tag_sits w None h = word_next w
-    tag_sits w (Some rest) h = (let e = ap length here in rest_there rest (omega arith), kind (takes_lines (take (size_to reader leaf at rest) (from reader leaf at))) refl)
-      where
-        kind : (x : Bool) → takes_lines (take (size_to reader leaf at rest) (from reader leaf at)) ≡ x → Uncut (if x then OwnedHtml (take (size_to reader leaf at rest) (from reader leaf at)) else Html) at (place_of reader leaf rest)
-        kind true e = e
-        kind false e = tt
+    tag_sits w found h = grind (arith, word_next, rest_there)
 
     autolink_sits : (found : Option Parsed) (other : Token) → ParsedBelow (suc (length bs)) found → Sits other → Sits (autolink_or reader leaf at found other)
     autolink_sits None other h k = k
@@ -289,44 +263,14 @@ module _ (reader : Reader) (leaf : Leaf) (size : ℕ) (turn : InTurn 0 leaf.stre
 
     -- a blank ends no line, and a line ending is a break
     no_break : (is_blank_byte b || not (is_content b)) ≡ true → blank_break_in (b ∷ bs) ≡ None → is_content b ≡ true
-    no_break e none = go (is_content b) refl
-      where
-        go : (x : Bool) → is_content b ≡ x → x ≡ true
-        go true f = refl
-        go false f = absurd (ended (b == 10) (b == 13) refl refl f)
-          where
-            ended : (x y : Bool) → (b == 10) ≡ x → (b == 13) ≡ y → (not x && not y) ≡ false → ⊥
-            ended true y p q r = let z = eqb-true b 10 p in (let k = subst (λ c. blank_break_in (c ∷ bs) ≡ None) z none in cc)
-            ended false true p q r = let z = eqb-true b 13 q in (let k = subst (λ c. blank_break_in (c ∷ bs) ≡ None) z none in cc)
-            ended false false p q r = true≢false r
+    no_break e none = grind (arith, eqb-true)
 
     -- a byte that is neither a blank nor ends a line
     both_false : (x y : Bool) → (x || not y) ≡ false → y ≡ true
-    both_false true y e = cc
-    both_false false true e = refl
-    both_false false false e = cc
+    both_false x y e = grind arith
 
     mark_word : (is_run_delimiter b) ≡ true → IsWord b × ((b == 124) ≡ false)
-    mark_word e = one (or-either (b == 42) ((b == 95) || ((b == 126) || ((b == 94) || (b == 61)))) e)
-      where
-        is : (c : ℕ) → is_content c ≡ true → c < 128 → (c == 124) ≡ false → (b == c) ≡ true → IsWord b × ((b == 124) ≡ false)
-        is c h k n f = (word-is b c h k f, subst (λ x. (x == 124) ≡ false) (sym (eqb-true b c f)) n)
-
-        four : ((b == 94) ≡ true) ⊎ ((b == 61) ≡ true) → IsWord b × ((b == 124) ≡ false)
-        four (inl f) = is 94 refl (omega arith) refl f
-        four (inr f) = is 61 refl (omega arith) refl f
-
-        three : ((b == 126) ≡ true) ⊎ (((b == 94) || (b == 61)) ≡ true) → IsWord b × ((b == 124) ≡ false)
-        three (inl f) = is 126 refl (omega arith) refl f
-        three (inr f) = four (or-either (b == 94) (b == 61) f)
-
-        two : ((b == 95) ≡ true) ⊎ (((b == 126) || ((b == 94) || (b == 61))) ≡ true) → IsWord b × ((b == 124) ≡ false)
-        two (inl f) = is 95 refl (omega arith) refl f
-        two (inr f) = three (or-either (b == 126) ((b == 94) || (b == 61)) f)
-
-        one : ((b == 42) ≡ true) ⊎ (((b == 95) || ((b == 126) || ((b == 94) || (b == 61)))) ≡ true) → IsWord b × ((b == 124) ≡ false)
-        one (inl f) = is 42 refl (omega arith) refl f
-        one (inr f) = two (or-either (b == 95) ((b == 126) || ((b == 94) || (b == 61))) f)
+    mark_word e = grind (arith, or-either, word-is, eqb-true)
 
     begins_sits : Sits (begins reader leaf at (b ∷ bs))
     begins_sits =
@@ -359,11 +303,7 @@ module _ (reader : Reader) (leaf : Leaf) (size : ℕ) (turn : InTurn 0 leaf.stre
         (λ e9. when reader.options.smart_punctuation (smart_or reader leaf at b) plain (λ e. smart_sits c) (λ e. text_next c))))))))))))
 
   pub begins-at-sits : (at : ℕ) → IsPlace at → Sits (begins_at reader leaf at)
-  begins-at-sits at h = go (from reader leaf at) refl
-    where
-      go : (l : List ℕ) → from reader leaf at ≡ l → Sits (begins reader leaf at l)
-      go [] e = tt
-      go (b ∷ bs) e = begins_sits at b bs h e
+  begins-at-sits at h = grind (arith, begins_sits)
 
   goes_place : (t : Token) (item_end : ℕ) (more : ℕ → ℕ) → IsPlace item_end → Sits t → ((x : ℕ) → IsPlace x → IsPlace (more x)) → IsPlace (goes_on reader leaf t item_end more)
   goes_place (Stands item resume) item_end more h k i = by (is_plain item.kind && (item.start == item_end))
@@ -371,9 +311,7 @@ module _ (reader : Reader) (leaf : Leaf) (size : ℕ) (turn : InTurn 0 leaf.stre
       by : (b : Bool) → IsPlace (if b then more resume else item_end)
       by true = i resume k.0
       by false = h
-  goes_place (Opens opener) item_end more h k i = h
-  goes_place (Closes closer) item_end more h k i = h
-  goes_place Ends item_end more h k i = h
+  goes_place _ item_end more h k i = h
 
   plain_place : (n item_end : ℕ) → IsPlace item_end → IsPlace (plain_end reader leaf n item_end)
   plain_place zero item_end h = h
@@ -385,11 +323,7 @@ module _ (reader : Reader) (leaf : Leaf) (size : ℕ) (turn : InTurn 0 leaf.stre
   plain_is kind start end e h = absurd (true≢false (sym e))
 
   both_content : (start mid end : ℕ) → HaveContent start mid → HaveContent mid end → HaveContent start end
-  both_content start mid end h k = λ i x y. go i x y (nat_lt i mid) refl
-    where
-      go : (i : ℕ) → start ≤ i → i < end → (z : Bool) → nat_lt i mid ≡ z → is_content (get_or reader.source i 0) ≡ true
-      go i x y true e = h i x (grind (arith))
-      go i x y false e = k i (grind (arith)) y
+  both_content start mid end h k = grind arith
 
   ends_there : (at resume : ℕ) (item : Item) → begins_at reader leaf at ≡ Stands item resume → is_plain item.kind ≡ true → item.end ≡ resume
   ends_there at resume item e f = (subst (Shaped reader leaf) e (begins-shaped reader leaf at (from reader leaf at))) f
@@ -406,11 +340,8 @@ module _ (reader : Reader) (leaf : Leaf) (size : ℕ) (turn : InTurn 0 leaf.stre
               more resume
               (both_content start item_end resume h (subst (HaveContent item_end) (ends_there item_end resume item e f) (subst (λ s. HaveContent s item.end) (eqb-true item.start item_end g) (plain_is item.kind item.start item.end f k.1))))
               k.0
-          by true false f g = h
-          by false y f g = h
-      go (Opens opener) e k more = h
-      go (Closes closer) e k more = h
-      go Ends e k more = h
+          by _ _ f g = h
+      go _ e k more = h
 
   longest_sits : (at : ℕ) (t : Token) → begins_at reader leaf at ≡ t → Sits t → Sits (longest reader leaf t)
   longest_sits at (Stands item resume) is h =

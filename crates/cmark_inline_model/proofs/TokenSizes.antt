@@ -1,24 +1,17 @@
 -- A construct that is found at the start of a text is not longer than the text.
-use Rattle.std.specs.Prelude.{suc, ◌==◌, ◌&&◌, ◌||◌, not, nat_lt, nat_le, if◌then◌else◌, drop, take, take_while, option_map}
-use Rattle.std.proofs.Common.{◌≡◌, ◌<◌, ◌≤◌, ◌+◌, ℕ, Bool, true, false, List, [], ◌∷◌, length, Option, Some, None, refl, ap, arith, length-drop}
+use Rattle.std.specs.Prelude.{suc, ◌==◌, ◌&&◌, not, if◌then◌else◌, drop, take_while}
+use Rattle.std.proofs.Common.{◌≡◌, ◌<◌, ◌≤◌, ◌+◌, ℕ, Bool, true, false, List, [], ◌∷◌, length, Option, Some, None, refl, arith, length-drop}
 use Rattle.std.proofs.lemmas.List.{length-take}
 use Rattle.std.proofs.lemmas.Slice.Eq.{bytes_eq-Decides}
 use Rattle.cmark_grammar.specs.Answers.{Lookup}
-use Rattle.cmark_grammar.specs.Columns.{is_blank_byte}
 use Rattle.cmark_grammar.specs.Leaves.{is_empty}
-use Rattle.cmark_grammar.specs.Letters.{is_alphanumeric, is_number, first_is, starts}
-use Rattle.cmark_grammar.specs.LineBreaks.{LineBreak, hard_break, blank_break, backslash_break_in, blank_break_in, ends_with_two_spaces}
-use Rattle.cmark_grammar.specs.LinkDefinitions.{after_leading_blanks}
-use Rattle.cmark_grammar.specs.Tags.{after_ending}
-use Rattle.cmark_grammar.specs.Tokens.{Entity, entity_if, is_hexadecimal, character, value_of, numeric, hexadecimal_in, decimal_in, numeric_in, named, entity_in}
-use Rattle.cmark_inline_model.proofs.ShorterRests.{LeavesBelow, BreakBelow, either, ending-shorter, backslash_break-shorter}
+use Rattle.cmark_grammar.specs.Letters.{is_alphanumeric, first_is, starts}
+use Rattle.cmark_grammar.specs.LineBreaks.{LineBreak, backslash_break_in, blank_break_in}
+use Rattle.cmark_grammar.specs.Tokens.{Entity, entity_if, numeric, numeric_in, named, entity_in}
+use Rattle.cmark_inline_model.proofs.ShorterRests.{either, ending-shorter, backslash_break-shorter}
 
 pub starts-size : (prefix bs : List ℕ) → starts prefix bs ≡ true → length prefix ≤ length bs
-starts-size prefix bs e =
-    let part : take (length prefix) bs ≡ prefix = (bytes_eq-Decides (take (length prefix) bs) prefix).0 e in
-    let f = ap length part in
-    let g = length-take (length prefix) bs in
-    omega arith
+starts-size prefix bs e = grind (arith, bytes_eq-Decides, length-take)
 
 pub first-size : (p : ℕ → Bool) (bs : List ℕ) → first_is p bs ≡ true → 0 < length bs
 first-size p [] e = cc
@@ -42,19 +35,10 @@ after_closed : (n : ℕ) (bs : List ℕ) → first_is (λ b. b == 59) (drop n bs
 after_closed n bs e = let s = first-size (λ b. b == 59) (drop n bs) e in let l = length-drop n bs in omega arith
 
 numeric_within : (base most size n : ℕ) (digits rest : List ℕ) → 0 < size → (first_is (λ b. b == 59) rest ≡ true → length digits + size ≤ n) → EntityWithin n (numeric base most size digits rest)
-numeric_within base most size n digits rest p h =
-    when (EntityWithin n) (nat_lt 0 (length digits) && (nat_le (length digits) most && first_is (λ b. b == 59) rest)) (Some (record { bytes = character (value_of base digits); size = length digits + size })) None
-    (λ e. (omega arith, h (and_right (nat_le (length digits) most) (first_is (λ b. b == 59) rest) (and_right (nat_lt 0 (length digits)) (nat_le (length digits) most && first_is (λ b. b == 59) rest) e)))) tt
+numeric_within base most size n digits rest p h = grind (arith, when, and_right)
 
 numeric_in_within : (bs : List ℕ) → EntityWithin (length bs + 2) (numeric_in bs)
-numeric_in_within bs =
-    let rest : List ℕ = drop 1 bs in
-    let hex : List ℕ = take_while is_hexadecimal rest in
-    let dec : List ℕ = take_while is_number bs in
-    when (EntityWithin (length bs + 2)) (first_is (λ b. (b == 120) || (b == 88)) bs) (hexadecimal_in rest) (decimal_in bs)
-    (λ e. numeric_within 16 6 4 (length bs + 2) hex (drop (length hex) rest) (omega arith)
-    (λ f. (let s = first-size (λ b. (b == 120) || (b == 88)) bs e in let c = after_closed (length hex) rest f in let l = length-drop 1 bs in omega arith)))
-    (numeric_within 10 7 3 (length bs + 2) dec (drop (length dec) bs) (omega arith) (λ f. (let c = after_closed (length dec) bs f in omega arith)))
+numeric_in_within bs = grind (arith, when, numeric_within, first-size, after_closed, length-drop)
 
 entity_if_within : (n size : ℕ) (o : Option (List ℕ)) → 0 < size → size ≤ n → EntityWithin n (entity_if o size)
 entity_if_within n size None h k = tt
@@ -81,32 +65,7 @@ BreakWithin n None = Unit {0}
 BreakWithin n (Some found) = (found.before + length found.following < n)
 
 pub backslash-within : (bs : List ℕ) → BreakWithin (length bs) (backslash_break_in bs)
-backslash-within bs = go (backslash_break_in bs) (backslash_break-shorter bs) (no_before bs)
-  where
-    NoneBefore : Option LineBreak → Type 0
-    NoneBefore None = Unit {0}
-    NoneBefore (Some found) = found.before ≡ 0
-
-    mapped : (o : Option (List ℕ)) → NoneBefore (option_map hard_break o)
-    mapped None = tt
-    mapped (Some x) = refl
-
-    no_before : (l : List ℕ) → NoneBefore (backslash_break_in l)
-    no_before l = mapped _
-
-    go : (o : Option LineBreak) → BreakBelow (length bs) o → NoneBefore o → BreakWithin (length bs) o
-    go None h k = tt
-    go (Some found) h k = omega arith
+backslash-within bs = grind (arith, backslash_break-shorter)
 
 pub blank-within : (bs : List ℕ) → BreakWithin (length bs) (blank_break_in bs)
-blank-within bs = go (after_ending (after_leading_blanks bs)) (ending-shorter (after_leading_blanks bs))
-  where
-    blanks : List ℕ
-    blanks = take_while is_blank_byte bs
-
-    go : (o : Option (List ℕ)) → LeavesBelow (length (after_leading_blanks bs)) o → BreakWithin (length bs) (option_map (blank_break blanks) o)
-    go None h = tt
-    go (Some rest) h =
-        let l = length-drop (length blanks) bs in
-        either (λ (x : LineBreak). x.before + length x.following < length bs) (ends_with_two_spaces blanks) (hard_break rest) (record { is_hard = false; before = length blanks; following = rest })
-        (omega arith) (omega arith)
+blank-within bs = grind (arith, ending-shorter, length-drop, either)

@@ -1,25 +1,20 @@
 -- At each byte of a leaf some token begins that is not the end of the text.
-use Rattle.std.specs.Prelude.{suc, ◌==◌, ◌&&◌, ◌||◌, not, nat_lt, if◌then◌else◌, drop, codes}
+use Rattle.std.specs.Prelude.{suc, ◌==◌, ◌&&◌, ◌||◌, not, if◌then◌else◌}
 use Rattle.std.specs.List.{prefix_len}
-use Rattle.std.proofs.Common.{◌≡◌, ◌≢◌, ◌+◌, ℕ, Bool, true, false, List, [], ◌∷◌, length, Option, Some, None, refl, subst}
-use Rattle.cmark_grammar.specs.Autolinks.{autolink_in}
-use Rattle.cmark_grammar.specs.CodeSpans.{is_backtick, backticks, code_in}
+use Rattle.std.proofs.Common.{◌≡◌, ◌≢◌, ◌+◌, ℕ, Bool, true, false, List, [], ◌∷◌, Option, Some, None, arith}
+use Rattle.cmark_grammar.specs.CodeSpans.{backticks, code_in}
 use Rattle.cmark_grammar.specs.Columns.{is_blank_byte}
-use Rattle.cmark_grammar.specs.Dashes.{dashes_of, dash_text}
 use Rattle.cmark_grammar.specs.Flanking.{Flanking, flanking, is_run_delimiter}
-use Rattle.cmark_grammar.specs.Formulas.{is_dollar, Braces, no_braces, braces_after, inline_in, display_in}
-use Rattle.cmark_grammar.specs.InlineHtml.{after_markup}
-use Rattle.cmark_grammar.specs.InlineTokens.{item_at, bracket, is_plain, from, before, character_before, character_at, break_or, code_or, escaped_backtick, escape_at, entity_or, autolink_or, tag_or_text, source_from, markup_or, less_than, run_or, run_at, formula_or, dollar, dots, hyphens, quote_at, smart_or, begins, plain_end, longest, token}
-use Rattle.cmark_grammar.specs.Items.{ItemKind, Plain, Written, InlineMath, DisplayMath, Delimiters, Token, Stands, Opens, Closes, Ends}
-use Rattle.cmark_grammar.specs.LabelsOverLines.{piped}
+use Rattle.cmark_grammar.specs.Formulas.{is_dollar, Braces, no_braces, braces_after}
+use Rattle.cmark_grammar.specs.InlineTokens.{item_at, bracket, from, before, character_before, character_at, break_or, code_or, escaped_backtick, escape_at, entity_or, autolink_or, tag_or_text, markup_or, less_than, run_or, run_at, formula_or, dollar, smart_or, begins, longest, token}
+use Rattle.cmark_grammar.specs.Items.{ItemKind, Plain, Delimiters, Token, Opens, Closes, Ends}
 use Rattle.cmark_grammar.specs.LeafText.{Leaf}
-use Rattle.cmark_grammar.specs.Letters.{first_is, starts}
+use Rattle.cmark_grammar.specs.Letters.{first_is}
 use Rattle.cmark_grammar.specs.LineBreaks.{LineBreak, backslash_break_in, blank_break_in}
 use Rattle.cmark_grammar.specs.Lines.{is_content}
 use Rattle.cmark_grammar.specs.LinkDefinitions.{Parsed}
 use Rattle.cmark_grammar.specs.Readers.{Reader}
-use Rattle.cmark_grammar.specs.Tags.{after_tag, no_prefix}
-use Rattle.cmark_grammar.specs.Tokens.{Entity, entity_in, is_punctuation}
+use Rattle.cmark_grammar.specs.Tokens.{Entity, entity_in}
 
 -- an item or a bracket
 abbrev IsSome : Token → Type 0
@@ -65,37 +60,20 @@ module _ (reader : Reader) (leaf : Leaf) where
   formula_some kind at (Some found) = tt
 
   escape_some : (at : ℕ) (bs : List ℕ) → IsSome (escape_at reader leaf at bs)
-  escape_some at bs =
-      let plain = if first_is is_punctuation bs then item_at Plain (suc at) (at + 2) else item_at Plain at (suc at) in
-      let piped_or = if leaf.is_cell && starts piped bs then item_at Plain (at + 2) (at + 3) else plain in
-      when (first_is is_backtick bs) (escaped_backtick reader leaf (suc at) (backticks bs) (code_in (drop 1 bs))) piped_or (escaped_some (suc at) (backticks bs) (code_in (drop 1 bs)))
-      (when (leaf.is_cell && starts piped bs) (item_at Plain (at + 2) (at + 3)) plain tt (when (first_is is_punctuation bs) (item_at Plain (suc at) (at + 2)) (item_at Plain at (suc at)) tt tt))
+  escape_some at bs = grind (arith, when, escaped_some)
 
   less_than_some : (at : ℕ) (bs : List ℕ) → IsSome (less_than reader leaf at bs)
-  less_than_some at bs =
-      let tag = tag_or_text reader leaf at (after_tag no_prefix (from reader leaf at)) in
-      let others = markup_or reader leaf at (after_markup (source_from reader leaf at)) tag in
-      when (first_is (λ c. c == 92) bs) (item_at Plain at (suc at)) (autolink_or reader leaf at (autolink_in reader.options.email_autolinks bs) others) tt
-      (autolink_some at (autolink_in reader.options.email_autolinks bs) others (markup_some at (after_markup (source_from reader leaf at)) tag (tag_some at (after_tag no_prefix (from reader leaf at)))))
+  less_than_some at bs = grind (arith, when, autolink_some, markup_some, tag_some)
 
   run_some : (at delimiter size : ℕ) (beside : Flanking) → IsSome (run_or reader leaf at delimiter size beside)
   run_some at delimiter size beside =
       when (beside.opens || beside.closes) (item_at (Delimiters (record { delimiter = delimiter; run_length = size; at = 0; left = size; opens = beside.opens; closes = beside.closes })) at (at + size)) (item_at Plain at (at + size)) tt tt
 
   dollar_some : (at : ℕ) (bs : List ℕ) (braces : Braces) → IsSome (dollar reader leaf at bs braces)
-  dollar_some at bs braces =
-      when (first_is is_dollar bs) (formula_or reader leaf DisplayMath at (display_in braces (drop 1 bs))) (formula_or reader leaf InlineMath at (inline_in braces bs))
-      (formula_some DisplayMath at (display_in braces (drop 1 bs))) (formula_some InlineMath at (inline_in braces bs))
+  dollar_some at bs braces = grind (arith, when, formula_some)
 
   smart_some : (at b : ℕ) → IsSome (smart_or reader leaf at b)
-  smart_some at b =
-      let n = prefix_len (λ c. c == 45) (from reader leaf at) in
-      let plain = item_at Plain at (suc at) in
-      let quoted = if (b == 34) || (b == 39) then quote_at reader leaf at b else plain in
-      when (b == 46) (dots reader leaf at) (if b == 45 then hyphens reader leaf at n else quoted)
-      (when (starts (codes "...") (from reader leaf at)) (item_at (Written (226 ∷ 128 ∷ 166 ∷ [])) at (at + 3)) plain tt tt)
-      (when (b == 45) (hyphens reader leaf at n) quoted (when (nat_lt n 2) (item_at Plain at (at + n)) (item_at (Written (dash_text (dashes_of n))) at (at + n)) tt tt)
-      (when ((b == 34) || (b == 39)) (quote_at reader leaf at b) plain tt tt))
+  smart_some at b = grind (arith, when)
 
   begins_some : (at b : ℕ) (bs : List ℕ) → IsSome (begins reader leaf at (b ∷ bs))
   begins_some at b bs =
@@ -126,23 +104,13 @@ module _ (reader : Reader) (leaf : Leaf) where
       (when reader.options.smart_punctuation (smart_or reader leaf at b) plain (smart_some at b) tt))))))))))
 
   longest_some : (t : Token) → IsSome t → IsSome (longest reader leaf t)
-  longest_some (Stands item resume) h = when (is_plain item.kind) (item_at Plain item.start (plain_end reader leaf (length (from reader leaf resume)) resume)) (Stands item resume) tt tt
-  longest_some Ends h = h
-  longest_some _ h = tt
+  longest_some t h = grind (arith, when)
 
   -- the text ends exactly if no byte is left
   pub ends-following-bytes : (at : ℕ) → from reader leaf at ≡ [] → token reader leaf at ≡ Ends
   unfolding token
-  ends-following-bytes at e = go (from reader leaf at) e
-    where
-      go : (l : List ℕ) → l ≡ [] → longest reader leaf (begins reader leaf at l) ≡ Ends
-      go [] e = refl
-      go (b ∷ bs) e = cc
+  ends-following-bytes at e = cc
 
   pub no-end-at-a-byte : (at : ℕ) → from reader leaf at ≢ [] → token reader leaf at ≢ Ends
   unfolding token
-  no-end-at-a-byte at some e = go (from reader leaf at) some e
-    where
-      go : (l : List ℕ) → l ≢ [] → longest reader leaf (begins reader leaf at l) ≡ Ends → ⊥
-      go [] some e = some refl
-      go (b ∷ bs) some e = subst IsSome e (longest_some (begins reader leaf at (b ∷ bs)) (begins_some at b bs))
+  no-end-at-a-byte at some e = grind (arith, longest_some, begins_some)

@@ -1,15 +1,14 @@
 -- What a walk gives is balanced, with ranges that cut no character.
 use Rattle.cmark_inline_model.proofs.DocumentLeaves.{StartsWith, begins-start}
 use Rattle.std.specs.Prelude.{IsUtf8, IsCharBoundary}
-use Rattle.std.proofs.Common.{◌≡◌, ℕ, List, [], ◌∷◌, ◌++◌, refl, sym, ap, subst, ◌∙◌, zero, suc}
+use Rattle.std.proofs.Common.{◌≡◌, ℕ, List, [], ◌∷◌, ◌++◌, refl, sym, ap, subst, ◌∙◌, zero, suc, arith}
 use Rattle.std.proofs.lemmas.List.{append_assoc}
 use Rattle.cmark_grammar.specs.Answers.{Lookup}
 use Rattle.cmark_block_model.specs.Balance.{IsSingle}
-use Rattle.cmark_grammar.specs.BlockDocument.{BlockKind, Paragraph, TightParagraph, Heading, ThematicBreak, IndentedCode, FencedCode, HtmlBlock, LinkDefinition, MetadataBlock, BlockQuote, BlockList, ListItem, TaskMarker, FootnoteDefinition, DefinitionList, DefinitionListTitle, DefinitionListDefinition, Text, OwnedText, Html, BlockNode, BlockDocument, Nil, Node, Table, TableHead, TableRow, TableCell}
+use Rattle.cmark_grammar.specs.BlockDocument.{BlockKind, Paragraph, TightParagraph, Heading, ThematicBreak, IndentedCode, FencedCode, HtmlBlock, LinkDefinition, MetadataBlock, BlockQuote, FootnoteDefinition, DefinitionList, DefinitionListTitle, BlockNode, BlockDocument, Nil, Node, Table, TableHead, TableRow, TableCell}
 use Rattle.cmark_grammar.specs.BlockReading.{Reads, Around, Inside, Alone, First, first_event, read_as, over, starts_before}
 use Rattle.cmark_grammar.specs.Derivation.{Derives}
-use Rattle.cmark_grammar.specs.Event.{Event, Start, End, Text as TextEvent, Code, InlineHtml, SoftBreak, HardBreak, Ranged}
-use Rattle.cmark_grammar.specs.Event as event
+use Rattle.cmark_grammar.specs.Event.{Event, Start, End, Ranged}
 use Rattle.cmark_inline_model.specs.LeafSpans.{IsInline, Nested, Nothing, Single, Element, AreGiven}
 use Rattle.cmark_grammar.specs.LeafText.{Leaf}
 use Rattle.cmark_grammar.specs.Options.{Options}
@@ -23,19 +22,7 @@ use Rattle.cmark_inline_model.specs.ReadingRanges.{ranged, Matched, NoMore, Alon
 use Rattle.cmark_inline_model.proofs.ReadingBalanced.{matched-put, matched-append}
 
 inline_single : (e : Event) → IsInline e → IsSingle e
-inline_single (TextEvent text) h = tt
-inline_single (Code text) h = tt
-inline_single (InlineHtml text) h = tt
-inline_single SoftBreak h = tt
-inline_single HardBreak h = tt
-inline_single (Start tag) h = absurd h
-inline_single (End tag) h = absurd h
-inline_single (event.InlineMath text) h = tt
-inline_single (event.DisplayMath text) h = tt
-inline_single (event.Html text) h = absurd h
-inline_single (event.FootnoteReference label) h = tt
-inline_single event.Rule h = absurd h
-inline_single (event.TaskListMarker is_checked) h = absurd h
+inline_single e h = grind arith
 
 module _ (text : List ℕ) where
   nested_matched : (events : List Ranged) → Nested text events → Matched events
@@ -105,13 +92,7 @@ module _ (text : List ℕ) where
   inside_matches (FootnoteDefinition label) content others k = k
   inside_matches (DefinitionList tight) content others k = k
   inside_matches DefinitionListTitle content others k = leaf_matches _
-  inside_matches DefinitionListDefinition content others k = k
-  inside_matches (BlockList number tight) content others k = k
-  inside_matches ListItem content others k = k
-  inside_matches (TaskMarker is_checked) content others k = k
-  inside_matches (Text bytes) content others k = k
-  inside_matches (OwnedText bytes) content others k = k
-  inside_matches (Html bytes) content others k = k
+  inside_matches _ content others k = k
 
   node_matches : (reads : Reads) (node : BlockNode) (inside : List Segment) → IsFit reads → Balances inside → Balances (node_segments reads node inside)
   node_matches (Around tag) node inside fits k = λ events h.
@@ -167,36 +148,10 @@ module _ (text : List ℕ) where
   edges_append (Content leaf ∷ a) b h k = edges_append a b h k
 
   inside_edges : (kind : BlockKind) (content : BlockDocument) (others : List Segment) → EdgesGiven others → EdgesGiven (inside_of kind content others)
-  inside_edges Paragraph content others k = tt
-  inside_edges TightParagraph content others k = tt
-  inside_edges (Heading level attributes) content others k = tt
-  inside_edges ThematicBreak content others k = k
-  inside_edges IndentedCode content others k = k
-  inside_edges (FencedCode info) content others k = k
-  inside_edges HtmlBlock content others k = k
-  inside_edges (LinkDefinition reference) content others k = k
-  inside_edges (MetadataBlock kind) content others k = k
-  inside_edges (Table alignments) content others k = k
-  inside_edges TableHead content others k = k
-  inside_edges TableRow content others k = k
-  inside_edges TableCell content others k = tt
-  inside_edges (BlockQuote alert) content others k = k
-  inside_edges (FootnoteDefinition label) content others k = k
-  inside_edges (DefinitionList tight) content others k = k
-  inside_edges DefinitionListTitle content others k = tt
-  inside_edges DefinitionListDefinition content others k = k
-  inside_edges (BlockList number tight) content others k = k
-  inside_edges ListItem content others k = k
-  inside_edges (TaskMarker is_checked) content others k = k
-  inside_edges (Text bytes) content others k = k
-  inside_edges (OwnedText bytes) content others k = k
-  inside_edges (Html bytes) content others k = k
+  inside_edges kind content others k = grind arith
 
   node_edges : (reads : Reads) (node : BlockNode) (inside : List Segment) → Edge node.start → Edge node.end → EdgesGiven inside → EdgesGiven (node_segments reads node inside)
-  node_edges (Around tag) node inside a b k = (a, b, edges_append inside (Given (over node (End (end_of tag))) ∷ []) k (a, b, tt))
-  node_edges Inside node inside a b k = k
-  node_edges (Alone event) node inside a b k = (a, b, tt)
-  node_edges _ node inside a b k = tt
+  node_edges reads node inside a b k = grind (arith, edges_append)
 
   first_edges : (element : ℕ) (r : Ranged) (others : List Segment) → Edge r.start → Edge r.end → EdgesGiven others → EdgesGiven (first_of_segments element (Given r) others)
   first_edges zero r others a b k = (a, b, k)

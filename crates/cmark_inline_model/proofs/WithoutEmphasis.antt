@@ -1,27 +1,22 @@
 -- If siblings have no delimiter run of `=`, their spans are those of the grammar without highlight.
-use Rattle.std.specs.Prelude.{◌==◌, ◌&&◌, ◌||◌, not, nat_lt, nat_le, if◌then◌else◌, max, drop}
-use Rattle.std.proofs.Common.{◌≡◌, ℕ, suc, ◌+◌, Bool, true, false, List, [], ◌∷◌, Some, None, refl, sym, ap, subst, ◌∙◌, true≢false, eqb-true}
-use Rattle.cmark_grammar.specs.Emphasis.{Run, Pair, Sibling, Plain as PlainSibling, Delimiter, Piece, Whole, Standing, keeps_rule_of_three, agrees, pair_of, rest_of_opener, rest_of_closer, emphasis_kinds, tilde_kinds, caret_kinds, equals_kinds, kinds_of, nest, wrapped, row, keep, stand, Misses, Closes, Pairs}
-use Rattle.cmark_grammar.specs.Flanking.{is_delimiter_run}
-use Rattle.cmark_grammar.specs.Items.{ItemKind, Plain, Own, Written, Quoted, Delimiters, Code, InlineMath, DisplayMath, Autolink, Html, OwnedHtml, FootnoteReference, SoftBreak, HardBreak, Item}
+use Rattle.std.specs.Prelude.{◌==◌, ◌||◌, if◌then◌else◌, drop}
+use Rattle.std.proofs.Common.{◌≡◌, ℕ, suc, ◌+◌, Bool, true, false, List, [], ◌∷◌, Some, None, refl, sym, ap, subst, ◌∙◌, eqb-true, arith, rules}
+use Rattle.cmark_grammar.specs.Emphasis.{Run, Pair, Sibling, Plain as PlainSibling, Delimiter, Piece, Whole, Standing, agrees, pair_of, rest_of_opener, rest_of_closer, emphasis_kinds, tilde_kinds, caret_kinds, equals_kinds, kinds_of, wrapped, row, keep, stand, Misses, Closes, Pairs}
+use Rattle.cmark_grammar.specs.Items.{ItemKind, Delimiters, Item}
 use Rattle.cmark_grammar.specs.Options.{Options}
 use Rattle.cmark_grammar.specs.Parts.{Parts, Nil as NoParts, Single as SinglePart, Form, Closing, Opening, Linking, Footnote, Wiki}
 use Rattle.cmark_grammar.specs.Quotes.{quote_characters}
-use Rattle.cmark_grammar.specs.Siblings.{Inline, Nil, Single, Around, item, quotes_of, quote_as, with_characters, with_quotes, sibling_then, siblings_from, item_then, footnote_then, from_place, display_from, AreSiblings, AreSpans, IsDressed}
+use Rattle.cmark_grammar.specs.Siblings.{Inline, Nil, Single, Around, quotes_of, with_characters, with_quotes, sibling_then, siblings_from, item_then, footnote_then, from_place, display_from, AreSiblings, AreSpans, IsDressed}
 use Rattle.cmark_grammar.specs.Spans as spans
 use Rattle.cmark_grammar.specs.Spans.{Spans}
 use Rattle.cmark_inline_model.specs.OptionRules.{IsRead, AllItems}
 use Rattle.cmark_inline_model.specs.WithoutHighlight.{agrees_without, kinds_without, wrapped_without, MissesWithout, ClosesWithout, PairsWithout, IsDressedWithout, AreSiblingsWithout, AreSpansWithout}
-use Rattle.cmark_inline_model.proofs.KindViews.{KindView, AQuote, ARun, AnAutolink, AText, kind-view}
+use Rattle.cmark_inline_model.proofs.KindViews.{kind-view}
 use Rattle.cmark_inline_model.proofs.SpanElements.{quoted_then, other_then}
 
 -- ## Runs of other bytes than `=`
 abbrev pub IsOther : Run → Type 0
 IsOther run = (run.delimiter == 61) ≡ false
-
-and_none : (x : Bool) → (x && false) ≡ false
-and_none true = refl
-and_none false = refl
 
 or_none : (x : Bool) → (x || false) ≡ x
 or_none true = refl
@@ -29,9 +24,7 @@ or_none false = refl
 
 pub agrees-without : (opener closer : Run) → IsOther closer → agrees opener closer ≡ agrees_without opener closer
 unfolding agrees
-agrees-without opener closer e =
-    ap (λ z. closer.closes && (nat_lt 0 closer.left && (((opener.delimiter == closer.delimiter) && (not z || (opener.run_length == closer.run_length))) && keeps_rule_of_three opener closer)))
-    (ap (λ z. (closer.delimiter == 126) || z) e ∙ or_none (closer.delimiter == 126))
+agrees-without opener closer e = cc (or_none (closer.delimiter == 126))
 
 pub kinds-without : (delimiter count : ℕ) → (delimiter == 61) ≡ false → kinds_of delimiter count ≡ kinds_without delimiter count
 unfolding kinds_of
@@ -43,9 +36,7 @@ rest_other opener closer e = e
 
 wrapped_same : (opener closer : Run) (inside : Spans) → IsOther closer → wrapped (pair_of opener closer) inside ≡ wrapped_without (pair_of opener closer) inside
 unfolding pair_of
-wrapped_same opener closer inside e =
-    let pair = pair_of opener closer in
-    ap (λ kinds. nest kinds pair.from pair.to inside) (kinds-without closer.delimiter pair.count e)
+wrapped_same opener closer inside e = grind (arith, kinds-without)
 
 wrapped_is : (opener closer : Run) (pair : Pair) (inside : Spans) → pair ≡ pair_of opener closer → IsOther closer → wrapped pair inside ≡ wrapped_without pair inside
 wrapped_is opener closer pair inside i e = ap (λ p. wrapped p inside) i ∙ wrapped_same opener closer inside e ∙ sym (ap (λ p. wrapped_without p inside) i)
@@ -97,28 +88,12 @@ OtherRuns (Delimiter run ∷ siblings) = IsOther run × OtherRuns siblings
 pairs_to : (siblings : List Sibling) (pieces : List Piece) (pairs : List Pair) (last : List Piece) → OtherRuns siblings → Pairs siblings pieces pairs last → PairsWithout siblings pieces pairs last
 pairs_to [] pieces pairs last o h = h
 pairs_to (PlainSibling at ∷ siblings) pieces pairs last o h = pairs_to siblings (Whole (spans.Single at spans.Nil) ∷ pieces) pairs last o h
-pairs_to (Delimiter run ∷ siblings) pieces pairs last o h = record {
-  own = h.own;
-  others = h.others;
-  rest = h.rest;
-  now = h.now;
-  cut = h.cut;
-  closes = closes_to run pieces h.own h.rest h.now o.0 h.closes;
-  so = pairs_to siblings (stand h.rest h.now) h.others last o.1 h.so;
-}
+pairs_to (Delimiter run ∷ siblings) pieces pairs last o h = search (rules, closes_to, pairs_to siblings (stand h.rest h.now) h.others last o.1 h.so)
 
 pairs_from : (siblings : List Sibling) (pieces : List Piece) (pairs : List Pair) (last : List Piece) → OtherRuns siblings → PairsWithout siblings pieces pairs last → Pairs siblings pieces pairs last
 pairs_from [] pieces pairs last o h = h
 pairs_from (PlainSibling at ∷ siblings) pieces pairs last o h = pairs_from siblings (Whole (spans.Single at spans.Nil) ∷ pieces) pairs last o h
-pairs_from (Delimiter run ∷ siblings) pieces pairs last o h = record {
-  own = h.own;
-  others = h.others;
-  rest = h.rest;
-  now = h.now;
-  cut = h.cut;
-  closes = closes_from run pieces h.own h.rest h.now o.0 h.closes;
-  so = pairs_from siblings (stand h.rest h.now) h.others last o.1 h.so;
-}
+pairs_from (Delimiter run ∷ siblings) pieces pairs last o h = search (rules, closes_from, pairs_from siblings (stand h.rest h.now) h.others last o.1 h.so)
 
 abbrev pub IsOtherKind : ItemKind → Type 0
 IsOtherKind (Delimiters run) = IsOther run
@@ -131,39 +106,12 @@ HasOthers (Around tag start end inside after) = HasOthers after
 
 -- if highlight is off, no run of `=` is read
 pub read-other : (options : Options) → options.highlight ≡ false → (kind : ItemKind) → IsRead options kind → IsOtherKind kind
-read-other options off (Delimiters run) h = go (run.delimiter == 61) refl
-  where
-    none : (x : Bool) (n : ℕ) → x ≡ false → (x && (n == 2)) ≡ true → ⊥
-    none true n e f = true≢false e
-    none false n e f = true≢false (sym f)
-
-    go : (z : Bool) → (run.delimiter == 61) ≡ z → z ≡ false
-    go false e = refl
-    go true e = absurd (none options.highlight run.run_length off (subst (λ d. is_delimiter_run options d run.run_length ≡ true) (eqb-true run.delimiter 61 e) h))
-read-other options off Plain h = tt
-read-other options off Own h = tt
-read-other options off (Written text) h = tt
-read-other options off (Quoted quote) h = tt
-read-other options off (Code text) h = tt
-read-other options off (InlineMath text) h = tt
-read-other options off (DisplayMath text) h = tt
-read-other options off (Autolink uri) h = tt
-read-other options off Html h = tt
-read-other options off (OwnedHtml text) h = tt
-read-other options off (FootnoteReference label) h = tt
-read-other options off SoftBreak h = tt
-read-other options off HardBreak h = tt
+read-other options off kind h = grind (arith, eqb-true)
 
 characters_other : (siblings : Inline) (cs : List ℕ) → HasOthers siblings → HasOthers (with_characters siblings cs)
 characters_other Nil cs h = tt
 characters_other (Around tag start end inside after) cs h = characters_other after cs h
-characters_other (Single x after) cs h = go (characters_other after (drop 1 cs) h.1) (characters_other after cs h.1) x.kind (kind-view x.kind)
-  where
-    go : HasOthers (with_characters after (drop 1 cs)) → HasOthers (with_characters after cs) → (kind : ItemKind) → KindView kind → HasOthers (quote_as (quoted_then x after) (other_then x after) kind cs)
-    go quoted other _ (AQuote quote) = (tt, quoted)
-    go quoted other _ (ARun run) = (h.0, other)
-    go quoted other _ (AnAutolink uri) = (h.0, other)
-    go quoted other _ (AText kind t) = subst HasOthers (sym (t.quote (quoted_then x after) (other_then x after) cs)) (h.0, other)
+characters_other (Single x after) cs h = search (rules, kind-view, quoted_then, other_then, characters_other after (drop 1 cs) h.1, characters_other after cs h.1)
 
 item_others : (kind : ItemKind) (n : ℕ) (after : ℕ → List Sibling) → IsOtherKind kind → ((m : ℕ) → OtherRuns (after m)) → OtherRuns (sibling_then n kind after)
 item_others (Delimiters run) n after h i = (h, i (n + run.run_length))
@@ -180,29 +128,13 @@ quotes_other siblings h = siblings_other (with_quotes siblings) 0 (characters_ot
 -- ## The spans of a leaf
 module _ (options : Options) where
   dressed_to : (siblings result : Inline) → HasOthers siblings → IsDressed options siblings result → IsDressedWithout options siblings result
-  dressed_to siblings result o h = record {
-    pairs = h.pairs;
-    spans_are = h.spans_are;
-    emphasis = record { last = h.emphasis.last; are = pairs_to (siblings_from (with_quotes siblings) 0) [] h.pairs h.emphasis.last (quotes_other siblings o) h.emphasis.are; become_so = h.emphasis.become };
-    result_is = h.result_is;
-  }
+  dressed_to siblings result o h = grind (arith, pairs_to, quotes_other)
 
   dressed_from : (siblings result : Inline) → HasOthers siblings → IsDressedWithout options siblings result → IsDressed options siblings result
-  dressed_from siblings result o h = record {
-    pairs = h.pairs;
-    spans_are = h.spans_are;
-    emphasis = record { last = h.emphasis.last; are = pairs_from (siblings_from (with_quotes siblings) 0) [] h.pairs h.emphasis.last (quotes_other siblings o) h.emphasis.are; become = h.emphasis.become_so };
-    result_is = h.result_is;
-  }
+  dressed_from siblings result o h = grind (arith, pairs_from, quotes_other)
 
 item_other : (x : Item) (after : Inline) → IsOtherKind x.kind → HasOthers after → HasOthers (item_then x.kind x after)
-item_other x after h k = go x.kind (kind-view x.kind)
-  where
-    go : (kind : ItemKind) → KindView kind → HasOthers (item_then kind x after)
-    go _ (AQuote quote) = (h, k)
-    go _ (ARun run) = (h, k)
-    go _ (AnAutolink uri) = k
-    go _ (AText kind t) = subst HasOthers (sym (t.item x after)) (h, k)
+item_other x after h k = grind (arith, kind-view)
 
 footnote_other : (is_image : Bool) (start : ℕ) (label : List ℕ) (end : ℕ) (after : Inline) → HasOthers after → HasOthers (footnote_then is_image start label end after)
 footnote_other true start label end after h = (tt, (tt, h))
@@ -210,80 +142,36 @@ footnote_other false start label end after h = (tt, h)
 
 from_other : (place : ℕ) (siblings : Inline) → HasOthers siblings → HasOthers (from_place place siblings)
 from_other place Nil h = tt
-from_other place (Single x after) h = go (nat_le x.end place) (from_other place after h.1)
-  where
-    go : (b : Bool) → HasOthers (from_place place after) → HasOthers (if b then from_place place after else Single (item x.kind (max x.start place) x.end) after)
-    go true k = k
-    go false k = h
-from_other place (Around tag start end inside after) h = go (nat_le end place) (from_other place after h)
-  where
-    go : (b : Bool) → HasOthers (from_place place after) → HasOthers (if b then from_place place after else Around tag (max start place) end inside after)
-    go true k = k
-    go false k = h
+from_other place (Single x after) h = grind (arith, from_other place after h.1)
+from_other place (Around tag start end inside after) h = grind (arith, from_other place after h)
 
 display_other : (place end : ℕ) (siblings : Inline) → HasOthers siblings → HasOthers (display_from place end siblings)
-display_other place end siblings h = go (place == end)
-  where
-    go : (b : Bool) → HasOthers (if b then Single (item Own place place) Nil else from_place place siblings)
-    go true = (tt, tt)
-    go false = from_other place siblings h
+display_other place end siblings h = grind (arith, from_other)
 
 module _ (options : Options) where
   -- the siblings of parts, none of which is a run of `=`
   siblings_to : (parts : Parts) (siblings : Inline) → AllItems IsOtherKind parts → AreSiblings options parts siblings → AreSiblingsWithout options parts siblings × HasOthers siblings
   siblings_to NoParts siblings o h = (h, subst HasOthers (sym h) tt)
-  siblings_to (SinglePart x after) siblings o h =
-      let i = siblings_to after h.0 o.1 h.1 in
-      ((h.0, i.0, h.2), subst HasOthers (sym h.2) (item_other x h.0 o.0 i.1))
-  siblings_to (Form opener inside closer (Linking target) after) siblings o h =
-      let i = siblings_to inside h.0 o.0 h.3 in let j = siblings_to after h.2 o.1 h.5 in
-      ((h.0, h.1, h.2, i.0, dressed_to options h.0 h.1 i.1 h.4, j.0, h.6), subst HasOthers (sym h.6) j.1)
-  siblings_to (Form opener inside closer (Footnote label end) after) siblings o h =
-      let j = siblings_to after h.0 o.1 h.1 in
-      ((h.0, j.0, h.2), subst HasOthers (sym h.2) (footnote_other opener.is_image opener.start label end h.0 j.1))
-  siblings_to (Form opener inside closer (Wiki name None end) after) siblings o h =
-      let j = siblings_to after h.0 o.1 h.1 in
-      ((h.0, j.0, h.2), subst HasOthers (sym h.2) j.1)
-  siblings_to (Form opener inside closer (Wiki name (Some place) end) after) siblings o h =
-      let i = siblings_to inside h.0 o.0 h.3 in let j = siblings_to after h.2 o.1 h.5 in
-      ((h.0, h.1, h.2, i.0, dressed_to options (display_from place closer.start h.0) h.1 (display_other place closer.start h.0 i.1) h.4, j.0, h.6), subst HasOthers (sym h.6) j.1)
-  siblings_to (Closing closer after) siblings o h =
-      let j = siblings_to after h.0 o h.1 in
-      ((h.0, j.0, h.2), subst HasOthers (sym h.2) (tt, j.1))
-  siblings_to (Opening opener after) siblings o h =
-      let j = siblings_to after h.0 o h.1 in
-      ((h.0, j.0, h.2), subst HasOthers (sym h.2) (tt, j.1))
+  siblings_to (SinglePart x after) siblings o h = grind (arith, item_other, siblings_to after h.0 o.1 h.1)
+  siblings_to (Form opener inside closer (Linking target) after) siblings o h = grind (arith, dressed_to, siblings_to inside h.0 o.0 h.3, siblings_to after h.2 o.1 h.5)
+  siblings_to (Form opener inside closer (Footnote label end) after) siblings o h = grind (arith, footnote_other, siblings_to after h.0 o.1 h.1)
+  siblings_to (Form opener inside closer (Wiki name None end) after) siblings o h = grind (arith, siblings_to after h.0 o.1 h.1)
+  siblings_to (Form opener inside closer (Wiki name (Some place) end) after) siblings o h = grind (arith, dressed_to, display_other, siblings_to inside h.0 o.0 h.3, siblings_to after h.2 o.1 h.5)
+  siblings_to (Closing closer after) siblings o h = grind (arith, siblings_to after h.0 o h.1)
+  siblings_to (Opening opener after) siblings o h = grind (arith, siblings_to after h.0 o h.1)
 
   siblings_back : (parts : Parts) (siblings : Inline) → AllItems IsOtherKind parts → AreSiblingsWithout options parts siblings → AreSiblings options parts siblings × HasOthers siblings
   siblings_back NoParts siblings o h = (h, subst HasOthers (sym h) tt)
-  siblings_back (SinglePart x after) siblings o h =
-      let i = siblings_back after h.0 o.1 h.1 in
-      ((h.0, i.0, h.2), subst HasOthers (sym h.2) (item_other x h.0 o.0 i.1))
-  siblings_back (Form opener inside closer (Linking target) after) siblings o h =
-      let i = siblings_back inside h.0 o.0 h.3 in let j = siblings_back after h.2 o.1 h.5 in
-      ((h.0, h.1, h.2, i.0, dressed_from options h.0 h.1 i.1 h.4, j.0, h.6), subst HasOthers (sym h.6) j.1)
-  siblings_back (Form opener inside closer (Footnote label end) after) siblings o h =
-      let j = siblings_back after h.0 o.1 h.1 in
-      ((h.0, j.0, h.2), subst HasOthers (sym h.2) (footnote_other opener.is_image opener.start label end h.0 j.1))
-  siblings_back (Form opener inside closer (Wiki name None end) after) siblings o h =
-      let j = siblings_back after h.0 o.1 h.1 in
-      ((h.0, j.0, h.2), subst HasOthers (sym h.2) j.1)
-  siblings_back (Form opener inside closer (Wiki name (Some place) end) after) siblings o h =
-      let i = siblings_back inside h.0 o.0 h.3 in let j = siblings_back after h.2 o.1 h.5 in
-      ((h.0, h.1, h.2, i.0, dressed_from options (display_from place closer.start h.0) h.1 (display_other place closer.start h.0 i.1) h.4, j.0, h.6), subst HasOthers (sym h.6) j.1)
-  siblings_back (Closing closer after) siblings o h =
-      let j = siblings_back after h.0 o h.1 in
-      ((h.0, j.0, h.2), subst HasOthers (sym h.2) (tt, j.1))
-  siblings_back (Opening opener after) siblings o h =
-      let j = siblings_back after h.0 o h.1 in
-      ((h.0, j.0, h.2), subst HasOthers (sym h.2) (tt, j.1))
+  siblings_back (SinglePart x after) siblings o h = grind (arith, item_other, siblings_back after h.0 o.1 h.1)
+  siblings_back (Form opener inside closer (Linking target) after) siblings o h = grind (arith, dressed_from, siblings_back inside h.0 o.0 h.3, siblings_back after h.2 o.1 h.5)
+  siblings_back (Form opener inside closer (Footnote label end) after) siblings o h = grind (arith, footnote_other, siblings_back after h.0 o.1 h.1)
+  siblings_back (Form opener inside closer (Wiki name None end) after) siblings o h = grind (arith, siblings_back after h.0 o.1 h.1)
+  siblings_back (Form opener inside closer (Wiki name (Some place) end) after) siblings o h = grind (arith, dressed_from, display_other, siblings_back inside h.0 o.0 h.3, siblings_back after h.2 o.1 h.5)
+  siblings_back (Closing closer after) siblings o h = grind (arith, siblings_back after h.0 o h.1)
+  siblings_back (Opening opener after) siblings o h = grind (arith, siblings_back after h.0 o h.1)
 
   pub spans-to : (parts : Parts) (become : Inline) → AllItems IsOtherKind parts → AreSpans options parts become → AreSpansWithout options parts become
-  spans-to parts become o h =
-      let i = siblings_to parts h.siblings o h.are in
-      record { siblings = h.siblings; are = i.0; dressed_so = dressed_to options h.siblings become i.1 h.dressed_so }
+  spans-to parts become o h = grind (arith, siblings_to, dressed_to)
 
   pub spans-from : (parts : Parts) (become : Inline) → AllItems IsOtherKind parts → AreSpansWithout options parts become → AreSpans options parts become
-  spans-from parts become o h =
-      let i = siblings_back parts h.siblings o h.are in
-      record { siblings = h.siblings; are = i.0; dressed_so = dressed_from options h.siblings become i.1 h.dressed_so }
+  spans-from parts become o h = grind (arith, siblings_back, dressed_from)

@@ -1,5 +1,5 @@
 -- If highlight is off, the readings of a text are those of the grammar without highlight.
-use Rattle.std.proofs.Common.{◌≡◌, ℕ, ◌≤◌, false, List, [], ◌∷◌, length, refl, sym, subst, ◌∙◌, arith}
+use Rattle.std.proofs.Common.{◌≡◌, ℕ, ◌≤◌, false, List, [], ◌∷◌, length, refl, sym, subst, ◌∙◌, arith, rules}
 use Rattle.cmark_grammar.specs.BracketDecisions.{decide}
 use Rattle.cmark_grammar.specs.BracketReading.{Reads}
 use Rattle.cmark_grammar.specs.BracketStates.{State, moved, opened}
@@ -8,9 +8,9 @@ use Rattle.cmark_grammar.specs.InlineTokens.{token}
 use Rattle.cmark_grammar.specs.LeafReading.{Between, ReadsLeaf, entering}
 use Rattle.cmark_grammar.specs.LeafText.{Leaf, Stretch, InTurn, begin_of, size_of}
 use Rattle.cmark_grammar.specs.Parts.{Parts, Nil, Single, Form, Closing, Opening}
-use Rattle.cmark_grammar.specs.Questions.{Exchange, Saying, IsNext}
+use Rattle.cmark_grammar.specs.Questions.{Exchange, Saying}
 use Rattle.cmark_grammar.specs.Readers.{Reader}
-use Rattle.cmark_grammar.specs.SpanDocuments.{Segment, Given, Content, Profile, ReadsAll, IsReading, segments, reader_of, at_start}
+use Rattle.cmark_grammar.specs.SpanDocuments.{Segment, Given, Content, Profile, ReadsAll, IsReading, segments}
 use Rattle.cmark_block_model.proofs.RangeLaws.{derived-order}
 use Rattle.cmark_inline_model.specs.LeafModel.{AreLeavesInTurn, AreLeavesOfLines, HaveLineEnds}
 use Rattle.cmark_inline_model.specs.OptionRules.{IsRead, AllItems}
@@ -147,27 +147,7 @@ module _ (reader : Reader) (off : reader.options.highlight ≡ false) (Says : Sa
       (h.0, h.1, h.2, leaf_from reader leaf off (length reader.source) turn.0 (omega arith) lines.0 Says before h.0 h.2 h.3, all_from others h.2 h.1 after turn.1 lines.1 h.4, h.5)
 
 pub reading-to : (text : List ℕ) (profile : Profile) (exchanges : List Exchange) (events : List Ranged) → profile.options.highlight ≡ false → IsReading text profile exchanges events → IsReadingWithout text profile exchanges events
-reading-to text profile exchanges events off h =
-    let order = derived-order text profile.options profile.lookup h.document h.derives in
-    let turn = segments-turn (length text) 0 h.document (length text) (omega arith) order in
-    let lines = derived-lines text profile.options profile.lookup h.document h.derives in
-    record {
-      document = h.document;
-      after = h.after;
-      derives = h.derives;
-      reads = all_to (reader_of text profile h.document) off (IsNext exchanges) (segments h.document) (at_start profile) events h.after turn lines h.reads;
-      asked = h.asked;
-    }
+reading-to text profile exchanges events off h = search (rules, derived-order, segments-turn, derived-lines, all_to)
 
 pub reading-from : (text : List ℕ) (profile : Profile) (exchanges : List Exchange) (events : List Ranged) → profile.options.highlight ≡ false → IsReadingWithout text profile exchanges events → IsReading text profile exchanges events
-reading-from text profile exchanges events off h =
-    let order = derived-order text profile.options profile.lookup h.document h.derives in
-    let turn = segments-turn (length text) 0 h.document (length text) (omega arith) order in
-    let lines = derived-lines text profile.options profile.lookup h.document h.derives in
-    record {
-      document = h.document;
-      after = h.after;
-      derives = h.derives;
-      reads = all_from (reader_of text profile h.document) off (IsNext exchanges) (segments h.document) (at_start profile) events h.after turn lines h.reads;
-      asked = h.asked;
-    }
+reading-from text profile exchanges events off h = search (rules, derived-order, segments-turn, derived-lines, all_from)

@@ -1,24 +1,18 @@
 -- If highlight is off, the tokens of a leaf are those of the grammar without highlight.
-use Rattle.std.specs.Prelude.{zero, suc, ◌==◌, ◌&&◌, ◌||◌, not, nat_lt, if◌then◌else◌, cond, codes}
+use Rattle.std.specs.Prelude.{zero, suc, ◌==◌, ◌&&◌, ◌||◌, nat_lt, if◌then◌else◌, cond}
 use Rattle.std.specs.List.{prefix_len}
 use Rattle.std.proofs.Common.{◌≡◌, ℕ, ◌+◌, ◌<◌, ◌≤◌, Bool, true, false, List, [], ◌∷◌, length, Option, refl, sym, ap, subst, ◌∙◌, arith, eqb-true}
 use Rattle.std.proofs.lemmas.Bool.{eq-eqb, ltb-true, ltb-false}
-use Rattle.cmark_grammar.specs.CodeSpans.{backticks, code_in}
-use Rattle.cmark_grammar.specs.Columns.{is_blank_byte}
-use Rattle.cmark_grammar.specs.Flanking.{Flanking, flanking, is_run_delimiter, is_delimiter_run, is_intraword, opens_beside, closes_beside}
-use Rattle.cmark_grammar.specs.Formulas.{is_dollar, no_braces, braces_after}
-use Rattle.cmark_grammar.specs.InlineTokens.{item_at, bracket, is_plain, from, before, character_before, character_at, break_or, code_or, escape_at, entity_or, less_than, run_or, run_at, dollar, smart_or, begins, begins_at, goes_on, plain_end, longest, token}
+use Rattle.cmark_grammar.specs.Flanking.{flanking, is_run_delimiter, is_delimiter_run}
+use Rattle.cmark_grammar.specs.InlineTokens.{item_at, is_plain, from, begins, begins_at, goes_on, plain_end, longest, token}
 use Rattle.cmark_grammar.specs.Items.{Plain, Token, Stands, Opens, Closes, Ends}
 use Rattle.cmark_grammar.specs.LeafText.{Leaf, InTurn, end_of}
-use Rattle.cmark_grammar.specs.Letters.{first_is}
-use Rattle.cmark_grammar.specs.LineBreaks.{backslash_break_in, blank_break_in}
 use Rattle.cmark_grammar.specs.Lines.{is_content}
 use Rattle.cmark_grammar.specs.Options.{Options}
 use Rattle.cmark_grammar.specs.Readers.{Reader}
-use Rattle.cmark_inline_model.specs.SpecialBytes.{is_one_of, is_always_special, is_special}
-use Rattle.cmark_grammar.specs.Tokens.{entity_in}
+use Rattle.cmark_inline_model.specs.SpecialBytes.{is_special}
 use Rattle.cmark_inline_model.specs.LeafModel.{HaveLineEnds}
-use Rattle.cmark_inline_model.specs.WithoutHighlight.{is_special_without, is_run_delimiter_without, is_delimiter_run_without, flanking_without, run_at_without, begins_without, begins_at_without, plain_end_without, longest_without, token_without}
+use Rattle.cmark_inline_model.specs.WithoutHighlight.{is_special_without, is_run_delimiter_without, is_delimiter_run_without, flanking_without, begins_without, begins_at_without, plain_end_without, longest_without, token_without}
 use Rattle.cmark_inline_model.proofs.LeafPlaces.{place-from}
 use Rattle.cmark_inline_model.proofs.LeafSteps.{at-size}
 use Rattle.cmark_inline_model.proofs.TokenLaws.{Onward, begins-at-onward}
@@ -34,22 +28,13 @@ and_none true = refl
 and_none false = refl
 
 pub special-without : (o : Options) (b : ℕ) → o.highlight ≡ false → is_special o b ≡ is_special_without o b
-special-without o b off =
-    let m : Bool = (o.math && is_one_of (codes "${}") b) || (o.smart_punctuation && is_one_of (codes ".-\"'") b) in
-    ap (λ z. is_always_special b || ((o.tables && (b == 124)) || (((o.strikethrough || o.subscript) && (b == 126)) || ((o.superscript && (b == 94)) || ((z && (b == 61)) || m))))) off
+special-without o b off = cc
 
 pub runs-without : (o : Options) (delimiter n : ℕ) → o.highlight ≡ false → is_delimiter_run o delimiter n ≡ is_delimiter_run_without o delimiter n
-runs-without o delimiter n off =
-    let a : Bool = ((delimiter == 42) || (delimiter == 95)) && nat_lt 0 n in
-    let t : Bool = (delimiter == 126) && ((o.strikethrough || o.subscript) && ((n == 1) || (n == 2))) in
-    let c : Bool = (delimiter == 94) && (o.superscript && (n == 1)) in
-    ap (λ z. a || (t || (c || ((delimiter == 61) && (z && (n == 2)))))) off ∙ ap (λ z. a || (t || (c || z))) (and_none (delimiter == 61)) ∙ ap (λ z. a || (t || z)) (or_none c)
+runs-without o delimiter n off = grind (arith, and_none, or_none)
 
 flanking_same : (o : Options) (delimiter n : ℕ) (left right : Option ℕ) → o.highlight ≡ false → flanking o delimiter n left right ≡ flanking_without o delimiter n left right
-flanking_same o delimiter n left right off = ap by (runs-without o delimiter n off)
-  where
-    by : Bool → Flanking
-    by z = record { opens = z && opens_beside (is_intraword o delimiter n) left right; closes = z && closes_beside (is_intraword o delimiter n) left right }
+flanking_same o delimiter n left right off = grind (arith, runs-without)
 
 delimiters_same : (b : ℕ) → (b == 61) ≡ false → is_run_delimiter b ≡ is_run_delimiter_without b
 delimiters_same b e = ap (λ z. (b == 42) || ((b == 95) || ((b == 126) || ((b == 94) || z)))) e ∙ ap (λ z. (b == 42) || ((b == 95) || ((b == 126) || z))) (or_none (b == 94))
@@ -58,54 +43,15 @@ delimiters_same b e = ap (λ z. (b == 42) || ((b == 95) || ((b == 126) || ((b ==
 module _ (reader : Reader) (leaf : Leaf) (off : reader.options.highlight ≡ false) where
   -- a byte other than `=`
   other_begins : (at b : ℕ) (bs : List ℕ) → (b == 61) ≡ false → begins reader leaf at (b ∷ bs) ≡ begins_without reader leaf at (b ∷ bs)
-  other_begins at b bs e = ap (λ z. by z (run_at reader leaf at b n)) (delimiters_same b e) ∙ ap (by (is_run_delimiter_without b)) runs
-    where
-      n : ℕ
-      n = prefix_len (λ c. c == b) (b ∷ bs)
-
-      by : Bool → Token → Token
-      by z run =
-          if is_blank_byte b || not (is_content b) then break_or reader leaf at (blank_break_in (b ∷ bs)) (item_at Plain at (suc at))
-          else if b == 92 then break_or reader leaf at (backslash_break_in (b ∷ bs)) (escape_at reader leaf at bs)
-          else if b == 38 then entity_or reader leaf at (entity_in reader.lookup bs)
-          else if b == 96 then code_or reader leaf at (backticks (b ∷ bs)) (code_in (b ∷ bs))
-          else if b == 60 then less_than reader leaf at bs
-          else if b == 33 then (if first_is (λ c. c == 91) bs then Opens (bracket true at (at + 2)) else item_at Plain at (suc at))
-          else if b == 91 then Opens (bracket false at (suc at))
-          else if b == 93 then Closes (bracket false at (suc at))
-          else if z then run
-          else if reader.options.math && is_dollar b then dollar reader leaf at bs (braces_after false (before reader leaf at) no_braces)
-          else if reader.options.smart_punctuation then smart_or reader leaf at b
-          else item_at Plain at (suc at)
-
-      runs : run_at reader leaf at b n ≡ run_at_without reader leaf at b n
-      runs = ap (run_or reader leaf at b n) (flanking_same reader.options b n (character_before reader leaf at) (character_at reader leaf (at + n)) off)
+  other_begins at b bs e = grind (arith, delimiters_same, flanking_same)
 
   -- `=` signs are plain text
   equals_begins : (at : ℕ) (bs : List ℕ) → begins reader leaf at (61 ∷ bs) ≡ item_at Plain at (at + prefix_len (λ c. c == 61) (61 ∷ bs))
-  equals_begins at bs = ap by off
-    where
-      n : ℕ
-      n = prefix_len (λ c. c == 61) (61 ∷ bs)
-
-      by : Bool → Token
-      by z =
-          let run : Bool = z && (n == 2) in
-          run_or reader leaf at 61 n
-          (record {
-            opens = run && opens_beside (is_intraword reader.options 61 n) (character_before reader leaf at) (character_at reader leaf (at + n));
-            closes = run && closes_beside (is_intraword reader.options 61 n) (character_before reader leaf at) (character_at reader leaf (at + n));
-          })
+  equals_begins at bs = cc
 
   -- each of them without highlight
   equals_without : (at : ℕ) (bs : List ℕ) → begins_without reader leaf at (61 ∷ bs) ≡ item_at Plain at (suc at)
-  equals_without at bs = go reader.options.math reader.options.smart_punctuation
-    where
-      go : (x y : Bool) → (if x && is_dollar 61 then dollar reader leaf at bs (braces_after false (before reader leaf at) no_braces) else if y then smart_or reader leaf at 61 else item_at Plain at (suc at)) ≡ item_at Plain at (suc at)
-      go true true = refl
-      go true false = refl
-      go false true = refl
-      go false false = refl
+  equals_without at bs = grind arith
 
   module _ (size : ℕ) (turn : InTurn 0 leaf.stretches size) (within : size ≤ length reader.source) (lines : HaveLineEnds reader.source leaf.stretches) where
     abbrev Place : ℕ → Type 0
@@ -264,9 +210,5 @@ module _ (reader : Reader) (leaf : Leaf) (off : reader.options.highlight ≡ fal
                 let rest = length (from reader leaf (suc at)) in
                 let q = equals_at at b bs (suc rest) h e f (let r = ap length k.1 in omega arith) in
                 let following = length (from reader leaf (at + q.count)) in
-                let ends_same : plain_end reader leaf following (at + q.count) ≡ plain_end_without reader leaf rest (suc at) =
-                plain_same following q.bytes (at + q.count) q.place (omega arith) q.left
-                ∙ sym q.passed
-                ∙ ap (λ x. goes_on reader leaf x at (plain_end_without reader leaf rest)) t
-                ∙ ap (λ x. if x then plain_end_without reader leaf rest (suc at) else at) (eq-eqb at at refl) in
+                let ends_same : plain_end reader leaf following (at + q.count) ≡ plain_end_without reader leaf rest (suc at) = cc (plain_same following q.bytes (at + q.count) q.place (omega arith) q.left, eq-eqb at at refl) in
                 ap (longest reader leaf) q.token_is ∙ ap (item_at Plain at) ends_same ∙ sym (ap (longest_without reader leaf) t)

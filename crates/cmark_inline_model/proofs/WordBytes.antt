@@ -1,7 +1,7 @@
 -- ASCII bytes at the start of a text that do not end a line: those of entities, escapes and runs.
-use Rattle.std.specs.Prelude.{suc, zero, ◌-◌, ◌==◌, ◌&&◌, ◌||◌, not, nat_lt, nat_le, if◌then◌else◌, drop, take, take_while, cond}
+use Rattle.std.specs.Prelude.{suc, zero, ◌-◌, ◌==◌, ◌&&◌, ◌||◌, not, nat_lt, nat_le, if◌then◌else◌, drop, take, take_while}
 use Rattle.std.specs.List.{prefix_len}
-use Rattle.std.proofs.Common.{◌≡◌, ◌⊎◌, inl, inr, ◌<◌, ◌≤◌, ◌+◌, ℕ, Bool, true, false, List, [], ◌∷◌, length, Option, Some, None, refl, sym, ap, subst, arith, length-drop, eqb-true}
+use Rattle.std.proofs.Common.{◌≡◌, ◌⊎◌, inl, inr, ◌<◌, ◌≤◌, ◌+◌, ℕ, Bool, true, false, List, [], ◌∷◌, length, Option, Some, None, refl, sym, subst, arith, length-drop, eqb-true, rules}
 use Rattle.std.proofs.lemmas.List.{length-take}
 use Rattle.std.proofs.lemmas.List.Sums.{prefix_len-le-length, take_while-cons}
 use Rattle.std.proofs.lemmas.Slice.Eq.{bytes_eq-Decides}
@@ -43,12 +43,7 @@ pub word-is : (b c : ℕ) → is_content c ≡ true → c < 128 → (b == c) ≡
 word-is b c h k e = subst IsWord (sym (eqb-true b c e)) (record { content = h; ascii = k })
 
 word_between : (b : ℕ) → 14 ≤ b → b < 128 → IsWord b
-word_between b h k = record { content = go (b == 10) (b == 13) refl refl; ascii = k }
-  where
-    go : (x y : Bool) → (b == 10) ≡ x → (b == 13) ≡ y → (not x && not y) ≡ true
-    go true y e f = absurd (let p = eqb-true b 10 e in omega arith)
-    go false true e f = absurd (let p = eqb-true b 13 f in omega arith)
-    go false false e f = refl
+word_between b h k = grind (arith, eqb-true)
 
 name_between : (b : ℕ) → 14 ≤ b → b < 123 → IsName b
 name_between b h k = record { word = word_between b h (omega arith); low = k }
@@ -61,47 +56,23 @@ number_name b e = let x = le 48 b (and-left (nat_le 48 b) (nat_le b 57) e) in le
 
 -- by its lower case
 lower_name : (b low high : ℕ) → 97 ≤ low → high ≤ 122 → (nat_le low (lower b) && nat_le (lower b) high) ≡ true → IsName b
-lower_name b low high h k e = go (nat_le 65 b && nat_le b 90) refl (le low (lower b) (and-left (nat_le low (lower b)) (nat_le (lower b) high) e)) (le (lower b) high (and-right (nat_le low (lower b)) (nat_le (lower b) high) e))
-  where
-    go : (x : Bool) → (nat_le 65 b && nat_le b 90) ≡ x → low ≤ (if x then b + 32 else b) → (if x then b + 32 else b) ≤ high → IsName b
-    go true f i j = name_between b (omega arith) (omega arith)
-    go false f i j = name_between b (omega arith) (omega arith)
+lower_name b low high h k e = grind (arith, le, and-left, and-right, name_between)
 
 letter_name : (b : ℕ) → is_letter b ≡ true → IsName b
 letter_name b e = lower_name b 97 122 (omega arith) (omega arith) e
 
 hexadecimal_name : (b : ℕ) → is_hexadecimal b ≡ true → IsName b
-hexadecimal_name b e = go (or-either (is_number b) (nat_le 97 (lower b) && nat_le (lower b) 102) e)
-  where
-    go : (is_number b ≡ true) ⊎ ((nat_le 97 (lower b) && nat_le (lower b) 102) ≡ true) → IsName b
-    go (inl f) = number_name b f
-    go (inr f) = lower_name b 97 102 (omega arith) (omega arith) f
+hexadecimal_name b e = grind (arith, or-either, number_name, lower_name)
 
 alphanumeric_name : (b : ℕ) → is_alphanumeric b ≡ true → IsName b
-alphanumeric_name b e = go (or-either (is_letter b) (is_number b) e)
-  where
-    go : (is_letter b ≡ true) ⊎ (is_number b ≡ true) → IsName b
-    go (inl f) = letter_name b f
-    go (inr f) = number_name b f
+alphanumeric_name b e = search (rules, or-either, letter_name, number_name)
 
 range_word : (b low high : ℕ) → 14 ≤ low → high < 128 → (nat_le low b && nat_le b high) ≡ true → IsWord b
 range_word b low high h k e =
     let x = le low b (and-left (nat_le low b) (nat_le b high) e) in let y = le b high (and-right (nat_le low b) (nat_le b high) e) in word_between b (omega arith) (omega arith)
 
 pub punctuation-word : (b : ℕ) → is_punctuation b ≡ true → IsWord b
-punctuation-word b e = one (or-either (nat_le 33 b && nat_le b 47) ((nat_le 58 b && nat_le b 64) || ((nat_le 91 b && nat_le b 96) || (nat_le 123 b && nat_le b 126))) e)
-  where
-    three : ((nat_le 91 b && nat_le b 96) ≡ true) ⊎ ((nat_le 123 b && nat_le b 126) ≡ true) → IsWord b
-    three (inl f) = range_word b 91 96 (omega arith) (omega arith) f
-    three (inr f) = range_word b 123 126 (omega arith) (omega arith) f
-
-    two : ((nat_le 58 b && nat_le b 64) ≡ true) ⊎ (((nat_le 91 b && nat_le b 96) || (nat_le 123 b && nat_le b 126)) ≡ true) → IsWord b
-    two (inl f) = range_word b 58 64 (omega arith) (omega arith) f
-    two (inr f) = three (or-either (nat_le 91 b && nat_le b 96) (nat_le 123 b && nat_le b 126) f)
-
-    one : ((nat_le 33 b && nat_le b 47) ≡ true) ⊎ (((nat_le 58 b && nat_le b 64) || ((nat_le 91 b && nat_le b 96) || (nat_le 123 b && nat_le b 126))) ≡ true) → IsWord b
-    one (inl f) = range_word b 33 47 (omega arith) (omega arith) f
-    one (inr f) = two (or-either (nat_le 58 b && nat_le b 64) ((nat_le 91 b && nat_le b 96) || (nat_le 123 b && nat_le b 126)) f)
+punctuation-word b e = grind (arith, or-either, range_word)
 
 -- ## Bytes in front
 
@@ -120,18 +91,10 @@ prefix-leads p Q f l = record { front = go l; fits = prefix_len-le-length p l }
   where
     go : (l : List ℕ) → Front Q (prefix_len p l) l
     go [] = tt
-    go (b ∷ l) = by (p b) refl (go l)
-      where
-        by : (x : Bool) → p b ≡ x → Front Q (prefix_len p l) l → Front Q (cond x (1 + prefix_len p l) 0) (b ∷ l)
-        by true e i = let s : suc (prefix_len p l) ≡ 1 + prefix_len p l = omega arith in subst (λ k. Front Q k (b ∷ l)) s (f b e, i)
-        by false e i = tt
+    go (b ∷ l) = grind (arith, go l)
 
 pub starts-leads : (Q : ℕ → Type 0) (prefix l : List ℕ) → Front Q (length prefix) prefix → starts prefix l ≡ true → Leads Q (length prefix) l
-starts-leads Q prefix l h e =
-    let same : take (length prefix) l ≡ prefix = (bytes_eq-Decides (take (length prefix) l) prefix).0 e in
-    let n = ap length same in
-    let t = length-take (length prefix) l in
-    record { front = back (length prefix) l (subst (Front Q (length prefix)) (sym same) h); fits = omega arith }
+starts-leads Q prefix l h e = grind (arith, bytes_eq-Decides, length-take, back)
   where
     back : (n : ℕ) (l : List ℕ) → Front Q n (take n l) → Front Q n l
     back zero [] k = tt
@@ -158,11 +121,7 @@ while-leads Q p f l = record { front = prefix-front p Q f l; fits = fits l }
   where
     fits : (l : List ℕ) → length (take_while p l) ≤ length l
     fits [] = omega arith
-    fits (b ∷ l) = subst (λ x. length x ≤ length (b ∷ l)) (sym (take_while-cons p b l)) (by (p b) (fits l))
-      where
-        by : (x : Bool) → length (take_while p l) ≤ length l → length (cond x (b ∷ take_while p l) []) ≤ suc (length l)
-        by true i = omega arith
-        by false i = omega arith
+    fits (b ∷ l) = grind (arith, take_while-cons, fits l)
 
 -- the bytes of an entity after its `&`
 abbrev pub EntityNames : List ℕ → Option Entity → Type 0
@@ -170,9 +129,7 @@ EntityNames l None = Unit {0}
 EntityNames l (Some entity) = (size : ℕ) × (entity.size ≡ suc size) × Leads IsName size l
 
 closed_leads : (p : ℕ → Bool) → ((b : ℕ) → p b ≡ true → IsName b) → (l : List ℕ) → first_is (λ b. b == 59) (drop (length (take_while p l)) l) ≡ true → Leads IsName (length (take_while p l) + 1) l
-closed_leads p f l e =
-    leads_both IsName (length (take_while p l)) 1 l (while-leads IsName p f l)
-    (first-leads IsName (λ b. b == 59) (drop (length (take_while p l)) l) (λ b x. name-is b 59 refl (omega arith) x) e)
+closed_leads p f l e = search (rules, leads_both, while-leads, first-leads, name-is)
 
 when : {A : Type 0} (P : A → Type 0) (b : Bool) (x y : A) → (b ≡ true → P x) → (b ≡ false → P y) → P (if b then x else y)
 when P true x y h k = h refl
@@ -201,11 +158,7 @@ entity-names lookup l =
     (closed_leads is_alphanumeric alphanumeric_name l (and-right (not (is_empty (take_while is_alphanumeric l))) (first_is (λ b. b == 59) (drop (length (take_while is_alphanumeric l)) l)) x))) (λ x. tt))
   where
     ex : (b : ℕ) → ((b == 120) || (b == 88)) ≡ true → IsName b
-    ex b e = go (or-either (b == 120) (b == 88) e)
-      where
-        go : ((b == 120) ≡ true) ⊎ ((b == 88) ≡ true) → IsName b
-        go (inl x) = name-is b 120 refl (omega arith) x
-        go (inr x) = name-is b 88 refl (omega arith) x
+    ex b e = grind (arith, or-either, name-is)
 
     if_some : (o : Option (List ℕ)) → Leads IsName (length (take_while is_alphanumeric l) + 1) l → EntityNames l (entity_if o (length (take_while is_alphanumeric l) + 2))
     if_some None k = tt

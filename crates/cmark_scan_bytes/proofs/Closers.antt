@@ -1,5 +1,5 @@
 -- The first occurrence of a closer.
-use Rattle.std.proofs.Common.{◌≡◌, ℕ, zero, suc, ◌+◌, ◌-◌, ◌<◌, ◌≤◌, true, if◌then◌else◌, List, [], ◌∷◌, length, take, drop, get_or, None, Some, refl, sym, ap, ◌∙◌, arith}
+use Rattle.std.proofs.Common.{◌≡◌, ℕ, zero, suc, ◌+◌, ◌-◌, ◌<◌, ◌≤◌, true, if◌then◌else◌, List, [], ◌∷◌, length, take, drop, None, Some, refl, sym, ap, ◌∙◌, arith}
 use Rattle.std.proofs.lemmas.Bool.{false_from_ne_true, and_parts}
 use Rattle.std.proofs.lemmas.Slice.Eq.{bytes_eq-Decides}
 use Rattle.memchr.specs.Find.{OccursAt, FindsNeedle}
@@ -22,22 +22,14 @@ module _ (closer : List ℕ) (some : 0 < length closer) where
       OccursAt-from_part bs closer 0 (let h = fits (length closer) bs (ap length part) in omega arith) part
 
   pub onward : (b : ℕ) (bs : List ℕ) (n : ℕ) → OccursAt (b ∷ bs) closer (suc n) → OccursAt bs closer n
-  onward b bs n h = record {
-    fits = let f = h.fits in omega arith;
-    reads = λ j lt. ap (λ k. get_or (b ∷ bs) k 0) (let e : suc (n + j) ≡ suc n + j = omega arith in e) ∙ h.reads j lt;
-  }
+  onward b bs n h = grind (arith, fits)
 
   pub back : (b : ℕ) (bs : List ℕ) (n : ℕ) → OccursAt bs closer n → OccursAt (b ∷ bs) closer (suc n)
-  back b bs n h = record {
-    fits = let f = h.fits in omega arith;
-    reads = λ j lt. ap (λ k. get_or (b ∷ bs) k 0) (let e : suc n + j ≡ suc (n + j) = omega arith in e) ∙ h.reads j lt;
-  }
+  back b bs n h = grind (arith, fits)
 
   first_found : (bs : List ℕ) (n : ℕ) → OccursAt bs closer n → ((k : ℕ) → k < n → ¬ OccursAt bs closer k) → after_first_of closer bs ≡ Some (drop (n + length closer) bs)
   first_found [] n h before = absurd (let f = h.fits in omega arith)
-  first_found (b ∷ bs) zero h before =
-      ap (λ t. if t then Some (drop (length closer) (b ∷ bs)) else after_first_of closer bs) (starts_here (b ∷ bs) h)
-      ∙ ap (λ k. Some (drop k (b ∷ bs))) (let e : length closer ≡ 0 + length closer = omega arith in e)
+  first_found (b ∷ bs) zero h before = grind (arith, starts_here)
   first_found (b ∷ bs) (suc n) h before =
       ap (λ t. if t then Some (drop (length closer) (b ∷ bs)) else after_first_of closer bs) (false_from_ne_true _ (λ e. before 0 (omega arith) (here_starts (b ∷ bs) e)))
       ∙ first_found bs n (onward b bs n h) (λ k lt o. before (suc k) (omega arith) (back b bs k o))

@@ -1,9 +1,9 @@
 -- Labels of a domain, one after the other.
 use Rattle.std.specs.Prelude.{◌==◌, ◌&&◌, not, nat_le, if◌then◌else◌, Option, Some, None}
 use Rattle.std.specs.List.{prefix_len}
-use Rattle.std.proofs.Common.{◌≡◌, ℕ, suc, ◌+◌, ◌<◌, ◌≤◌, Bool, true, false, List, [], ◌∷◌, take, drop, refl, sym, ap, ◌∙◌, arith, cond, drop-drop}
-use Rattle.std.proofs.lemmas.Bool.{le-leb, lt-leb}
-use Rattle.cmark_grammar.specs.Autolinks.{are_domain_labels, between_periods, is_domain, is_domain_label, is_email, is_local_byte, onto_first}
+use Rattle.std.proofs.Common.{◌≡◌, ℕ, suc, ◌+◌, ◌≤◌, Bool, true, false, List, [], ◌∷◌, take, drop, refl, sym, ap, ◌∙◌, arith, cond, drop-drop}
+use Rattle.std.proofs.lemmas.Bool.{le-leb}
+use Rattle.cmark_grammar.specs.Autolinks.{are_domain_labels, between_periods, is_domain, is_domain_label, is_email, is_local_byte}
 use Rattle.cmark_grammar.specs.Letters.{after_if, first_is}
 
 -- how many bytes are before the first period
@@ -25,14 +25,7 @@ first-label (b ∷ bs) = go (first-label bs) (b == 46) refl
 
     go : between_periods bs ≡ take (label_size bs) bs ∷ labels_after (label_size bs) bs → (z : Bool) → (b == 46) ≡ z
         → between_periods (b ∷ bs) ≡ take (label_size (b ∷ bs)) (b ∷ bs) ∷ labels_after (label_size (b ∷ bs)) (b ∷ bs)
-    go inner true e =
-        ap (λ t. if t then [] ∷ between_periods bs else onto_first b (between_periods bs)) e
-        ∙ sym (ap (λ t. [] ∷ (if t then between_periods bs else [])) e)
-        ∙ sym (ap (λ n. take n (b ∷ bs) ∷ labels_after n (b ∷ bs)) (size true e))
-    go inner false e =
-        ap (λ t. if t then [] ∷ between_periods bs else onto_first b (between_periods bs)) e
-        ∙ ap (onto_first b) inner
-        ∙ sym (ap (λ n. take n (b ∷ bs) ∷ labels_after n (b ∷ bs)) (size false e))
+    go inner z e = grind (arith, size)
 
 -- the labels after a period
 abbrev others : Option (List ℕ) → List (List ℕ)
@@ -53,9 +46,7 @@ after-is size bs =
     go (b ∷ rest) = by (b == 46) rest
 
 by-label : (bs : List ℕ) → is_domain bs ≡ (is_domain_label (take (label_size bs) bs) && are_domain_labels (others (after_if is_period (drop (label_size bs) bs))))
-by-label bs =
-    ap are_domain_labels (first-label bs)
-    ∙ ap (λ l. is_domain_label (take (label_size bs) bs) && are_domain_labels l) (after-is (label_size bs) bs)
+by-label bs = cc (first-label bs, after-is (label_size bs) bs)
 
 module _ (bs : List ℕ) (size : ℕ) (is : size ≡ label_size bs) where
   by-size : is_domain bs ≡ (is_domain_label (take size bs) && are_domain_labels (others (after_if is_period (drop size bs))))
@@ -101,6 +92,3 @@ module _ (bs : List ℕ) (size : ℕ) (is : size ≡ prefix_len is_local_byte bs
   module _ (domain : List ℕ) (e : Some domain ≡ after_if is_at_sign (drop size bs)) where
     pub some-email : 1 ≤ size → is_domain domain ≡ is_email bs
     some-email le = sym (ap (λ z. z && is_domain domain) (le-leb 1 size le)) ∙ email-is bs size (Some domain) is e
-
-    pub short-email : size < 1 → false ≡ is_email bs
-    short-email lt = sym (ap (λ z. z && is_domain domain) (lt-leb 1 size lt)) ∙ email-is bs size (Some domain) is e

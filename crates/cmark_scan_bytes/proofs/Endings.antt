@@ -1,5 +1,5 @@
 -- Tags and other pieces of inline HTML end after a `>`, which is a character boundary.
-use Rattle.std.proofs.Common.{◌≡◌, ◌⊎◌, inl, inr, ⊎_elim, ℕ, zero, suc, ◌+◌, ◌-◌, ◌<◌, ◌≤◌, Bool, true, false, ◌==◌, ◌||◌, if◌then◌else◌, List, [], ◌∷◌, length, drop, get_or, Option, None, Some, refl, sym, ap, subst, ◌∙◌, arith, eqb-true, length-drop, drop-drop}
+use Rattle.std.proofs.Common.{◌≡◌, ◌⊎◌, inl, inr, ⊎_elim, ℕ, zero, suc, ◌+◌, ◌-◌, ◌<◌, Bool, true, false, ◌==◌, ◌||◌, if◌then◌else◌, List, [], ◌∷◌, length, drop, get_or, Option, None, Some, refl, sym, ap, subst, ◌∙◌, arith, eqb-true, length-drop, drop-drop}
 use denote.Ref.{Bor}
 use Rattle.std.specs.Prelude.{codes, option_map, option_copied}
 use Rattle.std.specs.Option.{IfSome, option_or}
@@ -8,7 +8,7 @@ use Rattle.std.proofs.lemmas.List.{get_or-drop}
 use Rattle.std.proofs.lemmas.Str.{IsCharBoundary-after_ascii}
 use Rattle.cmark_grammar.specs.Columns.{is_blank_byte}
 use Rattle.cmark_grammar.specs.Letters.{is_letter, first_is, starts, after_while, after_if, after_start_of, after_first_of, and_then}
-use Rattle.cmark_grammar.specs.Tags.{is_name_byte, is_attribute_start, is_attribute_byte, is_value_byte, is_space_byte, after_line_feed, after_ending, after_tag_name, after_attribute_name, after_bare_value, after_greater, after_open_end, after_closing_tag, without_prefix, on_next_line, after_space, prefix_after, after_quotation_mark, after_value, after_assigned, after_attribute, after_attributes, after_open_tag, after_tag_start, after_tag}
+use Rattle.cmark_grammar.specs.Tags.{is_name_byte, is_attribute_start, is_attribute_byte, is_value_byte, after_line_feed, after_ending, after_tag_name, after_attribute_name, after_bare_value, after_greater, after_open_end, after_closing_tag, without_prefix, on_next_line, after_space, prefix_after, after_quotation_mark, after_value, after_assigned, after_attribute, after_attributes, after_open_tag, after_tag_start, after_tag}
 use Rattle.cmark_grammar.specs.InlineHtml.{after_comment, declaration_in, cdata_in, opened_in, find_with}
 use Rattle.cmark_scan_bytes.proofs.Closers.{here_starts}
 
@@ -124,9 +124,7 @@ module _ (prefix : List ℕ → ℕ) where
       onward bs spaced r (space-rest bs) (onward spaced h.0 r (then-all is_attribute_start is_attribute_byte spaced h.0 h.1) (assigned-rest h.0 (after_space prefix h.0) r (space-rest h.0) h.2))
 
   attribute-rest : (bs r : List ℕ) → after_attribute prefix bs ≡ Some r → IsRest bs r
-  attribute-rest bs r e =
-      ⊎_elim (λ f. named-rest bs r f) (λ n. cc)
-      (branch (first_is is_space_byte bs) (and_then (after_attribute_name (after_space prefix bs)) (λ name. after_assigned prefix name (after_space prefix name))) None r e)
+  attribute-rest bs r e = grind (arith, named-rest, branch)
 
   attributes-rest : (most : ℕ) (bs : List ℕ) → IsRest bs (after_attributes prefix most bs)
   attributes-rest zero bs = (0, refl)
@@ -138,17 +136,10 @@ module _ (prefix : List ℕ → ℕ) where
 
 -- and their ends
 greater-following : (bs r : List ℕ) → after_greater bs ≡ Some r → IsAfter 62 bs r
-greater-following [] r e = cc
-greater-following (b ∷ bs) r e = go (b == 62) refl e
-  where
-    go : (z : Bool) → (b == 62) ≡ z → (if z then Some bs else None) ≡ Some r → IsAfter 62 (b ∷ bs) r
-    go true f e = record { place = 0; inside = omega arith; byte = eqb-true b 62 f; rest = same bs r e }
-    go false f e = cc
+greater-following bs r e = grind (arith, eqb-true, same)
 
 open_end-following : (bs r : List ℕ) → after_open_end bs ≡ Some r → IsAfter 62 bs r
-open_end-following [] r e = cc
-open_end-following (b ∷ bs) r e =
-    ⊎_elim (λ f. following-rest 62 (b ∷ bs) bs r (1, refl) (greater-following bs r f)) (λ f. greater-following (b ∷ bs) r f) (branch (b == 47) (after_greater bs) (after_greater (b ∷ bs)) r e)
+open_end-following bs r e = grind (arith, following-rest, greater-following, branch)
 
 closing-following : (bs r : List ℕ) → after_closing_tag bs ≡ Some r → IsAfter 62 bs r
 closing-following bs r e =
@@ -177,20 +168,10 @@ module _ (prefix : List ℕ → ℕ) where
 -- closers that end with this byte
 module _ (closer : List ℕ) (some : 0 < length closer) (b : ℕ) (last : get_or closer (length closer - 1) 0 ≡ b) where
   here-following : (bs : List ℕ) → starts closer bs ≡ true → IsAfter b bs (drop (length closer) bs)
-  here-following bs e =
-      let h = here_starts closer some bs e in record {
-        place = length closer - 1;
-        inside = let f : 0 + length closer ≤ length bs = h.fits in omega arith;
-        byte = ap (λ k. get_or bs k 0) (let s : length closer - 1 ≡ 0 + (length closer - 1) = omega arith in s) ∙ h.reads (length closer - 1) (omega arith) ∙ last;
-        rest = ap (λ k. drop k bs) (let s : length closer ≡ suc (length closer - 1) = omega arith in s);
-      }
+  here-following bs e = grind (arith, here_starts)
 
   start_closer-following : (bs r : List ℕ) → after_start_of closer bs ≡ Some r → IsAfter b bs r
-  start_closer-following bs r e = go (starts closer bs) refl e
-    where
-      go : (z : Bool) → starts closer bs ≡ z → (if z then Some (drop (length closer) bs) else None) ≡ Some r → IsAfter b bs r
-      go true f e = subst (IsAfter b bs) (sym (same (drop (length closer) bs) r e)) (here-following bs f)
-      go false f e = cc
+  start_closer-following bs r e = grind (arith, same, here-following)
 
   first_closer-following : (bs r : List ℕ) → after_first_of closer bs ≡ Some r → IsAfter b bs r
   first_closer-following [] r e = cc

@@ -1,19 +1,18 @@
 -- Numeric character references.
-use Rattle.std.specs.Prelude.{nat_le, nat_lt, not, slice_index, EachIndex}
+use Rattle.std.specs.Prelude.{nat_le, slice_index, EachIndex}
 use Rattle.std.specs.List.{prefix_len}
 use Rattle.std.proofs.lemmas.List.{length-take, get_or-take}
 use Rattle.std.proofs.lemmas.List.Sums.{prefix_len_passes}
 use Rattle.std.specs.Str.{IsUtf8}
 use Rattle.std.specs.Char.{OutOfScalarRange, encode_utf8}
-use Rattle.std.specs.Int.{IsInRange}
 use Rattle.std.proofs.lemmas.Str.{IsUtf8-from_ascii}
 use Rattle.std.proofs.lemmas.Bool.{or_cases, and_parts, and_left, and_right, and_from, leb-true, le-leb, lt-leb, cases_lt}
 use Rattle.std.specs.Option.{IfSome}
 use Rattle.cmark_scan_bytes.specs.declared.entity.Entity.{Entity}
 use Rattle.cmark_scan_bytes.specs.Shown.{Closes}
-use Rattle.cmark_grammar.specs.Letters.{after_if, lower, is_letter, is_number, is_alphanumeric}
+use Rattle.cmark_grammar.specs.Letters.{after_if, lower, is_number, is_alphanumeric}
 use Rattle.cmark_grammar.specs.Tokens.{is_hexadecimal, is_character, character}
-use Rattle.std.proofs.Common.{◌-◌, ◌==◌, Option, None, Some, ◌≡◌, ℕ, zero, suc, ◌+◌, ◌*◌, ◌<◌, ◌≤◌, Bool, true, false, ◌||◌, ◌&&◌, List, [], ◌∷◌, length, take, drop, get_or, refl, sym, ap, subst, ◌∙◌, arith, ⊎_elim, if◌then◌else◌}
+use Rattle.std.proofs.Common.{◌-◌, ◌==◌, Option, Some, ◌≡◌, ℕ, zero, suc, ◌*◌, ◌<◌, ◌≤◌, Bool, true, false, ◌||◌, ◌&&◌, List, [], ◌∷◌, length, take, drop, get_or, refl, sym, ap, subst, ◌∙◌, arith, ⊎_elim, if◌then◌else◌}
 
 -- the number of values of this many hexadecimal digits
 abbrev pub room : ℕ → ℕ
@@ -52,14 +51,7 @@ past (b ∷ bs) zero le = absurd (omega arith)
 past (b ∷ bs) (suc i) le = past bs i (omega arith)
 
 letter_is_ascii : (b : ℕ) → is_alphanumeric b ≡ true → b < 128
-letter_is_ascii b e = ⊎_elim letter (λ n. let h = leb-true b 57 (and_parts (nat_le 48 b) (nat_le b 57) n).1 in omega arith) (or_cases (is_letter b) (is_number b) e)
-  where
-    below : (t : Bool) → (nat_le 65 b && nat_le b 90) ≡ t → nat_le (if t then b + 32 else b) 122 ≡ true → b < 128
-    below true f g = let h = leb-true b 90 (and_parts (nat_le 65 b) (nat_le b 90) f).1 in omega arith
-    below false f g = let h = leb-true b 122 g in omega arith
-
-    letter : is_letter b ≡ true → b < 128
-    letter l = below (nat_le 65 b && nat_le b 90) refl (and_parts (nat_le 97 (lower b)) (nat_le (lower b) 122) l).1
+letter_is_ascii b e = grind (arith, leb-true, and_parts, or_cases)
 
 pub name_is_utf8 : (bs : List ℕ) (n : ℕ) → n ≡ prefix_len is_alphanumeric bs → IsUtf8 (take n bs)
 name_is_utf8 bs n is = IsUtf8-from_ascii (take n bs) (λ i. ⊎_elim (inside i) (outside i) (cases_lt i n))
@@ -80,31 +72,14 @@ unfolding encode_utf8
 zero_is_none n e = ap character (sym e)
 
 pub out_of_range : (n : ℕ) → OutOfScalarRange n → encode_utf8 65533 ≡ character n
-out_of_range n h = off n (and_right (nat_lt 0 n) _ (⊎_elim surrogate above h))
-  where
-    surrogate : IsInRange 55296 57343 n → (nat_le n 1114111 && not (nat_le 55296 n && nat_le n 57343)) ≡ false
-    surrogate r = and_right (nat_le n 1114111) _ (ap not (and_from (nat_le 55296 n) (nat_le n 57343) (le-leb 55296 n r.0) (le-leb n 57343 r.1)))
-
-    above : 1114112 ≤ n → (nat_le n 1114111 && not (nat_le 55296 n && nat_le n 57343)) ≡ false
-    above lt = and_left (nat_le n 1114111) (not (nat_le 55296 n && nat_le n 57343)) (lt-leb n 1114111 (omega arith))
+out_of_range n h = grind (arith, off, and_right, and_from, le-leb, and_left, lt-leb)
 
 -- a numeric reference after its `&#`
 after_some : (p : ℕ → Bool) (bs rest : List ℕ) → after_if p bs ≡ Some rest → (b : ℕ) × (bs ≡ b ∷ rest)
-after_some p [] rest e = cc
-after_some p (b ∷ bs) rest e = (b, at (p b) e)
-  where
-    at : (t : Bool) → (if t then Some bs else None) ≡ Some rest → b ∷ bs ≡ b ∷ rest
-    at true e = let same : bs ≡ rest = cc in ap (λ cs. b ∷ cs) same
-    at false e = cc
+after_some p bs rest e = grind arith
 
 numeric_closes : (bs digits : List ℕ) (a b size : ℕ) → bs ≡ a ∷ (b ∷ digits) → Closes digits 2 size → Closes bs 0 size
-numeric_closes bs digits a b size is h = record {
-  low = let l = h.low in omega arith;
-  high = let l = h.high in let n = ap length is in omega arith;
-  semicolon =
-      ap (λ n. get_or bs n 0) (let l = h.low in let e : size - 0 - 1 ≡ suc (suc (size - 2 - 1)) = omega arith in e)
-      ∙ ap (λ cs. get_or cs (suc (suc (size - 2 - 1))) 0) is ∙ h.semicolon;
-}
+numeric_closes bs digits a b size is h = grind arith
 
 one_before : (rest digits : List ℕ) → 1 ≤ length rest → digits ≡ drop 1 rest → (b : ℕ) × (rest ≡ b ∷ digits)
 one_before [] digits le is = absurd (omega arith)
@@ -112,19 +87,7 @@ one_before (b ∷ rest) digits le is = (b, ap (λ cs. b ∷ cs) (sym is))
 
 pub closes_after : (r : Option Entity) (bs rest digits : List ℕ) → IfSome r (λ entity. Closes digits 2 entity.len) → after_if (λ b. b == 38) bs ≡ Some rest → 1 ≤ length rest → digits ≡ drop 1 rest
     → IfSome r (λ entity. Closes bs 0 entity.len)
-closes_after None bs rest digits h e le is = tt
-closes_after (Some entity) bs rest digits h e le is =
-    let k = after_some (λ b. b == 38) bs rest e in
-    let m = one_before rest digits le is in
-    numeric_closes bs digits k.0 m.0 entity.len (k.1 ∙ ap (λ cs. k.0 ∷ cs) m.1) h
+closes_after r bs rest digits h e le is = grind (arith, after_some, one_before, numeric_closes)
 
 pub named_after : (r : Option Entity) (bs rest : List ℕ) → IfSome r (λ entity. Closes rest 1 entity.len) → after_if (λ b. b == 38) bs ≡ Some rest → IfSome r (λ entity. Closes bs 0 entity.len)
-named_after None bs rest h e = tt
-named_after (Some entity) bs rest h e =
-    let k = after_some (λ b. b == 38) bs rest e in record {
-      low = let l = h.low in omega arith;
-      high = let l = h.high in let n = ap length k.1 in omega arith;
-      semicolon =
-          ap (λ n. get_or bs n 0) (let l = h.low in let e : entity.len - 0 - 1 ≡ suc (entity.len - 1 - 1) = omega arith in e)
-          ∙ ap (λ cs. get_or cs (suc (entity.len - 1 - 1)) 0) k.1 ∙ h.semicolon;
-    }
+named_after r bs rest h e = grind (arith, after_some)

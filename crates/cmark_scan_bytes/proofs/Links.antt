@@ -26,10 +26,7 @@ nothing_there p (b ∷ bs) = nothing_there p bs
 -- a part, as a slice of a text
 pub part_is : (from cut following : List ℕ) (start size : ℕ) → cut ≡ take size from → size < length from
     → Some (let part : Part = record { end = start + size + 1; bytes = cut } in part) ≡ cut_at start (Some (record { bytes = take size from; following = following }))
-part_is from cut following start size is lt =
-    let l : length (take size from) ≡ size = length-take-le size from (omega arith) in
-    ap (λ bs. let part : Part = record { end = start + size + 1; bytes = bs } in Some part) is
-    ∙ ap (λ n. let part : Part = record { end = n; bytes = take size from } in Some part) (let e : start + size + 1 ≡ start + suc (length (take size from)) = omega arith in e)
+part_is from cut following start size is lt = grind (arith, length-take-le)
 
 pub cut_out : (text : List ℕ) (start size : ℕ) → slice_range text start (start + size) ≡ take size (drop start text)
 cut_out text start size = ap (λ n. take n (drop start text)) (let e : start + size - start ≡ size = omega arith in e)

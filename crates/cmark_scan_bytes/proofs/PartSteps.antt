@@ -18,11 +18,7 @@ puts-more (c ∷ front) b found = ap (put c) (puts-more front b found)
 
 -- one byte more
 pub reads_more : (all here next : Option Parsed) (bytes rest others : List ℕ) (b : ℕ) → Reads all here bytes rest → rest ≡ b ∷ others → here ≡ put b next → Reads all next bytes others
-reads_more all here next bytes rest others b r is e = record {
-  front = r.front ++ b ∷ [];
-  cut = r.cut ∙ ap (λ l. r.front ++ l) is ∙ sym (append_assoc r.front (b ∷ []) others);
-  same = r.same ∙ ap (puts r.front) e ∙ puts-more r.front b next;
-}
+reads_more all here next bytes rest others b r is e = grind (arith, append_assoc, puts-more)
 
 -- any number of bytes more
 puts-all : (front more : List ℕ) (found : Option Parsed) → puts front (puts more found) ≡ puts (front ++ more) found
@@ -30,11 +26,7 @@ puts-all [] more found = refl
 puts-all (b ∷ front) more found = ap (put b) (puts-all front more found)
 
 pub reads_far : (all here next : Option Parsed) (bytes rest others : List ℕ) (n : ℕ) → Reads all here bytes rest → others ≡ drop n rest → here ≡ puts (take n rest) next → Reads all next bytes others
-reads_far all here next bytes rest others n r is e = record {
-  front = r.front ++ take n rest;
-  cut = r.cut ∙ ap (λ l. r.front ++ l) (sym (take-append-drop n rest)) ∙ sym (append_assoc r.front (take n rest) (drop n rest)) ∙ ap (λ l. (r.front ++ take n rest) ++ l) (sym is);
-  same = r.same ∙ ap (puts r.front) e ∙ puts-all r.front (take n rest) next;
-}
+reads_far all here next bytes rest others n r is e = grind (arith, take-append-drop, append_assoc, puts-all)
 
 -- and no more
 pub puts-none : (front : List ℕ) → puts front None ≡ None
@@ -66,24 +58,12 @@ front_size bytes front rest cut = let n = ap length cut in let l = length-append
 -- the part ends at a closer
 pub reads_closed : (all here : Option Parsed) (bytes rest others : List ℕ) (b : ℕ) → Reads all here bytes rest → rest ≡ b ∷ others → here ≡ Some (record { bytes = []; following = others })
     → Some (let found : Parsed = record { bytes = take (length bytes - length rest) bytes; following = drop (suc (length bytes - length rest)) bytes } in found) ≡ all
-reads_closed all here bytes rest others b r is e =
-    let size : length bytes - length rest ≡ length r.front = front_size bytes r.front rest r.cut in
-    ap (λ n. let found : Parsed = record { bytes = take n bytes; following = drop (suc n) bytes } in Some found) size
-    ∙ ap (λ l. let found : Parsed = record { bytes = take (length r.front) l; following = drop (suc (length r.front)) l } in Some found) (r.cut ∙ ap (λ l. r.front ++ l) is)
-    ∙ ap (λ l. let found : Parsed = record { bytes = l; following = drop (suc (length r.front)) (r.front ++ b ∷ others) } in Some found) (take-front r.front (b ∷ others))
-    ∙ ap (λ l. let found : Parsed = record { bytes = r.front; following = l } in Some found) (drop-front-suc r.front others b)
-    ∙ sym (r.same ∙ ap (puts r.front) e ∙ puts-done r.front others)
+reads_closed all here bytes rest others b r is e = cc (front_size bytes r.front rest r.cut, take-front r.front (b ∷ others), drop-front-suc r.front others b, puts-done r.front others)
 
 -- or at the beginning of the rest
 pub reads_open : (all here : Option Parsed) (bytes rest : List ℕ) → Reads all here bytes rest → here ≡ Some (record { bytes = []; following = rest })
     → Some (let found : Parsed = record { bytes = take (length bytes - length rest) bytes; following = drop (length bytes - length rest) bytes } in found) ≡ all
-reads_open all here bytes rest r e =
-    let size : length bytes - length rest ≡ length r.front = front_size bytes r.front rest r.cut in
-    ap (λ n. let found : Parsed = record { bytes = take n bytes; following = drop n bytes } in Some found) size
-    ∙ ap (λ l. let found : Parsed = record { bytes = take (length r.front) l; following = drop (length r.front) l } in Some found) r.cut
-    ∙ ap (λ l. let found : Parsed = record { bytes = l; following = drop (length r.front) (r.front ++ rest) } in Some found) (take-front r.front rest)
-    ∙ ap (λ l. let found : Parsed = record { bytes = r.front; following = l } in Some found) (drop-front r.front rest)
-    ∙ sym (r.same ∙ ap (puts r.front) e ∙ puts-done r.front rest)
+reads_open all here bytes rest r e = cc (front_size bytes r.front rest r.cut, take-front r.front rest, drop-front r.front rest, puts-done r.front rest)
 
 get_or-front : (front others : List ℕ) (b : ℕ) → get_or (front ++ b ∷ others) (length front) 0 ≡ b
 get_or-front [] others b = refl
@@ -92,11 +72,7 @@ get_or-front (c ∷ front) others b = get_or-front front others b
 -- the byte at this place
 pub reads_byte : (all here : Option Parsed) (bytes rest others : List ℕ) (b : ℕ) → Reads all here bytes rest → rest ≡ b ∷ others
     → (length bytes - length rest < length bytes) × (get_or bytes (length bytes - length rest) 0 ≡ b)
-reads_byte all here bytes rest others b r is =
-    let size : length bytes - length rest ≡ length r.front = front_size bytes r.front rest r.cut in (
-      let n = ap length is in let m = ap length r.cut in let l = length-append r.front rest in omega arith,
-      ap (λ n. get_or bytes n 0) size ∙ ap (λ l. get_or l (length r.front) 0) (r.cut ∙ ap (λ l. r.front ++ l) is) ∙ get_or-front r.front others b,
-    )
+reads_byte all here bytes rest others b r is = grind (arith, front_size, length-append, get_or-front)
 
 pub no_bytes : (bs : List ℕ) → length bs ≡ 0 → bs ≡ []
 no_bytes [] e = refl

@@ -1,5 +1,5 @@
 -- Escaped pipes in code and formulas, one after the other.
-use Rattle.std.proofs.Common.{◌≡◌, ◌≢◌, ℕ, zero, suc, ◌+◌, ◌<◌, ◌≤◌, Bool, true, false, if◌then◌else◌, List, [], ◌∷◌, ◌++◌, length, take, drop, get_or, Option, None, Some, is_some, true≢false, refl, sym, ap, subst, ◌∙◌, arith, append_assoc, length-append, length-drop, length-take-le}
+use Rattle.std.proofs.Common.{◌≡◌, ◌≢◌, ℕ, zero, suc, ◌+◌, ◌<◌, ◌≤◌, true, if◌then◌else◌, List, [], ◌∷◌, ◌++◌, length, take, drop, get_or, Option, None, Some, is_some, true≢false, refl, sym, ap, subst, ◌∙◌, arith, append_assoc, length-append, length-drop, length-take-le}
 use Rattle.std.specs.Option.{MatchOption}
 use Rattle.std.proofs.lemmas.Bool.{false_from_ne_true}
 use Rattle.memchr.specs.Find.{OccursAt, FindsNeedle}
@@ -46,21 +46,10 @@ finds_escape (Some at) bs text same h = leaves_out text at (subst (λ (l : List 
 -- the result is not longer
 shorter : (bs : List ℕ) → length (without_pipe_escapes bs) ≤ length bs
 shorter [] = omega arith
-shorter (b ∷ bs) = go (starts piped (b ∷ bs)) (shorter bs)
-  where
-    go : (z : Bool) → length (without_pipe_escapes bs) ≤ length bs → length (if z then without_pipe_escapes bs else b ∷ without_pipe_escapes bs) ≤ suc (length bs)
-    go true ih = omega arith
-    go false ih = omega arith
+shorter (b ∷ bs) = grind (arith, shorter bs)
 
 changes : (text : List ℕ) (at : ℕ) → LeavesOut text at → without_pipe_escapes text ≢ text
-changes text at d same =
-    let within = d.within in
-    let n = ap length (sym same ∙ d.same) in
-    let a = length-append (take at text) (without_pipe_escapes (drop (at + 1) text)) in
-    let t = length-take-le at text (omega arith) in
-    let s = shorter (drop (at + 1) text) in
-    let l = length-drop (at + 1) text in
-    omega arith
+changes text at d same = grind (arith, length-append, length-take-le, shorter, length-drop)
 
 pub changes_if : (r : Option ℕ) (bs text : List ℕ) → bs ≡ text → is_some r ≡ true → MatchOption r (without_pipe_escapes bs ≡ bs) (LeavesOut bs) → without_pipe_escapes text ≢ text
 changes_if None bs text e there h same = absurd (true≢false (sym there))
@@ -69,8 +58,4 @@ changes_if (Some at) bs text e there h same = changes bs at h (ap without_pipe_e
 -- the text that was pushed
 pub push_to_escape : (at : ℕ) (out one rest next front all : List ℕ) → one ≡ out ++ front → next ≡ drop (at + 1) rest → front ≡ take at rest → LeavesOut rest at
     → out ++ without_pipe_escapes rest ≡ all → one ++ without_pipe_escapes next ≡ all
-push_to_escape at out one rest next front all first following cut d e =
-    ap (λ l. l ++ without_pipe_escapes next) (first ∙ ap (λ l. out ++ l) cut)
-    ∙ ap (λ l. (out ++ take at rest) ++ without_pipe_escapes l) following
-    ∙ append_assoc out (take at rest) (without_pipe_escapes (drop (at + 1) rest))
-    ∙ ap (λ l. out ++ l) (sym d.same) ∙ e
+push_to_escape at out one rest next front all first following cut d e = cc (append_assoc out (take at rest) (without_pipe_escapes (drop (at + 1) rest)))

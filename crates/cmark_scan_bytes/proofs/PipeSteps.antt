@@ -1,5 +1,5 @@
 -- Literal pipes, one after the other.
-use Rattle.std.proofs.Common.{◌≡◌, ◌≢◌, ℕ, zero, suc, ◌+◌, ◌<◌, ◌≤◌, Bool, true, false, ◌||◌, if◌then◌else◌, List, [], ◌∷◌, ◌++◌, length, take, drop, get_or, Option, None, Some, is_some, true≢false, refl, sym, ap, subst, ◌∙◌, arith, append_assoc, length-append, length-drop, length-take-le}
+use Rattle.std.proofs.Common.{◌≡◌, ◌≢◌, ℕ, suc, ◌+◌, ◌<◌, ◌≤◌, Bool, true, false, ◌||◌, if◌then◌else◌, List, [], ◌∷◌, ◌++◌, length, take, drop, get_or, Option, None, Some, is_some, true≢false, refl, sym, ap, subst, ◌∙◌, arith, append_assoc, length-append, length-drop, length-take-le, rules}
 use Rattle.std.specs.Option.{MatchOption}
 use Rattle.std.specs.Str.{IsCharBoundary}
 use Rattle.std.proofs.lemmas.List.{drop-drop, drop_more, get_or-drop, take_more}
@@ -20,35 +20,19 @@ some_escape = omega arith
 
 -- an escaped pipe, and the pipe with a backslash in it
 onto_pipe : (bs : List ℕ) (n : ℕ) → OccursAt bs escaped_pipe n → OccursAt bs piped (suc n)
-onto_pipe bs n h = record {
-  fits = let f : n + 3 ≤ length bs = h.fits in omega arith;
-  reads = λ j lt. go j lt;
-}
-  where
-    go : (j : ℕ) → j < 2 → get_or bs (suc n + j) 0 ≡ get_or piped j 0
-    go zero lt = ap (λ k. get_or bs k 0) (let e : suc n + 0 ≡ n + 1 = omega arith in e) ∙ h.reads 1 (omega arith)
-    go (suc zero) lt = ap (λ k. get_or bs k 0) (let e : suc n + 1 ≡ n + 2 = omega arith in e) ∙ h.reads 2 (omega arith)
-    go (suc (suc j)) lt = absurd (omega arith)
+onto_pipe bs n h = grind arith
 
 -- ---- one byte
 
 kept_byte : (b : ℕ) (bs : List ℕ) → starts piped (b ∷ bs) ≡ false → starts escaped_pipe (b ∷ bs) ≡ false
     → with_literal_pipes (b ∷ bs) ≡ b ∷ literal_pipes_from (starts backslash_pair (b ∷ bs)) bs
-kept_byte b bs no_pipe no_escape =
-    ap (λ t. if t || starts escaped_pipe (b ∷ bs) then with_literal_pipes bs else b ∷ literal_pipes_from (starts backslash_pair (b ∷ bs)) bs) no_pipe
-    ∙ ap (λ t. if t then with_literal_pipes bs else b ∷ literal_pipes_from (starts backslash_pair (b ∷ bs)) bs) no_escape
+kept_byte b bs no_pipe no_escape = cc
 
 dropped_pipe : (b : ℕ) (bs : List ℕ) → starts piped (b ∷ bs) ≡ true → with_literal_pipes (b ∷ bs) ≡ with_literal_pipes bs
 dropped_pipe b bs h = ap (λ t. if t || starts escaped_pipe (b ∷ bs) then with_literal_pipes bs else b ∷ literal_pipes_from (starts backslash_pair (b ∷ bs)) bs) h
 
 dropped_escape : (b : ℕ) (bs : List ℕ) → starts escaped_pipe (b ∷ bs) ≡ true → with_literal_pipes (b ∷ bs) ≡ with_literal_pipes bs
-dropped_escape b bs h =
-    ap (λ t. if starts piped (b ∷ bs) || t then with_literal_pipes bs else b ∷ literal_pipes_from (starts backslash_pair (b ∷ bs)) bs) h
-    ∙ either (starts piped (b ∷ bs))
-  where
-    either : (z : Bool) → (if z || true then with_literal_pipes bs else b ∷ literal_pipes_from (starts backslash_pair (b ∷ bs)) bs) ≡ with_literal_pipes bs
-    either true = refl
-    either false = refl
+dropped_escape b bs h = grind arith
 
 -- both backslashes of an escaped pipe
 dropped_pair : (b : ℕ) (bs : List ℕ) → starts escaped_pipe (b ∷ bs) ≡ true → with_literal_pipes (b ∷ bs) ≡ with_literal_pipes (drop 1 bs)
@@ -72,10 +56,7 @@ module _ (text : List ℕ) (at : ℕ) (within : at < length text) where
   -- a byte that stays
   stays : (all : List ℕ) (old new : Bool) → literal_pipes_from old (byte ∷ rest) ≡ byte ∷ literal_pipes_from new rest
       → all ≡ take at text ++ literal_pipes_from old (drop at text) → all ≡ take (at + 1) text ++ literal_pipes_from new rest
-  stays all old new one e =
-      e ∙ ap (λ l. take at text ++ l) (ap (literal_pipes_from old) here ∙ one)
-      ∙ sym (append_assoc (take at text) (byte ∷ []) (literal_pipes_from new rest))
-      ∙ ap (λ l. l ++ literal_pipes_from new rest) (sym (take_more text at 0 within))
+  stays all old new one e = grind (arith, here, append_assoc, take_more)
 
   pub second_stays : (all : List ℕ) → all ≡ take at text ++ literal_pipes_from true (drop at text) → all ≡ take (at + 1) text ++ literal_pipes_from false rest
   second_stays all e = stays all true false refl e
@@ -90,11 +71,7 @@ module _ (text : List ℕ) (at : ℕ) (within : at < length text) where
 
   -- the place of a byte of a literal pipe
   is_place : (needle : List ℕ) (some : 0 < length needle) (k b : ℕ) → k < length needle → get_or needle k 0 ≡ b → b < 128 → starts needle (drop at text) ≡ true → IsCharBoundary text (at + k)
-  is_place needle some k b lt is low h =
-      let o = here_starts needle some (drop at text) h in
-      ascii_boundary text (at + k) b
-      (let f = o.fits in let d = length-drop at text in omega arith)
-      (sym (get_or-drop at text k 0) ∙ ap (λ i. get_or (drop at text) i 0) (let e : k ≡ 0 + k = omega arith in e) ∙ o.reads k lt ∙ is) low
+  is_place needle some k b lt is low h = grind (arith, here_starts, ascii_boundary, length-drop, get_or-drop)
 
   pub one_backslash : (end : ℕ) → end ≡ at + 1 → starts piped (drop at text) ≡ true → with_literal_pipes text ≡ take at text ++ with_literal_pipes (drop at text) → Drops text at end
   one_backslash end is h e = record {
@@ -120,23 +97,10 @@ module _ (text : List ℕ) (at : ℕ) (within : at < length text) where
 shorter : (is_second : Bool) (bs : List ℕ) → length (literal_pipes_from is_second bs) ≤ length bs
 shorter is_second [] = omega arith
 shorter true (b ∷ bs) = let ih = shorter false bs in omega arith
-shorter false (b ∷ bs) = go (starts piped (b ∷ bs) || starts escaped_pipe (b ∷ bs)) (starts backslash_pair (b ∷ bs)) (shorter false bs) (shorter (starts backslash_pair (b ∷ bs)) bs)
-  where
-    go : (z next : Bool) → length (literal_pipes_from false bs) ≤ length bs → length (literal_pipes_from next bs) ≤ length bs
-        → length (if z then literal_pipes_from false bs else b ∷ literal_pipes_from next bs) ≤ suc (length bs)
-    go true next ih ih' = omega arith
-    go false next ih ih' = omega arith
+shorter false (b ∷ bs) = search (rules, shorter false bs, shorter (starts backslash_pair (b ∷ bs)) bs)
 
 pub drops_some : (text : List ℕ) (start end : ℕ) → Drops text start end → with_literal_pipes text ≢ text
-drops_some text start end d same =
-    let low = d.low in
-    let within = d.ends.0 in
-    let n = ap length (sym same ∙ d.same) in
-    let a = length-append (take start text) (with_literal_pipes (drop end text)) in
-    let t = length-take-le start text (omega arith) in
-    let s = shorter false (drop end text) in
-    let l = length-drop end text in
-    omega arith
+drops_some text start end d same = grind (arith, length-append, length-take-le, shorter, length-drop)
 
 pub drops_if : (r : Option Backslashes) (bs text : List ℕ) → bs ≡ text → is_some r ≡ true → MatchOption r (with_literal_pipes bs ≡ bs) (λ found. Drops bs found.start found.end) → with_literal_pipes text ≢ text
 drops_if None bs text e there h same = absurd (true≢false (sym there))
@@ -145,23 +109,13 @@ drops_if (Some found) bs text e there h same = drops_some bs found.start found.e
 -- the text that was pushed
 pub push_to_backslashes : (start end : ℕ) (out one rest next front all : List ℕ) → one ≡ out ++ front → next ≡ drop end rest → front ≡ take start rest → Drops rest start end
     → out ++ with_literal_pipes rest ≡ all → one ++ with_literal_pipes next ≡ all
-push_to_backslashes start end out one rest next front all first following cut d e =
-    ap (λ l. l ++ with_literal_pipes next) (first ∙ ap (λ l. out ++ l) cut)
-    ∙ ap (λ l. (out ++ take start rest) ++ with_literal_pipes l) following
-    ∙ append_assoc out (take start rest) (with_literal_pipes (drop end rest))
-    ∙ ap (λ l. out ++ l) (sym d.same) ∙ e
+push_to_backslashes start end out one rest next front all first following cut d e = cc (append_assoc out (take start rest) (with_literal_pipes (drop end rest)))
 
 -- if the length is the same, the bytes are
 kept_all : (is_second : Bool) (bs : List ℕ) → length bs ≤ length (literal_pipes_from is_second bs) → literal_pipes_from is_second bs ≡ bs
 kept_all is_second [] le = refl
 kept_all true (b ∷ bs) le = ap (λ l. b ∷ l) (kept_all false bs (omega (arith, le)))
-kept_all false (b ∷ bs) le = go (starts piped (b ∷ bs) || starts escaped_pipe (b ∷ bs)) (starts backslash_pair (b ∷ bs)) le (shorter false bs) (kept_all (starts backslash_pair (b ∷ bs)) bs)
-  where
-    go : (z next : Bool) → suc (length bs) ≤ length (if z then literal_pipes_from false bs else b ∷ literal_pipes_from next bs) → length (literal_pipes_from false bs) ≤ length bs
-        → (length bs ≤ length (literal_pipes_from next bs) → literal_pipes_from next bs ≡ bs)
-        → (if z then literal_pipes_from false bs else b ∷ literal_pipes_from next bs) ≡ b ∷ bs
-    go true next le short ih = absurd (omega arith)
-    go false next le short ih = ap (λ l. b ∷ l) (ih (omega arith))
+kept_all false (b ∷ bs) le = search (rules, shorter, kept_all (starts backslash_pair (b ∷ bs)) bs)
 
 pub none_left_out : (bs : List ℕ) → length bs ≤ length (with_literal_pipes bs) → with_literal_pipes bs ≡ bs
 none_left_out = kept_all false

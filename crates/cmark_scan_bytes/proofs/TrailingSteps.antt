@@ -1,5 +1,5 @@
 -- Bytes without those at their end that pass.
-use Rattle.std.proofs.Common.{◌≡◌, ℕ, zero, suc, ◌+◌, ◌-◌, ◌<◌, ◌≤◌, Bool, true, false, List, [], ◌∷◌, ◌++◌, length, take, get_or, inl, inr, refl, sym, ap, ◌∙◌, arith}
+use Rattle.std.proofs.Common.{◌≡◌, ℕ, zero, suc, ◌+◌, ◌-◌, ◌<◌, ◌≤◌, Bool, true, false, List, [], ◌∷◌, ◌++◌, length, take, get_or, refl, sym, ap, ◌∙◌, arith}
 use Rattle.std.proofs.lemmas.Bool.{cases_lt}
 use Rattle.std.proofs.lemmas.List.{take_all, take_more}
 use Rattle.cmark_grammar.specs.Columns.{put_before, drop_end}
@@ -45,11 +45,4 @@ pub drop_end-cut : (q : ℕ → Bool) (bs : List ℕ) (n : ℕ) → n ≤ length
     → ((k : ℕ) → length bs - n ≤ k → k < length bs → q (get_or bs k 0) ≡ true)
     → (n < length bs → q (get_or bs (length bs - n - 1) 0) ≡ false)
     → take (length bs - n) bs ≡ drop_end q bs
-drop_end-cut q bs n within passed stopped = sym stays ∙ drop_end-passing q bs n within passed
-  where
-    stays : drop_end q (take (length bs - n) bs) ≡ take (length bs - n) bs
-    stays =
-        elim (cases_lt n (length bs)) [
-          | inl some ↦ drop_end-stays q bs (length bs - n) (omega (arith, some)) (omega arith) (stopped some)
-          | inr none ↦ drop_end-none q bs (length bs - n) (omega (arith, none))
-        ]
+drop_end-cut q bs n within passed stopped = grind (arith, drop_end-passing, cases_lt, drop_end-stays, drop_end-none)

@@ -7,7 +7,7 @@ use Rattle.std.proofs.lemmas.Str.{IsCharBoundary-at_seam, IsCharBoundary-from_re
 use Rattle.memchr.specs.Find.{IsFirstByte, is_byte2, OccursAt, FindsNeedle}
 use Rattle.cmark_grammar.specs.Answers.{Lookup}
 use Rattle.std.specs.Option.{IfSome}
-use Rattle.cmark_grammar.specs.Tokens.{Entity, Does, Stands, EscapesNext, Begins, does, does_at, is_escape, size_after, add_bytes, resolved_from, resolved}
+use Rattle.cmark_grammar.specs.Tokens.{Entity, Does, Stands, does, is_escape, size_after, add_bytes, resolved_from, resolved}
 use Rattle.cmark_grammar.specs.Unescaped.{escaped_pipe, with_escaped_pipes}
 use Rattle.cmark_scan_bytes.specs.declared.entity.Entity as declared
 use Rattle.cmark_scan_bytes.specs.Shown.{Closes}
@@ -32,31 +32,18 @@ module _ (lookup : Lookup) where
 
   plain_part : (what : Does) (b : ℕ) (bs : List ℕ) (part : Entity) → part_of what bs ≡ Some part → 0 < part.size
       → add_bytes what b (resolved_from lookup (is_escape what) (size_after what) bs) ≡ part.bytes ++ resolved_from lookup false 0 (drop part.size (b ∷ bs))
-  plain_part Stands b bs part e some = cc
-  plain_part EscapesNext b bs part e some =
-      let escape : Entity = record { bytes = take 1 bs; size = 2 } in
-      let is : escape ≡ part = cc in
-      plain_escaped bs ∙ ap (λ (p : Entity). p.bytes ++ resolved_from lookup false 0 (drop p.size (b ∷ bs))) is
-  plain_part (Begins entity) b bs part e some =
-      let is : entity ≡ part = cc in
-      let size : suc (entity.size - 1) ≡ entity.size = let n = ap (λ (p : Entity). p.size) is in omega arith in
-      ap (λ l. entity.bytes ++ l) (plain_skip (entity.size - 1) bs ∙ ap (λ n. resolved_from lookup false 0 (drop n (b ∷ bs))) size)
-      ∙ ap (λ (p : Entity). p.bytes ++ resolved_from lookup false 0 (drop p.size (b ∷ bs))) is
+  plain_part what b bs part e some = grind (arith, plain_escaped, plain_skip)
 
   -- the same fact for resolved text
   resolved_one : (b : ℕ) (bs : List ℕ) → resolved_front lookup (b ∷ bs) ≡ None → resolved lookup (b ∷ bs) ≡ b ∷ resolved lookup bs
   resolved_one b bs e = plain_one (does lookup false b bs) b bs e
 
   resolved_part : (bs : List ℕ) (part : Entity) → resolved_front lookup bs ≡ Some part → 0 < part.size → resolved lookup bs ≡ part.bytes ++ resolved lookup (drop part.size bs)
-  resolved_part [] part e some = cc
-  resolved_part (b ∷ bs) part e some =
-      plain_part (does lookup false b bs) b bs part e some
+  resolved_part bs part e some = grind (arith, plain_part)
 
   -- bytes that are neither `&` nor a backslash
   unmarked : (b : ℕ) (bs : List ℕ) → is_byte2 38 92 b ≡ false → resolved_front lookup (b ∷ bs) ≡ None
-  unmarked b bs e =
-      let h = or_parts (b == 38) (b == 92) e in
-      ap (λ t. part_of (does_at lookup t (b == 92) bs) bs) h.0 ∙ ap (λ t. part_of (does_at lookup false t bs) bs) h.1
+  unmarked b bs e = grind (arith, or_parts)
 
   resolved_unmarked : (n : ℕ) (bs : List ℕ) → n ≤ length bs → ((k : ℕ) → k < n → is_byte2 38 92 (get_or bs k 0) ≡ false) → resolved lookup bs ≡ take n bs ++ resolved lookup (drop n bs)
   resolved_unmarked zero bs le none = refl
@@ -70,9 +57,6 @@ module _ (lookup : Lookup) where
     pub front : List ℕ
     pub cut : text ≡ front ++ rest
     pub same : resolved lookup text ≡ front ++ resolved lookup rest
-
-  pub passed_none : (text : List ℕ) → Passed text text
-  passed_none text = record { front = []; cut = refl; same = refl }
 
   passed_more : (text rest part next : List ℕ) → Passed text rest → rest ≡ part ++ next → resolved lookup rest ≡ part ++ resolved lookup next → Passed text next
   passed_more text rest part next p cut same = record {
@@ -164,9 +148,7 @@ no_pipe bs h = none_at bs (λ k lt. h k (omega arith) lt)
 
 -- boundaries after escapes
 pub punctuation_is_ascii : (b : ℕ) → IsAsciiPunctuation b → b < 128
-punctuation_is_ascii b h =
-    ⊎_elim (λ x. ⊎_elim (λ r. let e = r.1 in omega arith) (λ r. let e = r.1 in omega arith) x)
-    (λ x. ⊎_elim (λ r. let e = r.1 in omega arith) (λ r. let e = r.1 in omega arith) x) h
+punctuation_is_ascii b h = grind arith
 
 pub after_escape : (text bytes : List ℕ) → bytes ≡ text → IsUtf8 text → 2 ≤ length bytes → IsAsciiPunctuation (get_or bytes 1 0) → IsCharBoundary text 2
 after_escape text bytes e utf8 two mark =
@@ -208,21 +190,11 @@ module _ (lookup : Lookup) (text rest bytes cut : List ℕ) (at : ℕ) (same : b
 -- the text that was pushed
 pub push_part : (lookup : Lookup) (start end : ℕ) (out one two rest next front part all : List ℕ) → one ≡ out ++ front → two ≡ one ++ part → next ≡ drop end rest → front ≡ take start rest → Resolves lookup rest start end part
     → out ++ resolved lookup rest ≡ all → two ++ resolved lookup next ≡ all
-push_part lookup start end out one two rest next front part all first second following cut r e =
-    ap (λ l. l ++ resolved lookup next) second
-    ∙ ap (λ l. (l ++ part) ++ resolved lookup next) (first ∙ ap (λ l. out ++ l) cut)
-    ∙ ap (λ l. ((out ++ take start rest) ++ part) ++ resolved lookup l) following
-    ∙ append_assoc (out ++ take start rest) part (resolved lookup (drop end rest))
-    ∙ append_assoc out (take start rest) (part ++ resolved lookup (drop end rest))
-    ∙ ap (λ l. out ++ l) (sym r.same) ∙ e
+push_part lookup start end out one two rest next front part all first second following cut r e = cc (append_assoc (out ++ take start rest) part (resolved lookup (drop end rest)), append_assoc out (take start rest) (part ++ resolved lookup (drop end rest)))
 
 pub push_to_pipe : (at : ℕ) (out one rest next front all : List ℕ) → one ≡ out ++ front → next ≡ drop (at + 1) rest → front ≡ take at rest → FindsNeedle rest escaped_pipe 0 (Some at)
     → out ++ with_escaped_pipes rest ≡ all → one ++ with_escaped_pipes next ≡ all
-push_to_pipe at out one rest next front all first following cut h e =
-    ap (λ l. l ++ with_escaped_pipes next) (first ∙ ap (λ l. out ++ l) cut)
-    ∙ ap (λ l. (out ++ take at rest) ++ with_escaped_pipes l) following
-    ∙ append_assoc out (take at rest) (with_escaped_pipes (drop (at + 1) rest))
-    ∙ ap (λ l. out ++ l) (sym (pipe_found rest at h)) ∙ e
+push_to_pipe at out one rest next front all first following cut h e = cc (append_assoc out (take at rest) (with_escaped_pipes (drop (at + 1) rest)), pipe_found rest at h)
 
 -- an escaped pipe is an escape
 pub pipe_is_escape : (lookup : Lookup) (bs : List ℕ) (n : ℕ) → OccursAt bs escaped_pipe n → is_some (resolved_front lookup (drop n bs)) ≡ true

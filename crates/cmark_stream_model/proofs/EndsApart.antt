@@ -1,5 +1,5 @@
 -- Documents are joined at a cut unless a list continues there.
-use Rattle.std.proofs.Common.{◌≡◌, ℕ, Bool, true, false, ◌==◌, ◌&&◌, ◌||◌, not, List, ◌∷◌, ◌++◌, length, refl, sym, ap, ◌∙◌, subst, arith, Option, Some, None, true≢false}
+use Rattle.std.proofs.Common.{◌≡◌, ℕ, Bool, true, false, ◌==◌, ◌&&◌, ◌||◌, not, List, ◌∷◌, ◌++◌, length, refl, sym, ap, ◌∙◌, subst, arith, Option, Some, None, true≢false, rules}
 use Rattle.std.specs.Prelude.{if◌then◌else◌}
 use Rattle.cmark_grammar.specs.Answers.{Lookup}
 use Rattle.cmark_grammar.specs.Options.{Options}
@@ -7,11 +7,11 @@ use Rattle.cmark_grammar.specs.Rows.{Row, rows_from, begin_of, start_of, last_li
 use Rattle.cmark_grammar.specs.Lines.{lines}
 use Rattle.cmark_grammar.specs.Containers.{BlockQuote as BlockQuotePrefix, Item, Footnote, ListDefinition}
 use Rattle.cmark_grammar.specs.Blocks.{Blocks, Nil as NoBlocks, BlankLine, Paragraph as ParagraphBlock, SetextHeading, LeafBlock, ContainerBlock, join as join_blocks}
-use Rattle.cmark_block_model.specs.BlocksByLine.{Between, close_lines, lines_feed_all, blocks_by_line}
+use Rattle.cmark_block_model.specs.BlocksByLine.{blocks_by_line}
 use Rattle.cmark_grammar.specs.Lists.{ListBefore, definition_delimiter, is_title, ends_blank, is_parted_item, loose_from, is_tight, tight_after, title_tight_after, goes_on}
 use Rattle.cmark_grammar.specs.Tokens.{paragraph_tokens}
 use Rattle.cmark_grammar.specs.BlockDocument.{BlockDocument, Heading, BlockQuote, FootnoteDefinition, ListItem, DefinitionList, DefinitionListTitle, DefinitionListDefinition, Node, node, join}
-use Rattle.cmark_grammar.specs.Derivation.{leaf_then, list_kind, item_then, task_then, paragraph_kind, document_of}
+use Rattle.cmark_grammar.specs.Derivation.{list_kind, item_then, task_then, paragraph_kind, document_of}
 use Rattle.cmark_block_model.specs.DocumentModel.{document}
 use Rattle.cmark_grammar.specs.TaskItems.{after_box}
 use Rattle.cmark_grammar.specs.SetextAttributes.{content_of, setext_attributes, setext_tokens}
@@ -41,12 +41,7 @@ title-list one other _ e = absurd (true≢false (sym e))
 ended-loose : (d : ℕ) (blank : Bool) (b : Blocks) → goes_on d b ≡ false → loose_from d blank b ≡ false
 ended-loose d blank NoBlocks e = refl
 ended-loose d blank (BlankLine line after) e = ended-loose d true after e
-ended-loose d blank (ParagraphBlock first more after) e = go (definition_delimiter == d) (is_title after) e
-  where
-    go : (z t : Bool) → (z && t) ≡ false → (z && (t && loose_from d false after)) ≡ false
-    go true true q = absurd (true≢false q)
-    go true false q = refl
-    go false t q = refl
+ended-loose d blank (ParagraphBlock first more after) e = grind arith
 ended-loose d blank (ContainerBlock (BlockQuotePrefix alert) first more inside after) e = refl
 ended-loose d blank (ContainerBlock (Footnote label old size) first more inside after) e = refl
 ended-loose d blank (ContainerBlock (Item m number width task) first more inside after) e = ap (λ z. z && (blank || (is_parted_item inside || loose_from d (ends_blank true false inside) after))) e
@@ -59,9 +54,6 @@ module _ (c : Blocks) (untitled : is_title c ≡ false) where
   titled-same NoBlocks = untitled
   titled-same (BlankLine line after) = titled-same after
   titled-same (ContainerBlock (BlockQuotePrefix alert) first more inside after) = refl
-  titled-same (ContainerBlock (Footnote label old size) first more inside after) = refl
-  titled-same (ContainerBlock (Item m number width task) first more inside after) = refl
-  titled-same (ContainerBlock (ListDefinition width) first more inside after) = refl
   titled-same _ = refl
 
   goes-same : (d : ℕ) (a : Blocks) → continues (last_list (Some d) a) c ≡ false → goes_on d (join_blocks a c) ≡ goes_on d a
@@ -69,9 +61,6 @@ module _ (c : Blocks) (untitled : is_title c ≡ false) where
   goes-same d (BlankLine line after) e = goes-same d after e
   goes-same d (ParagraphBlock first more after) e = ap (λ t. (definition_delimiter == d) && t) (titled-same after)
   goes-same d (ContainerBlock (BlockQuotePrefix alert) first more inside after) e = refl
-  goes-same d (ContainerBlock (Footnote label old size) first more inside after) e = refl
-  goes-same d (ContainerBlock (Item m number width task) first more inside after) e = refl
-  goes-same d (ContainerBlock (ListDefinition width) first more inside after) e = refl
   goes-same d _ e = refl
 
   -- the list of a title continues after it
@@ -149,12 +138,7 @@ module _ (c : Blocks) (untitled : is_title c ≡ false) where
     list-ended : (direct : Bool) (before : ListBefore) (b : Blocks) → goes_on before.delimiter b ≡ false → document_of text options lookup direct (Some before) b ≡ document_of text options lookup direct None b
     list-ended direct before NoBlocks e = refl
     list-ended direct before (BlankLine line after) e = list-ended direct before after e
-    list-ended direct before (ParagraphBlock first more after) e = go (is_title after) (definition_delimiter == before.delimiter) refl e
-      where
-        go : (t z : Bool) → (definition_delimiter == before.delimiter) ≡ z → (z && t) ≡ false → texted direct first more t (title_tight_after (Some before) after) after ≡ texted direct first more t (title_tight_after None after) after
-        go false z p q = refl
-        go true true p q = absurd (true≢false q)
-        go true false p q = ap (λ z. texted direct first more true (if z then before.tight else title_tight_after None after) after) (other-number definition_delimiter before.delimiter p)
+    list-ended direct before (ParagraphBlock first more after) e = grind (arith, other-number)
     list-ended direct before (ContainerBlock (BlockQuotePrefix alert) first more inside after) e = refl
     list-ended direct before (ContainerBlock (Footnote label old size) first more inside after) e = refl
     list-ended direct before (ContainerBlock (Item m number width task) first more inside after) e =
@@ -184,27 +168,15 @@ module _ (c : Blocks) (untitled : is_title c ≡ false) where
             → (is_title after ≡ true → rest (Some (record { delimiter = definition_delimiter; tight = tight })) (join_blocks after c) ≡ join (rest (Some (record { delimiter = definition_delimiter; tight = tight })) after) (rest None c))
             → rest None (join_blocks after c) ≡ join (rest None after) (rest None c)
             → texted direct first more t (title_tight_after list (join_blocks after c)) (join_blocks after c) ≡ join (texted direct first more t tight after) (document_of text options lookup direct None c)
-        go true q i j =
-            ap (λ z. texted direct first more true z (join_blocks after c)) (title-tight-same list after (after-title definition_delimiter after q e))
-            ∙ ap (item_then true (DefinitionList tight) (node DefinitionListTitle (start_of first) (last_line_end first more)) (paragraph_tokens text first more)) (i q)
-            ∙ item-join true (DefinitionList tight) (node DefinitionListTitle (start_of first) (last_line_end first more)) (paragraph_tokens text first more) (document_of text options lookup direct (Some (record { delimiter = definition_delimiter; tight = tight })) after) (document_of text options lookup direct None c)
-            (λ x. title-some text options lookup direct (Some (record { delimiter = definition_delimiter; tight = tight })) after q)
-        go false q i j = ap (Node (node (paragraph_kind direct) (start_of first) (last_line_end first more)) (paragraph_tokens text first more)) j
+        go t q i j = grind (arith, title-tight-same, after-title, tight, item-join, title-some)
     document-ends direct list (SetextHeading level first more underline after) e =
         ap (Node (node (Heading level (setext_attributes options.heading_attributes (content_of (first ∷ more)))) (start_of first) underline.line_end) (setext_tokens text options.heading_attributes first more)) (document-ends direct None after e)
-    document-ends direct list (LeafBlock leaf first more after) e =
-        ap (leaf_then text options lookup leaf first more) (document-ends direct None after e)
-        ∙ leaf-join text options lookup leaf first more (document_of text options lookup direct None after) (document_of text options lookup direct None c)
+    document-ends direct list (LeafBlock leaf first more after) e = grind (arith, leaf-join, document-ends direct None after e)
     document-ends direct list (ContainerBlock (BlockQuotePrefix alert) first more inside after) e =
         ap (Node (node (BlockQuote alert) (start_of first) (last_line_end first more)) (document_of text options lookup false None inside)) (document-ends direct None after e)
     document-ends direct list (ContainerBlock (Footnote label old size) first more inside after) e =
         ap (Node (node (FootnoteDefinition (normal_form label)) (start_of first) (last_line_end first more)) (document_of text options lookup false None inside)) (document-ends direct None after e)
-    document-ends direct list (ContainerBlock (Item m number width task) first more inside after) e =
-        ap (λ z. itemed direct m number width task first more inside z (tight_after list m inside (join_blocks after c)) (join_blocks after c)) (goes-same m after e)
-        ∙ ap (λ t. itemed direct m number width task first more inside (goes_on m after) t (join_blocks after c)) (tight-same list m inside after e)
-        ∙ ap (item_then (goes_on m after) (list_kind m number tight) (node ListItem (begin_of first) (last_line_end first more)) held) (document-ends direct (Some (record { delimiter = m; tight = tight })) after e)
-        ∙ item-join (goes_on m after) (list_kind m number tight) (node ListItem (begin_of first) (last_line_end first more)) held (document_of text options lookup direct (Some (record { delimiter = m; tight = tight })) after) (document_of text options lookup direct None c)
-        (λ q. goes-some text options lookup direct (Some (record { delimiter = m; tight = tight })) m after q)
+    document-ends direct list (ContainerBlock (Item m number width task) first more inside after) e = search (rules, goes-same, tight-same, tight, held, item-join, goes-some, document-ends direct (Some (record { delimiter = m; tight = tight })) after e)
       where
         tight : Bool
         tight = tight_after list m inside after
@@ -225,10 +197,4 @@ module _ (options : Options) where
   pub ends-grow : (lookup : Lookup) (front following : List ℕ) (r : Row) (rs : List Row) → ends_whole front following ≡ true → rows_from (length front) (lines following) ≡ r ∷ rs → IsCut options front r rs → continues (last_list None (blocks_at options 0 front)) (blocks_at options (length front) following) ≡ false
       → document (front ++ following) options lookup ≡ join (document_before options lookup (front ++ following) front) (document_of_tail options lookup (front ++ following) (length front) following)
   unfolding blocks_by_line
-  ends-grow lookup front following r rs whole are cut e =
-      ap (document_of (front ++ following) options lookup false None) (blocks-grow options front following r rs whole are cut ∙ ap (λ b. join_blocks b (blocks_at options (length front) following)) (sym (by_line-same options front)))
-      ∙ document-ends (blocks_at options (length front) following) untitled (front ++ following) options lookup false None (blocks_at options 0 front) e
-      ∙ ap (λ b. join (document_of (front ++ following) options lookup false None b) (document_of_tail options lookup (front ++ following) (length front) following)) (by_line-same options front)
-    where
-      untitled : is_title (blocks_at options (length front) following) ≡ false
-      untitled = ap (λ ls. is_title (close_lines (lines_feed_all options (Between NoBlocks) ls))) are ∙ lines-untitled options r rs cut.begins
+  ends-grow lookup front following r rs whole are cut e = grind (arith, blocks-grow, by_line-same, document-ends, lines-untitled)

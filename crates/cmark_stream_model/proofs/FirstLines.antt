@@ -1,25 +1,23 @@
 -- The first line after a cut: what it says whatever lines are ahead.
-use Rattle.std.proofs.Common.{◌≡◌, ◌⊎◌, inl, inr, ⊎_elim, ℕ, Bool, true, false, ◌==◌, ◌&&◌, ◌||◌, not, List, [], ◌∷◌, ◌++◌, length, refl, sym, ap, ◌∙◌, Option, Some, None, true≢false, arith}
-use Rattle.std.specs.Prelude.{if◌then◌else◌, nat_le}
+use Rattle.std.proofs.Common.{◌≡◌, ◌⊎◌, ⊎_elim, ℕ, Bool, true, false, ◌==◌, ◌&&◌, ◌||◌, List, [], ◌∷◌, ◌++◌, length, refl, ap, ◌∙◌, Option, Some, None, arith}
+use Rattle.std.specs.Prelude.{if◌then◌else◌}
 use Rattle.cmark_grammar.specs.Characters.{space, tab}
 use Rattle.cmark_grammar.specs.Alignment.{Alignment}
 use Rattle.cmark_grammar.specs.Options.{Options}
 use Rattle.cmark_grammar.specs.Places.{Apart}
-use Rattle.cmark_grammar.specs.Rows.{Row, is_bare, is_blank_line, is_whole_line, indent_of, words_of}
-use Rattle.cmark_grammar.specs.Leaves.{Fence, is_thematic_break, is_atx_heading, run, fence_of, counted, code_continuation}
-use Rattle.cmark_grammar.specs.HtmlBlocks.{html_kind, holds_end}
-use Rattle.cmark_grammar.specs.LinkDefinitions.{Defined, definition_in, bytes_over}
-use Rattle.cmark_grammar.specs.Footnotes.{footnotes_in}
-use Rattle.cmark_grammar.specs.Containers.{Container, BlockQuote, Item, Footnote, ListDefinition, begins_with, width_with, container_of, enter, is_bare_start}
-use Rattle.cmark_grammar.specs.DefinitionLists.{is_marker, begins_definition, is_definition}
-use Rattle.cmark_grammar.specs.Metadata.{metadata_of, metadata_if, metadata_kind, holds_metadata, metadata_continuation}
+use Rattle.cmark_grammar.specs.Rows.{Row, is_bare, is_blank_line}
+use Rattle.cmark_grammar.specs.Leaves.{Fence, counted, code_continuation}
+use Rattle.cmark_grammar.specs.LinkDefinitions.{Defined}
+use Rattle.cmark_grammar.specs.Containers.{Container, container_of, enter, is_bare_start}
+use Rattle.cmark_grammar.specs.DefinitionLists.{begins_definition}
+use Rattle.cmark_grammar.specs.Metadata.{metadata_of, metadata_kind}
 use Rattle.cmark_grammar.specs.MetadataBlockKind.{MetadataBlockKind}
 use Rattle.cmark_grammar.specs.Columns.{Column, is_blank_byte, without_indent, bytes_of}
 use Rattle.cmark_grammar.specs.TableRows.{table_head, table_interrupts}
-use Rattle.cmark_grammar.specs.Openings.{Leaf, ThematicBreak, AtxHeading, IndentedCode, FencedCode, HtmlBlock, LinkDefinition, MetadataBlock, Table, Opening, Blank, Nests, Takes, Plain, or_else, nests_if, fenced_if, html_if, break_if, heading_if, metadata_begun, defined_if, begins_no_link, interrupts, texts, lazily, text_lines, definition_of, table_if, text_of, leaf_of, whole_opens, opens, opens_at}
-use Rattle.cmark_grammar.specs.Blocks.{Blocks, Nil, BlankLine, Paragraph, LeafBlock, join, place_in}
+use Rattle.cmark_grammar.specs.Openings.{Leaf, IndentedCode, HtmlBlock, Opening, Blank, Takes, Plain, or_else, nests_if, fenced_if, html_if, break_if, heading_if, metadata_begun, defined_if, texts, lazily, definition_of, table_if, text_of, leaf_of, whole_opens, opens, opens_at}
+use Rattle.cmark_grammar.specs.Blocks.{Blocks, Nil, BlankLine, LeafBlock, join, place_in}
 use Rattle.cmark_block_model.specs.BlocksModel.{within, place_after}
-use Rattle.cmark_block_model.specs.BlocksByLine.{OpenLines, InParagraph, InContainer, close_lines, lines_take_lazy, html_begun, leaf_begun, lines_begin_as, lines_begin_in, lines_begin}
+use Rattle.cmark_block_model.specs.BlocksByLine.{OpenLines, close_lines, html_begun, leaf_begun, lines_begin_as, lines_begin_in, lines_begin}
 use Rattle.cmark_stream_model.specs.Growth.{is_blank, Parts, are_blind, has_blank_line, are_resolved, is_outside_of_lists, stands_apart, last_list, may_continue}
 use Rattle.cmark_stream_model.proofs.GrowingTables.{same-apart}
 use Rattle.cmark_stream_model.proofs.SettledCuts.{resolved-append, last-join}
@@ -28,38 +26,18 @@ use Rattle.cmark_stream_model.proofs.Walls.{bare-following, bare-blank, blank-wo
 -- ## Lists
 
 pub outside-any : (list : Option ℕ) (o : Opening) → is_outside_of_lists o ≡ true → may_continue false list o ≡ false
-outside-any None o e = refl
-outside-any (Some d) Blank e = absurd (true≢false (sym e))
-outside-any (Some d) (Nests (BlockQuote alert)) e = refl
-outside-any (Some d) (Nests (Item delimiter number width task)) e = absurd (true≢false (sym e))
-outside-any (Some d) (Nests (Footnote label old size)) e = refl
-outside-any (Some d) (Nests (ListDefinition width)) e = absurd (true≢false (sym e))
-outside-any (Some d) (Takes leaf more) e = refl
-outside-any (Some d) Plain e = refl
+outside-any list o e = grind arith
 
 pub apart-any : (titles : Bool) (list : Option ℕ) (o : Opening) → stands_apart o ≡ true → may_continue titles list o ≡ false
-apart-any titles None o e = refl
-apart-any titles (Some d) Blank e = absurd (true≢false (sym e))
-apart-any titles (Some d) (Nests (BlockQuote alert)) e = refl
-apart-any titles (Some d) (Nests (Item delimiter number width task)) e = absurd (true≢false (sym e))
-apart-any titles (Some d) (Nests (Footnote label old size)) e = refl
-apart-any titles (Some d) (Nests (ListDefinition width)) e = absurd (true≢false (sym e))
-apart-any titles (Some d) (Takes leaf more) e = refl
-apart-any titles (Some d) Plain e = absurd (true≢false (sym e))
+apart-any titles list o e = grind arith
 
 -- ## Blank lines
 
 either-blank : (b : ℕ) → is_blank_byte b ≡ true → (b ≡ space) ⊎ (b ≡ tab)
-either-blank b e = go (b == space) refl e
-  where
-    go : (z : Bool) → (b == space) ≡ z → (z || (b == tab)) ≡ true → (b ≡ space) ⊎ (b ≡ tab)
-    go true q t = inl (grind (arith))
-    go false q t = inr (grind (arith))
+either-blank b e = grind arith
 
 not-blank-or : (x y : Opening) → is_blank x ≡ false → is_blank y ≡ false → is_blank (or_else x y) ≡ false
-not-blank-or Blank y e f = e
-not-blank-or Plain y e f = f
-not-blank-or _ y e f = refl
+not-blank-or x y e f = grind arith
 
 not-blank-nests : (o : Option Container) → is_blank (nests_if o) ≡ false
 not-blank-nests None = refl
@@ -91,52 +69,17 @@ module _ (options : Options) where
   not-blank-table (Some alignments) ahead = refl
 
   not-blank-definition : (r : Row) (ahead : List Row) → is_blank (definition_of options r ahead) ≡ false
-  not-blank-definition r ahead = go (begins_no_link (footnotes_in options) (words_of r))
-    where
-      go : (z : Bool) → is_blank (if z then Plain else defined_if (length (text_lines options ahead)) (definition_in (bytes_over r (text_lines options ahead)))) ≡ false
-      go true = refl
-      go false = not-blank-defined (length (text_lines options ahead)) (definition_in (bytes_over r (text_lines options ahead)))
+  not-blank-definition r ahead = grind (arith, not-blank-defined)
 
   not-blank-text : (r : Row) (ahead : List Row) → is_blank (text_of options r ahead) ≡ false
   not-blank-text r ahead =
       not-blank-or (definition_of options r ahead) (table_if options (table_head options r ahead) ahead) (not-blank-definition r ahead) (not-blank-table (table_head options r ahead) ahead)
 
   not-blank-leaf : (r : Row) (ahead : List Row) → is_blank (leaf_of options r ahead) ≡ false
-  not-blank-leaf r ahead = not-blank-or html after_html (not-blank-html r ahead (html_kind (words_of r)))
-      (not-blank-or break after_break (not-blank-break (is_thematic_break (words_of r)))
-      (not-blank-or heading after_heading (not-blank-heading (is_atx_heading (words_of r)) (run 35 (words_of r)))
-      (not-blank-or fenced (text_of options r ahead) (not-blank-fenced (fence_of (indent_of r) (words_of r)) ahead) (not-blank-text r ahead))))
-    where
-      html : Opening
-      html = html_if r ahead (html_kind (words_of r))
-
-      break : Opening
-      break = break_if (is_thematic_break (words_of r))
-
-      heading : Opening
-      heading = heading_if (is_atx_heading (words_of r)) (run 35 (words_of r))
-
-      fenced : Opening
-      fenced = fenced_if (fence_of (indent_of r) (words_of r)) ahead
-
-      after_heading : Opening
-      after_heading = or_else (fenced_if (fence_of (indent_of r) (words_of r)) ahead) (text_of options r ahead)
-
-      after_break : Opening
-      after_break = or_else (heading_if (is_atx_heading (words_of r)) (run 35 (words_of r))) (or_else (fenced_if (fence_of (indent_of r) (words_of r)) ahead) (text_of options r ahead))
-
-      after_html : Opening
-      after_html =
-          or_else (break_if (is_thematic_break (words_of r)))
-          (or_else (heading_if (is_atx_heading (words_of r)) (run 35 (words_of r))) (or_else (fenced_if (fence_of (indent_of r) (words_of r)) ahead) (text_of options r ahead)))
+  not-blank-leaf r ahead = grind (arith, not-blank-or, not-blank-html, not-blank-break, not-blank-heading, not-blank-fenced, not-blank-text)
 
   not-blank-metadata : (kind : Option MetadataBlockKind) (ahead : List Row) → is_blank (metadata_begun kind ahead) ≡ false
-  not-blank-metadata None ahead = refl
-  not-blank-metadata (Some kind) ahead = go (holds_metadata kind ahead)
-    where
-      go : (z : Bool) → is_blank (if z then Takes (MetadataBlock kind) (counted (metadata_continuation kind) ahead) else Plain) ≡ false
-      go true = refl
-      go false = refl
+  not-blank-metadata kind ahead = grind arith
 
   -- a line that lacks no prefix begins metadata, or what it would begin without metadata
   whole-opening : (r : Row) (ahead : List Row) → r.lazy ≡ false → opens options r ahead ≡ or_else (metadata_begun (metadata_kind options r) ahead) (whole_opens options r ahead)
@@ -144,11 +87,7 @@ module _ (options : Options) where
   whole-opening r ahead e = ap (λ z. if z then Plain else or_else (metadata_begun (metadata_kind options r) ahead) (whole_opens options r ahead)) e
 
   pub not-blank : (r : Row) → r.lazy ≡ false → is_blank_line r ≡ false → (ahead : List Row) → is_blank (opens_at options Apart r ahead) ≡ false
-  not-blank r whole e ahead =
-      ap is_blank (whole-opening r ahead whole)
-      ∙ not-blank-or (metadata_begun (metadata_kind options r) ahead) (whole_opens options r ahead) (not-blank-metadata (metadata_kind options r) ahead)
-      (ap (λ z. is_blank (if z then Blank else if nat_le 4 (indent_of r) then Takes IndentedCode (counted code_continuation ahead) else or_else (nests_if (container_of options r)) (leaf_of options r ahead))) e
-      ∙ go (nat_le 4 (indent_of r)))
+  not-blank r whole e ahead = grind (arith, whole-opening, not-blank-or, not-blank-metadata, go)
     where
       go : (z : Bool) → is_blank (if z then Takes IndentedCode (counted code_continuation ahead) else or_else (nests_if (container_of options r)) (leaf_of options r ahead)) ≡ false
       go true = refl
@@ -170,17 +109,10 @@ module _ (options : Options) where
       go false ih = ih
 
   pub blank-kind : (r : Row) → is_blank_line r ≡ true → metadata_kind options r ≡ None
-  blank-kind r e = go (is_whole_line r)
-    where
-      go : (z : Bool) → (if z then metadata_if options (metadata_of (bytes_of r.columns)) else None) ≡ None
-      go true = ap (metadata_if options) (blank-bytes r.columns e)
-      go false = refl
+  blank-kind r e = grind (arith, blank-bytes)
 
   blank-opening : (r : Row) → r.lazy ≡ false → is_blank_line r ≡ true → (ahead : List Row) → opens_at options Apart r ahead ≡ Blank
-  blank-opening r whole e ahead =
-      whole-opening r ahead whole
-      ∙ ap (λ k. or_else (metadata_begun k ahead) (whole_opens options r ahead)) (blank-kind r e)
-      ∙ ap (λ z. if z then Blank else if nat_le 4 (indent_of r) then Takes IndentedCode (counted code_continuation ahead) else or_else (nests_if (container_of options r)) (leaf_of options r ahead)) e
+  blank-opening r whole e ahead = cc (whole-opening r ahead whole, blank-kind r e)
 
   -- ## The list after the blocks that a line begins
 
@@ -195,23 +127,10 @@ module _ (options : Options) where
   verbatim-none list closed leaf r = last-join options list (join closed (LeafBlock leaf r [] Nil)) Nil ∙ last-join options list closed (LeafBlock leaf r [] Nil)
 
   leaf-none : (list : Option ℕ) (leaf : Leaf) (n : ℕ) (closed : Blocks) (r : Row) → last_list list (close_lines (leaf_begun leaf n closed r)) ≡ None
-  leaf-none list ThematicBreak n closed r = last-join options list closed (LeafBlock ThematicBreak r [] Nil)
-  leaf-none list (AtxHeading level) n closed r = last-join options list closed (LeafBlock (AtxHeading level) r [] Nil)
-  leaf-none list IndentedCode n closed r = verbatim-none list closed IndentedCode r
-  leaf-none list (FencedCode fence) n closed r = verbatim-none list closed (FencedCode fence) r
-  leaf-none list (HtmlBlock kind) n closed r = html-none list (nat_le kind 5 && holds_end kind (words_of r)) closed kind r
-  leaf-none list (LinkDefinition definition) n closed r = last-join options list closed (LeafBlock (LinkDefinition definition) r [] Nil)
-  leaf-none list (MetadataBlock kind) n closed r = verbatim-none list closed (MetadataBlock kind) r
-  leaf-none list (Table alignments) n closed r = last-join options list closed (LeafBlock (Table alignments) r [] Nil)
+  leaf-none list leaf n closed r = grind (arith, last-join, verbatim-none, html-none)
 
   outside-none : (list : Option ℕ) (o : Opening) (inside : Container → OpenLines) (closed : Blocks) (r : Row) → is_outside_of_lists o ≡ true → last_list list (close_lines (lines_begin_as o inside closed r)) ≡ None
-  outside-none list Blank inside closed r e = absurd (true≢false (sym e))
-  outside-none list (Nests (BlockQuote alert)) inside closed r e = last-join options list closed _
-  outside-none list (Nests (Item delimiter number width task)) inside closed r e = absurd (true≢false (sym e))
-  outside-none list (Nests (Footnote label old size)) inside closed r e = last-join options list closed _
-  outside-none list (Nests (ListDefinition width)) inside closed r e = absurd (true≢false (sym e))
-  outside-none list (Takes leaf more) inside closed r e = leaf-none list leaf more closed r
-  outside-none list Plain inside closed r e = last-join options list closed (Paragraph r [] Nil)
+  outside-none list o inside closed r e = grind (arith, last-join, leaf-none)
 
   pub outside-begins : (list : Option ℕ) (closed : Blocks) (r : Row) (ahead : List Row) → begins_definition options r ≡ false → is_outside_of_lists (opens_at options Apart r ahead) ≡ true → last_list list (close_lines (lines_begin options closed r ahead)) ≡ None
   unfolding lines_begin
@@ -220,30 +139,18 @@ module _ (options : Options) where
 
   -- a blank line has no definition's marker
   pub blank-unmarked : (r : Row) → is_blank_line r ≡ true → begins_definition options r ≡ false
-  blank-unmarked r e =
-      ap (λ w. is_marker (if options.definition_list && (not r.lazy && nat_le (indent_of r) 3) then (if begins_with 58 w then Some (width_with 1 r) else None) else None)) (blank-words options r e)
-      ∙ go (options.definition_list && (not r.lazy && nat_le (indent_of r) 3))
-    where
-      go : (z : Bool) → is_marker (if z then None else None) ≡ false
-      go true = refl
-      go false = refl
+  blank-unmarked r e = grind (arith, blank-words)
 
   pub blank-begins : (list : Option ℕ) (closed : Blocks) (r : Row) (ahead : List Row) → r.lazy ≡ false → is_blank_line r ≡ true
       → last_list list (close_lines (lines_begin options closed r ahead)) ≡ last_list list closed
   unfolding lines_begin
-  blank-begins list closed r ahead whole e =
-      ap (λ o. last_list list (close_lines (lines_begin_as o (inside_as r ahead) closed r))) (same-apart options closed r ahead (blank-unmarked r e) ∙ blank-opening r whole e ahead)
-      ∙ last-join options list closed (BlankLine r Nil)
+  blank-begins list closed r ahead whole e = cc (same-apart options closed r ahead (blank-unmarked r e), blank-opening r whole e ahead, last-join options list closed (BlankLine r Nil))
 
   -- ## Lines that end what is open, whatever is ahead
 
   pub parts-any : (o : OpenLines) (r : Row) (a b : List Row) → ((ahead : List Row) → table_interrupts options r ahead ≡ false) → Parts options o r a → Parts options o r b
   unfolding texts lazily
-  parts-any (InParagraph closed first more) r a b e h =
-      (h.0, ap (λ t. not (interrupts options (not r.lazy) r b || (t || begins_definition options r))) (e b ∙ sym (e a)) ∙ h.1)
-  parts-any (InContainer closed k first more inside) r a b e h =
-      (h.0, ap (λ t. not (interrupts options false r b || (t || (is_definition k && begins_definition options r))) && lines_take_lazy inside) (e b ∙ sym (e a)) ∙ h.1)
-  parts-any _ r a b e h = h
+  parts-any o r a b e h = grind arith
 
   -- ## Lines that look at none ahead
 
@@ -252,16 +159,8 @@ module _ (options : Options) where
 
   blank-end : (done : List Row) (r : Row) → is_blank_line r ≡ true → has_blank_line (done ++ r ∷ []) ≡ true
   blank-end [] r e = ap (λ z. z || false) e
-  blank-end (s ∷ done) r e = go (is_blank_line s) (blank-end done r e)
-    where
-      go : (z : Bool) → has_blank_line (done ++ r ∷ []) ≡ true → (z || has_blank_line (done ++ r ∷ [])) ≡ true
-      go true ih = refl
-      go false ih = ih
+  blank-end (s ∷ done) r e = grind (arith, blank-end done r e)
 
   pub resolved-blank : (done : List Row) (r : Row) → is_blank_line r ≡ true → are_blind r.columns ≡ true → are_resolved (done ++ r ∷ []) ≡ true
   resolved-blank [] r e blind = ap (λ z. (z || false) && true) blind
-  resolved-blank (s ∷ done) r e blind = ap (λ z. z && are_resolved (done ++ r ∷ [])) (go (are_blind s.columns) (blank-end done r e)) ∙ resolved-blank done r e blind
-    where
-      go : (z : Bool) → has_blank_line (done ++ r ∷ []) ≡ true → (z || has_blank_line (done ++ r ∷ [])) ≡ true
-      go true h = refl
-      go false h = h
+  resolved-blank (s ∷ done) r e blind = grind (arith, blank-end, resolved-blank done r e blind)

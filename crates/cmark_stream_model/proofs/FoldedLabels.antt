@@ -1,5 +1,5 @@
 -- The folded form of a label's normal form is the folded label.
-use Rattle.std.proofs.Common.{◌≡◌, ℕ, Bool, true, false, List, [], ◌∷◌, All, cond, filter, refl, ap, ◌∙◌, arith}
+use Rattle.std.proofs.Common.{◌≡◌, ℕ, true, false, List, [], ◌∷◌, All, cond, filter, refl, ap, ◌∙◌, arith, rules}
 use Rattle.std.specs.Char.{is_ascii_whitespace}
 use Rattle.std.specs.List.{slice_split, join_with_byte, onto_first}
 use Rattle.std.proofs.lemmas.List.Elements.{All-cons}
@@ -27,19 +27,11 @@ parts-onto b (p ∷ ps) e h = (All-cons (λ c. is_ascii_whitespace c ≡ false) 
 
 split-parts : (bs : List ℕ) → AreParts (slice_split is_ascii_whitespace bs)
 split-parts [] = (no-word, tt)
-split-parts (b ∷ bs) = go (is_ascii_whitespace b) refl (split-parts bs)
-  where
-    go : (z : Bool) → is_ascii_whitespace b ≡ z → AreParts (slice_split is_ascii_whitespace bs) → AreParts (cond z ([] ∷ slice_split is_ascii_whitespace bs) (onto_first b (slice_split is_ascii_whitespace bs)))
-    go true e h = (no-word, h)
-    go false e h = parts-onto b (slice_split is_ascii_whitespace bs) e h
+split-parts (b ∷ bs) = grind (arith, cond, no-word, parts-onto, split-parts bs)
 
 filter-words : (ps : List (List ℕ)) → AreParts ps → AreWords (filter is_nonempty ps)
 filter-words [] h = tt
-filter-words (p ∷ ps) h = go (is_nonempty p) refl (filter-words ps h.1)
-  where
-    go : (z : Bool) → is_nonempty p ≡ z → AreWords (filter is_nonempty ps) → AreWords (cond z (p ∷ filter is_nonempty ps) (filter is_nonempty ps))
-    go true e ih = (h.0, e, ih)
-    go false e ih = ih
+filter-words (p ∷ ps) h = grind (arith, cond, filter-words ps h.1)
 
 kept : (p : List ℕ) (ps : List (List ℕ)) → is_nonempty p ≡ true → filter is_nonempty (p ∷ ps) ≡ p ∷ filter is_nonempty ps
 kept p ps e = ap (λ z. cond z (p ∷ filter is_nonempty ps) (filter is_nonempty ps)) e
@@ -47,10 +39,7 @@ kept p ps e = ap (λ z. cond z (p ∷ filter is_nonempty ps) (filter is_nonempty
 words-again : (ps : List (List ℕ)) → AreWords ps → words (join_with_byte 32 ps) ≡ ps
 words-again [] h = refl
 words-again (p ∷ []) h = ap (filter is_nonempty) (slice_split_none is_ascii_whitespace p h.0) ∙ kept p [] h.1
-words-again (p ∷ q ∷ ps) h =
-    ap (filter is_nonempty) (slice_split_at is_ascii_whitespace p 32 (join_with_byte 32 (q ∷ ps)) h.0 refl)
-    ∙ kept p (slice_split is_ascii_whitespace (join_with_byte 32 (q ∷ ps))) h.1
-    ∙ ap (λ ws. p ∷ ws) (words-again (q ∷ ps) h.2)
+words-again (p ∷ q ∷ ps) h = search (rules, slice_split_at, kept, words-again (q ∷ ps) h.2)
 
 -- the normal form of a label folds like the label
 pub fold-again : (label : List ℕ) → fold (normal_form label) ≡ fold label

@@ -1,49 +1,43 @@
 -- A leaf among the first bytes of a text is read as the same events if the text grows. The labels that it may look up must lead to the same
 -- definitions.
-use Rattle.std.proofs.Common.{◌≡◌, inl, inr, ℕ, zero, suc, ◌+◌, ◌-◌, ◌≤◌, Bool, true, false, not, ◌==◌, ◌&&◌, ◌||◌, List, [], ◌∷◌, ◌++◌, length, drop, take, refl, sym, ap, ◌∙◌, subst, arith, true≢false, length-drop, Option, Some, None}
-use Rattle.std.specs.Prelude.{if◌then◌else◌, min, max, reverse, chars, codes, map}
+use Rattle.std.proofs.Common.{◌≡◌, inl, inr, ℕ, zero, suc, ◌+◌, ◌-◌, ◌≤◌, Bool, true, false, not, ◌==◌, ◌&&◌, ◌||◌, List, [], ◌∷◌, ◌++◌, length, drop, take, refl, sym, ap, ◌∙◌, subst, arith, length-drop, Option, Some, None, rules}
+use Rattle.std.specs.Prelude.{if◌then◌else◌, max, reverse, chars, map}
 use Rattle.std.specs.List.{prefix_len}
 use Rattle.cmark_grammar.specs.BlockDocument.{Reference as Definition}
-use Rattle.cmark_grammar.specs.Autolinks.{autolink_in}
-use Rattle.cmark_grammar.specs.BracketDecisions.{Named, following, between, place, stays, question, answered, with_answer, defined_or_asked, refers, one_line_footnotes, is_footnote_label, footnote_reference, as_label, collapsed_or_shortcut, by_own_label, full_reference, reference_or, unless_footnote, link_or, with_taken, wiki_text, wikilink_or, decide, is_there, forms, name_in, after_pipe}
+use Rattle.cmark_grammar.specs.BracketDecisions.{Named, following, between, place, stays, question, answered, defined_or_asked, refers, one_line_footnotes, is_footnote_label, footnote_reference, as_label, collapsed_or_shortcut, by_own_label, full_reference, reference_or, unless_footnote, link_or, with_taken, wiki_text, wikilink_or, decide, is_there, forms, name_in, after_pipe}
 use Rattle.cmark_grammar.specs.BracketReading.{Reads, Comes}
 use Rattle.cmark_grammar.specs.BracketStates.{Opener, State, moved, opened, Result, StaysText, Forms, Outcome, Decision, Settled, Asks}
 use Rattle.cmark_grammar.specs.CodeSpans.{is_backtick, backticks, code_in}
 use Rattle.cmark_grammar.specs.Columns.{is_blank_byte}
-use Rattle.cmark_grammar.specs.Event.{Start, End, Text, InlineHtml, Ranged}
+use Rattle.cmark_grammar.specs.Event.{Start, End, Ranged}
 use Rattle.cmark_grammar.specs.TagEnd as tag_end
-use Rattle.cmark_grammar.specs.Flanking.{flanking, is_run_delimiter}
+use Rattle.cmark_grammar.specs.Flanking.{is_run_delimiter}
 use Rattle.cmark_grammar.specs.Formulas.{is_dollar, Braces, no_braces, braces_after, inline_in, display_in}
-use Rattle.cmark_grammar.specs.InlineHtml.{after_markup}
 use Rattle.cmark_grammar.specs.InlineReading.{event_of, inline_events}
-use Rattle.cmark_grammar.specs.InlineTokens.{item_at, is_plain, first_of, from, before, place_of, character_before, character_at, line_begins, read_on, break_to, break_or, code_or, escaped_backtick, escape_at, entity_or, autolink_or, tag_kind, tag_or_text, source_from, markup_to, markup_or, less_than, run_or, run_at, formula_or, dollar, hyphens, smart_or, begins, begins_at, goes_on, plain_end, longest, token}
-use Rattle.cmark_grammar.specs.Items as items
-use Rattle.cmark_grammar.specs.Items.{ItemKind, Item, Bracket, Token, Stands, Opens, Closes, HardBreak, SoftBreak, InlineMath, DisplayMath, Html}
+use Rattle.cmark_grammar.specs.InlineTokens.{item_at, is_plain, first_of, from, before, place_of, character_before, character_at, read_on, break_or, code_or, escaped_backtick, escape_at, entity_or, autolink_or, tag_kind, tag_or_text, source_from, markup_or, less_than, run_at, formula_or, dollar, smart_or, begins, begins_at, goes_on, plain_end, longest, token}
+use Rattle.cmark_grammar.specs.Items.{ItemKind, Item, Bracket, Token, Stands, Opens, Closes, InlineMath, DisplayMath}
 use Rattle.cmark_grammar.specs.Labels.{fold, normal_form}
 use Rattle.cmark_grammar.specs.LeafReading.{Between, entering, ReadsLeaf}
 use Rattle.cmark_grammar.specs.LeafText.{Stretch, Leaf, bytes_from, bytes_before, size_of, begin_of, end_of, InTurn}
-use Rattle.cmark_grammar.specs.Letters.{first_is, starts}
-use Rattle.cmark_grammar.specs.LinkType.{Reference}
+use Rattle.cmark_grammar.specs.Letters.{first_is}
 use Rattle.cmark_grammar.specs.LineBreaks.{LineBreak, backslash_break_in, blank_break_in}
 use Rattle.cmark_grammar.specs.Lines.{is_content}
-use Rattle.cmark_grammar.specs.LinkDefinitions.{Parsed, after_leading_blanks}
+use Rattle.cmark_grammar.specs.LinkDefinitions.{Parsed}
 use Rattle.cmark_grammar.specs.LinkTails.{LinkTail, link_tail_in, after_collapsed, is_bracketed_label, reference_label_in}
-use Rattle.cmark_grammar.specs.OpenBrackets.{Taken, nearest, used_up, doubled, undoubled, tried, inactive, dropped}
+use Rattle.cmark_grammar.specs.OpenBrackets.{Taken, nearest, undoubled, tried, inactive, dropped}
 use Rattle.cmark_grammar.specs.Parts.{Footnote, Wiki, Parts, Nil as NoParts, Single as SinglePart, Form, Closing, Opening, openings}
 use Rattle.cmark_grammar.specs.Questions.{Exchange, Saying}
-use Rattle.cmark_grammar.specs.Quotes.{quote_beside}
 use Rattle.cmark_grammar.specs.Readers.{Reader}
 use Rattle.cmark_grammar.specs.Siblings.{Inline, Nil as NoSpans, Single as SingleItem, Around as SpanAround}
 use Rattle.cmark_inline_model.specs.SiblingsModel.{spans_in}
 use Rattle.cmark_grammar.specs.SpanDocuments.{Profile, Segment, Given, Content, ReadsAll}
-use Rattle.cmark_grammar.specs.Tags.{after_tag, no_prefix}
 use Rattle.cmark_grammar.specs.Tokens.{Entity, entity_in, slice}
 use Rattle.cmark_inline_model.specs.CutRanges.{IsAfterPipe}
 use Rattle.cmark_inline_model.specs.LeafModel.{HaveLineEnds}
 use Rattle.cmark_inline_model.specs.NestedLinks.{Persist, ResultsApart, KeepsApart}
 use Rattle.cmark_inline_model.specs.Progress.{Always, FitsBy, Fits}
 use Rattle.cmark_inline_model.proofs.DecisionLaws.{decide-apart}
-use Rattle.cmark_inline_model.proofs.Openers.{AreTaken, nearest-taken}
+use Rattle.cmark_inline_model.proofs.Openers.{nearest-taken}
 use Rattle.cmark_inline_model.proofs.ForwardLaws.{leaf-forward, leaf-ranges}
 use Rattle.cmark_inline_model.proofs.LeafPlaces.{end-within, leaf-up}
 use Rattle.cmark_inline_model.proofs.LeafSteps.{IsAt, place-first}
@@ -82,9 +76,7 @@ module _ (size : ℕ) (s t : List ℕ) (agree : Agree size s t) where
 
   bytes_before-same : (low : ℕ) (st : List Stretch) → InTurn low st size → (at : ℕ) → bytes_before s st at ≡ bytes_before t st at
   bytes_before-same low [] h at = refl
-  bytes_before-same low (x ∷ more) h at =
-      let c = turn-low x.end size more h.2 in
-      ap (λ l. l ++ bytes_before s more at) (agree x.start (min at x.end) (omega (arith, c))) ∙ ap (λ l. slice t x.start (min at x.end) ++ l) (bytes_before-same x.end more h.2 at)
+  bytes_before-same low (x ∷ more) h at = grind (arith, turn-low, bytes_before-same x.end more h.2 at)
 
 module _ (profile : Profile) (size : ℕ) (s t : List ℕ) (agree : Agree size s t) (d e : List ℕ → Option Definition) (f g : List ℕ → Bool) (leaf : Leaf) (turn : InTurn 0 leaf.stretches size) where
   abbrev one : Reader
@@ -108,15 +100,10 @@ module _ (profile : Profile) (size : ℕ) (s t : List ℕ) (agree : Agree size s
   -- ## Tokens
 
   read_on-same : (at : ℕ) → read_on one leaf at ≡ read_on other leaf at
-  read_on-same at =
-      ap (λ b. place_of one leaf (if first_is (λ c. not (is_content c)) (reverse b) then after_leading_blanks (from one leaf at) else from one leaf at)) (before-same at)
-      ∙ ap (λ l. place_of one leaf (if line_begins other leaf at then after_leading_blanks l else l)) (from-same at)
+  read_on-same at = cc (before-same at, from-same at)
 
   break_or-same : (at : ℕ) (o : Option LineBreak) (x y : Token) → x ≡ y → break_or one leaf at o x ≡ break_or other leaf at o y
-  break_or-same at None x y h = h
-  break_or-same at (Some found) x y h =
-      ap (λ (l : List ℕ). break_to one leaf at found (at + (length l - length found.following))) (from-same at)
-      ∙ ap (λ n. Stands (record { kind = if found.is_hard then HardBreak else SoftBreak; start = at + found.before; end = at + (length (from other leaf at) - length found.following) }) n) (read_on-same (at + (length (from other leaf at) - length found.following)))
+  break_or-same at o x y h = grind (arith, from-same, read_on-same)
 
   code_or-same : (at n : ℕ) (o : Option Parsed) → code_or one leaf at n o ≡ code_or other leaf at n o
   code_or-same at n None = refl
@@ -142,17 +129,10 @@ module _ (profile : Profile) (size : ℕ) (s t : List ℕ) (agree : Agree size s
   tag_or_text-same at (Some rest) = ap (λ (l : List ℕ). item_at (tag_kind one leaf (take (length l - length rest) l)) at (place_of one leaf rest)) (from-same at)
 
   markup_or-same : (at : ℕ) (o : Option (List ℕ)) (x y : Token) → x ≡ y → markup_or one leaf at o x ≡ markup_or other leaf at o y
-  markup_or-same at None x y h = h
-  markup_or-same at (Some rest) x y h =
-      ap (λ (l : List ℕ). markup_to one leaf at (at + (length l - length rest))) (source-same at)
-      ∙ ap (λ n. Stands (record { kind = Html; start = at; end = at + (length (source_from other leaf at) - length rest) }) n) (read_on-same (at + (length (source_from other leaf at) - length rest)))
+  markup_or-same at o x y h = grind (arith, source-same, read_on-same)
 
   less_than-same : (at : ℕ) (bs : List ℕ) → less_than one leaf at bs ≡ less_than other leaf at bs
-  less_than-same at bs =
-      either-token (first_is (λ c. c == 92) bs) _ _ _ _ refl
-      (autolink_or-same at (autolink_in profile.options.email_autolinks bs) _ _
-      (ap (λ l. markup_or one leaf at (after_markup l) (tag_or_text one leaf at (after_tag no_prefix (from one leaf at)))) (source-same at)
-      ∙ markup_or-same at (after_markup (source_from other leaf at)) _ _ (ap (λ l. tag_or_text one leaf at (after_tag no_prefix l)) (from-same at) ∙ tag_or_text-same at (after_tag no_prefix (from other leaf at)))))
+  less_than-same at bs = grind (arith, either-token, autolink_or-same, source-same, markup_or-same, from-same, tag_or_text-same)
 
   character_before-same : (at : ℕ) → character_before one leaf at ≡ character_before other leaf at
   character_before-same at = ap (λ l. first_of (reverse (chars l))) (before-same at)
@@ -161,9 +141,7 @@ module _ (profile : Profile) (size : ℕ) (s t : List ℕ) (agree : Agree size s
   character_at-same at = ap (λ l. first_of (chars l)) (from-same at)
 
   run_at-same : (at delimiter n : ℕ) → run_at one leaf at delimiter n ≡ run_at other leaf at delimiter n
-  run_at-same at delimiter n =
-      ap (λ c. run_or one leaf at delimiter n (flanking profile.options delimiter n c (character_at one leaf (at + n)))) (character_before-same at)
-      ∙ ap (λ c. run_or one leaf at delimiter n (flanking profile.options delimiter n (character_before other leaf at) c)) (character_at-same (at + n))
+  run_at-same at delimiter n = cc (character_before-same at, character_at-same (at + n))
 
   formula_or-same : (kind : List ℕ → ItemKind) (at : ℕ) (o : Option Parsed) → formula_or one leaf kind at o ≡ formula_or other leaf kind at o
   formula_or-same kind at None = refl
@@ -174,12 +152,7 @@ module _ (profile : Profile) (size : ℕ) (s t : List ℕ) (agree : Agree size s
       ap (dollar one leaf at bs) h ∙ either-token (first_is is_dollar bs) _ _ _ _ (formula_or-same DisplayMath at (display_in y (drop 1 bs))) (formula_or-same InlineMath at (inline_in y bs))
 
   smart_or-same : (at b : ℕ) → smart_or one leaf at b ≡ smart_or other leaf at b
-  smart_or-same at b =
-      either-token (b == 46) _ _ _ _ (ap (λ l. if starts (codes "...") l then item_at (items.Written (226 ∷ 128 ∷ 166 ∷ [])) at (at + 3) else item_at items.Plain at (suc at)) (from-same at))
-      (either-token (b == 45) _ _ _ _ (ap (λ l. hyphens one leaf at (prefix_len (λ c. c == 45) l)) (from-same at))
-      (either-token ((b == 34) || (b == 39)) _ _ _ _
-      (ap (λ c. item_at (items.Quoted (quote_beside (b == 34) c (character_at one leaf (suc at)))) at (suc at)) (character_before-same at)
-      ∙ ap (λ c. item_at (items.Quoted (quote_beside (b == 34) (character_before other leaf at) c)) at (suc at)) (character_at-same (suc at))) refl))
+  smart_or-same at b = cc (from-same at, character_before-same at, character_at-same (suc at))
 
   begins-same : (at : ℕ) (bs : List ℕ) → begins one leaf at bs ≡ begins other leaf at bs
   begins-same at [] = refl
@@ -209,9 +182,7 @@ module _ (profile : Profile) (size : ℕ) (s t : List ℕ) (agree : Agree size s
       ap (λ x. goes_on one leaf x end (plain_end one leaf n)) (begins_at-same end) ∙ goes_on-same (begins_at other leaf end) end (plain_end one leaf n) (plain_end other leaf n) (plain_end-same n)
 
   longest-same : (x : Token) → longest one leaf x ≡ longest other leaf x
-  longest-same (Stands item resume) =
-      either-token (is_plain item.kind) _ _ _ _ (ap (λ n. item_at items.Plain item.start n) (ap (λ (l : List ℕ). plain_end one leaf (length l) resume) (from-same resume) ∙ plain_end-same (length (from other leaf resume)) resume)) refl
-  longest-same _ = refl
+  longest-same x = grind (arith, either-token, from-same, plain_end-same)
 
   token-same : (at : ℕ) → token one leaf at ≡ token other leaf at
   unfolding token
@@ -261,12 +232,7 @@ module _ (profile : Profile) (size : ℕ) (s t : List ℕ) (agree : Agree size s
   IsOpener b = (place : ℕ) × (token one leaf place ≡ Opens b)
 
   unless-found : (o : Option Parsed) (found : Parsed) → unless_footnote one leaf o ≡ Some found → o ≡ Some found
-  unless-found None found q = q
-  unless-found (Some x) found q = go (is_footnote_label one leaf x.bytes) q
-    where
-      go : (z : Bool) → (if z then None else Some x) ≡ Some found → Some x ≡ Some found
-      go true q = absurd (let c : None ≡ Some found = q in cc)
-      go false q = q
+  unless-found o found q = grind arith
 
   unless-same : (o : Option Parsed) → unless_footnote one leaf o ≡ unless_footnote other leaf o
   unless-same None = refl
@@ -310,9 +276,7 @@ module _ (profile : Profile) (size : ℕ) (s t : List ℕ) (agree : Agree size s
 
     full-same : (found : Parsed) (at : ℕ) (taken : Taken) (closer : Bracket) (st : State) → token one leaf at ≡ Closes closer → reference_label_in (from one leaf closer.end) ≡ Some found → Holds (full_reference one leaf found taken closer st)
         → full_reference one leaf found taken closer st ≡ full_reference other leaf found taken closer st
-    full-same found at taken closer st c q k =
-        refers-same (record { label = as_label one leaf found.bytes; link_type = Reference; end = place one leaf found.following; resume = place one leaf found.following }) taken closer (record st { label_close = Some (place one leaf found.following - 1) })
-        (at, closer, c, inl (found, q, refl)) k
+    full-same found at taken closer st c q k = grind arith
 
     reference-same : (o : Option Parsed) (at : ℕ) (taken : Taken) (closer : Bracket) (st : State) → token one leaf at ≡ Closes closer → IsOpener taken.opener.bracket → ((found : Parsed) → o ≡ Some found → reference_label_in (from one leaf closer.end) ≡ Some found)
         → Holds (reference_or one leaf o taken closer st) → reference_or one leaf o taken closer st ≡ reference_or other leaf o taken closer st
@@ -349,12 +313,7 @@ module _ (profile : Profile) (size : ℕ) (s t : List ℕ) (agree : Agree size s
 
     decide-same : (at : ℕ) (st : State) (closer : Bracket) → closer.start ≤ size → token one leaf at ≡ Closes closer → IsTakenOpener (nearest st.openers) → Holds (decide one leaf st closer) → decide one leaf st closer ≡ decide other leaf st closer
     unfolding decide
-    decide-same at st closer w c b k =
-        either-held (profile.options.wikilinks && first_is (λ b. b == 93) (following one leaf closer.end)) _ _ _ _ k (λ h. wikilink-same at (doubled now.openers) (nearest st.openers) closer now w c b h) (λ h. taken-same at (nearest st.openers) closer now c b h)
-        ∙ ap (λ l. if profile.options.wikilinks && first_is (λ b. b == 93) l then wikilink_or other leaf (doubled now.openers) (nearest st.openers) closer now else with_taken other leaf (nearest st.openers) closer now) (from-same closer.end)
-      where
-        now : State
-        now = record st { openers = used_up st.openers }
+    decide-same at st closer w c b k = search (rules, either-held, wikilink-same, taken-same, from-same)
 
   -- ## Parts
 
@@ -379,11 +338,7 @@ module _ (profile : Profile) (size : ℕ) (s t : List ℕ) (agree : Agree size s
   openers-drop (suc n) (o ∷ a) h = openers-drop n a h.1
 
   nearest-opener : (os : List Opener) → AreOpeners os → IsTakenOpener (nearest os)
-  nearest-opener os h = go (nearest os) (nearest-taken os)
-    where
-      go : (o : Option Taken) → AreTaken os o → IsTakenOpener o
-      go None t = tt
-      go (Some taken) t = subst IsOpener t.bracket (subst AreOpeners t.there (openers-drop taken.nearer os h)).0
+  nearest-opener os h = grind (arith, nearest-taken, openers-drop)
 
   always-comes : (Says : Saying) (asked : List Exchange) (P : Outcome → Type 0) (x : Decision) (o : Outcome) → Always P x → Comes Says asked x o → P o
   always-comes Says asked P (Settled outcome) o h k = subst P (sym k) h
@@ -445,20 +400,11 @@ module _ (profile : Profile) (size : ℕ) (s t : List ℕ) (agree : Agree size s
   -- ## Events
 
   event-same : (x : Item) (kind : ItemKind) → slice s x.start x.end ≡ slice t x.start x.end → event_of s x kind ≡ event_of t x kind
-  event-same x items.Html h = ap InlineHtml h
-  event-same x items.Plain h = ap Text h
-  event-same x items.Own h = ap Text h
-  event-same x (items.Quoted quote) h = ap Text h
-  event-same x (items.Delimiters run) h = ap Text h
-  event-same x (items.Autolink uri) h = ap Text h
-  event-same x _ h = refl
+  event-same x kind h = grind arith
 
   inline-same : (Pipe : ℕ → Type 0) (low : ℕ) (spans : Inline) (to : ℕ) → InlineOrder Pipe low spans to → to ≤ size → inline_events s spans ≡ inline_events t spans
   inline-same Pipe low NoSpans to h w = refl
-  inline-same Pipe low (SingleItem x after) to h w =
-      let up = inline-up Pipe x.end after to h.2 in
-      ap (λ v. record { event = v; start = x.start; end = x.end } ∷ inline_events s after) (event-same x x.kind (agree x.start x.end (omega (arith, up, w))))
-      ∙ ap (λ l. record { event = event_of t x x.kind; start = x.start; end = x.end } ∷ l) (inline-same Pipe x.end after to h.2 w)
+  inline-same Pipe low (SingleItem x after) to h w = grind (arith, inline-up, event-same, inline-same Pipe x.end after to h.2 w)
   inline-same Pipe low (SpanAround tag start end inside after) to h w =
       let up = inline-up Pipe end after to h.5 in
       ap (λ l. record { event = Start tag; start = start; end = end } ∷ (l ++ (record { event = End (tag_end.end_of tag); start = start; end = end } ∷ inline_events s after))) (inline-same Pipe h.0 inside end h.4 (omega (arith, up, w)))
@@ -510,20 +456,7 @@ module _ (profile : Profile) (size : ℕ) (s t : List ℕ) (agree : Agree size s
 
   refers-unanswered : profile.has_callback ≡ true → ((folded : List ℕ) (r : Definition) → d folded ≡ Some r → e folded ≡ Some r)
       → (named : Named) (taken : Taken) (closer : Bracket) (st : State) → Unanswered (refers one leaf named taken closer st) → SameReference named taken closer st
-  refers-unanswered on stay named taken closer st k = go (st.expansion_left == 0) (d (fold named.label)) refl k
-    where
-      asked : (z : Bool) → profile.has_callback ≡ z → z ≡ true → Unanswered (if z then Asks (question one leaf named taken.opener.bracket) (λ answer. answered one leaf named taken closer (with_answer one leaf (question one leaf named taken.opener.bracket) answer st) answer) else Settled (stays one leaf closer st))
-          → e (fold (normal_form named.label)) ≡ None
-      asked true p q k = k
-      asked false p q k = absurd (true≢false (sym q))
-
-      go : (z : Bool) (o : Option Definition) → d (fold named.label) ≡ o → Unanswered (if z then Settled (stays one leaf closer st) else defined_or_asked one leaf o named taken closer st)
-          → (if z then Settled (stays one leaf closer st) else defined_or_asked one leaf (d (fold named.label)) named taken closer st) ≡ (if z then Settled (stays other leaf closer st) else defined_or_asked other leaf (e (fold named.label)) named taken closer st)
-      go true o p k = refl
-      go false (Some r) p k = ap (λ o. defined_or_asked one leaf o named taken closer st) (p ∙ sym (stay (fold named.label) r p)) ∙ defined-same (e (fold named.label)) named taken closer st
-      go false None p k =
-          let none = ap e (sym (fold-again named.label)) ∙ asked profile.has_callback refl on k in
-          ap (λ o. defined_or_asked one leaf o named taken closer st) (p ∙ sym none) ∙ defined-same (e (fold named.label)) named taken closer st
+  refers-unanswered on stay named taken closer st k = grind (arith, defined-same, fold-again)
 
   -- these answers are not about labels that have a definition now
   abbrev pub SaysOfUndefined : Saying → Saying

@@ -1,30 +1,29 @@
 -- If some of the reference expansion limit is left after a reading, a greater limit gives the same reading. The increase is left in
 -- addition.
-use Rattle.std.proofs.Common.{◌≡◌, ℕ, zero, suc, ◌+◌, ◌-◌, ◌≤◌, ◌<◌, Bool, true, false, not, ◌==◌, ◌&&◌, ◌||◌, List, [], ◌∷◌, length, drop, refl, sym, ap, ◌∙◌, subst, arith, Option, Some, None, true≢false}
-use Rattle.std.specs.Prelude.{if◌then◌else◌, map}
+use Rattle.std.proofs.Common.{◌≡◌, ℕ, zero, suc, ◌+◌, ◌-◌, ◌≤◌, ◌<◌, Bool, true, false, ◌==◌, ◌&&◌, ◌||◌, List, [], ◌∷◌, length, refl, sym, ap, subst, arith, Option, Some, None, true≢false, rules}
+use Rattle.std.specs.Prelude.{if◌then◌else◌}
 use Rattle.cmark_grammar.specs.Answers.{Destination}
 use Rattle.cmark_grammar.specs.BlockDocument.{Reference as Definition}
-use Rattle.cmark_grammar.specs.BracketDecisions.{Named, or_empty, linked, following, between, place, stays, links, question, answered, with_answer, ask, leads, defined_or_asked, refers, one_line_footnotes, is_footnote_label, footnote_reference, as_label, collapsed_or_shortcut, by_own_label, reference_or, unless_footnote, link_or, with_taken, wiki_text, wikilink, wikilink_or, decide, is_there, forms, name_in}
+use Rattle.cmark_grammar.specs.BracketDecisions.{Named, or_empty, following, stays, question, answered, ask, leads, defined_or_asked, refers, footnote_reference, by_own_label, reference_or, unless_footnote, link_or, with_taken, wiki_text, wikilink, wikilink_or, decide, name_in}
 use Rattle.cmark_grammar.specs.BracketReading.{Reads, Comes}
-use Rattle.cmark_grammar.specs.BracketStates.{State, moved, opened, StaysText, Forms, Outcome, Decision, Settled, Asks}
+use Rattle.cmark_grammar.specs.BracketStates.{State, moved, opened, Forms, Outcome, Decision, Settled, Asks}
 use Rattle.cmark_grammar.specs.Event.{Ranged}
 use Rattle.cmark_grammar.specs.InlineTokens.{token}
 use Rattle.cmark_grammar.specs.Items.{Bracket}
-use Rattle.cmark_grammar.specs.Labels.{fold, normal_form}
 use Rattle.cmark_grammar.specs.LeafReading.{Between, entering, ReadsLeaf}
 use Rattle.cmark_grammar.specs.LeafText.{Leaf}
 use Rattle.cmark_grammar.specs.Letters.{first_is}
 use Rattle.cmark_grammar.specs.LinkDefinitions.{Parsed}
-use Rattle.cmark_grammar.specs.LinkTails.{LinkTail, link_tail_in, after_collapsed, is_bracketed_label, reference_label_in}
-use Rattle.cmark_grammar.specs.LinkType.{LinkType, Reference, to_unknown}
-use Rattle.cmark_grammar.specs.OpenBrackets.{Taken, nearest, used_up, doubled, tried, dropped}
-use Rattle.cmark_grammar.specs.Parts.{Footnote, Parts, Nil as NoParts, Single as SinglePart, Form, Closing, Opening, openings}
+use Rattle.cmark_grammar.specs.LinkTails.{LinkTail, link_tail_in, reference_label_in}
+use Rattle.cmark_grammar.specs.LinkType.{LinkType, to_unknown}
+use Rattle.cmark_grammar.specs.OpenBrackets.{Taken, nearest, used_up, doubled, tried}
+use Rattle.cmark_grammar.specs.Parts.{Parts, Nil as NoParts, Single as SinglePart, Form, Closing, Opening, openings}
 use Rattle.cmark_grammar.specs.Questions.{Exchange, Saying}
 use Rattle.cmark_grammar.specs.Readers.{Reader}
 use Rattle.cmark_grammar.specs.SpanDocuments.{Segment, Given, Content, ReadsAll}
 use Rattle.cmark_inline_model.specs.Progress.{Always}
 use Rattle.cmark_inline_model.proofs.DecisionLaws.{always-by}
-use Rattle.cmark_inline_model.proofs.DecisionShape.{Shape, Stays, ToInline, ToReference, ToFootnote, ToWiki}
+use Rattle.cmark_inline_model.proofs.DecisionShape.{Shape}
 use Rattle.cmark_stream_model.specs.Continued.{with_more}
 
 not-zero : (n k : ℕ) → (n == 0) ≡ false → (n + k == 0) ≡ false
@@ -54,10 +53,7 @@ module _ (reader : Reader) (leaf : Leaf) (k : ℕ) where
 
   leads-follow : (named : Named) (link_type : LinkType) (found : Destination) (taken : Taken) (st : State) → 0 < (leads reader leaf named link_type found taken st).after.expansion_left
       → leads reader leaf named link_type found taken (richer st) ≡ richer_outcome (leads reader leaf named link_type found taken st)
-  leads-follow named link_type found taken st h =
-      let some : 0 < st.expansion_left - length found.url - length found.title = h in
-      let sum : st.expansion_left + k - length found.url - length found.title ≡ (st.expansion_left - length found.url - length found.title) + k = omega (arith, some) in
-      ap (λ n. links reader leaf taken (linked link_type found (normal_form named.label)) named.end named.resume (record st { expansion_left = n })) sum
+  leads-follow named link_type found taken st h = grind arith
 
   answer-follows : (named : Named) (taken : Taken) (closer : Bracket) (st : State) (x : Option Destination) → 0 < (answered reader leaf named taken closer st x).after.expansion_left
       → answered reader leaf named taken closer (richer st) x ≡ richer_outcome (answered reader leaf named taken closer st x)
@@ -65,13 +61,7 @@ module _ (reader : Reader) (leaf : Leaf) (k : ℕ) where
   answer-follows named taken closer st (Some found) h = leads-follow named (to_unknown named.link_type) found taken st h
 
   ask-follows : (named : Named) (taken : Taken) (closer : Bracket) (st : State) → Follows (ask reader leaf named taken closer st) (ask reader leaf named taken closer (richer st))
-  ask-follows named taken closer st = go reader.has_callback
-    where
-      go : (z : Bool)
-          → Follows (if z then Asks (question reader leaf named taken.opener.bracket) (λ answer. answered reader leaf named taken closer (with_answer reader leaf (question reader leaf named taken.opener.bracket) answer st) answer) else Settled (stays reader leaf closer st))
-          (if z then Asks (question reader leaf named taken.opener.bracket) (λ answer. answered reader leaf named taken closer (with_answer reader leaf (question reader leaf named taken.opener.bracket) answer (richer st)) answer) else Settled (stays reader leaf closer (richer st)))
-      go true = (refl, λ x h. answer-follows named taken closer (with_answer reader leaf (question reader leaf named taken.opener.bracket) x st) x h)
-      go false = λ h. refl
+  ask-follows named taken closer st = grind (arith, answer-follows)
 
   defined-follows : (o : Option Definition) (named : Named) (taken : Taken) (closer : Bracket) (st : State) → Follows (defined_or_asked reader leaf o named taken closer st) (defined_or_asked reader leaf o named taken closer (richer st))
   defined-follows None named taken closer st = ask-follows named taken closer st
@@ -83,33 +73,16 @@ module _ (reader : Reader) (leaf : Leaf) (k : ℕ) where
   spent-follows closer st (Asks r b) e = λ h. let some : 0 < st.expansion_left = h in omega (arith, some, e)
 
   refers-follow : (named : Named) (taken : Taken) (closer : Bracket) (st : State) → Follows (refers reader leaf named taken closer st) (refers reader leaf named taken closer (richer st))
-  refers-follow named taken closer st = go (st.expansion_left == 0) refl
-    where
-      go : (z : Bool) → (st.expansion_left == 0) ≡ z
-          → Follows (if z then Settled (stays reader leaf closer st) else defined_or_asked reader leaf (reader.definition (fold named.label)) named taken closer st) (refers reader leaf named taken closer (richer st))
-      go true e = spent-follows closer st (refers reader leaf named taken closer (richer st)) (is-zero st.expansion_left e)
-      go false e =
-          subst (λ w. Follows (defined_or_asked reader leaf (reader.definition (fold named.label)) named taken closer st) (if w then Settled (stays reader leaf closer (richer st)) else defined_or_asked reader leaf (reader.definition (fold named.label)) named taken closer (richer st)))
-          (sym (not-zero st.expansion_left k e)) (defined-follows (reader.definition (fold named.label)) named taken closer st)
+  refers-follow named taken closer st = grind (arith, spent-follows, is-zero, not-zero, defined-follows)
 
   footnote-follows : (label : List ℕ) (taken : Taken) (closer : Bracket) (st : State) → Follows (footnote_reference reader leaf label taken closer st) (footnote_reference reader leaf label taken closer (richer st))
-  footnote-follows label taken closer st =
-      follows-if (one_line_footnotes reader leaf && not (reader.has_footnote (fold label))) (Settled (stays reader leaf closer st)) (Settled (stays reader leaf closer (richer st)))
-      (Settled (forms reader leaf taken (Footnote (normal_form label) closer.end) closer.end (map dropped) st)) (Settled (forms reader leaf taken (Footnote (normal_form label) closer.end) closer.end (map dropped) (richer st))) (λ h. refl) (λ h. refl)
+  footnote-follows label taken closer st = grind (arith, follows-if)
 
   own-follows : (label : List ℕ) (taken : Taken) (closer : Bracket) (st : State) → Follows (by_own_label reader leaf label taken closer st) (by_own_label reader leaf label taken closer (richer st))
-  own-follows label taken closer st =
-      follows-if (is_footnote_label reader leaf label) _ _ _ _ (footnote-follows (as_label reader leaf (drop 1 label)) taken closer st)
-      (follows-if (is_bracketed_label label) (refers reader leaf named taken closer st) (refers reader leaf named taken closer (richer st)) (Settled (stays reader leaf closer st)) (Settled (stays reader leaf closer (richer st))) (refers-follow named taken closer st) (λ h. refl))
-    where
-      named : Named
-      named = collapsed_or_shortcut reader leaf (as_label reader leaf label) closer.end (after_collapsed (following reader leaf closer.end))
+  own-follows label taken closer st = grind (arith, follows-if, footnote-follows, refers-follow)
 
   reference-follows : (o : Option Parsed) (taken : Taken) (closer : Bracket) (st : State) → Follows (reference_or reader leaf o taken closer st) (reference_or reader leaf o taken closer (richer st))
-  reference-follows (Some found) taken closer st =
-      refers-follow (record { label = as_label reader leaf found.bytes; link_type = Reference; end = place reader leaf found.following; resume = place reader leaf found.following }) taken closer (record st { label_close = Some (place reader leaf found.following - 1) })
-  reference-follows None taken closer st =
-      follows-if (is_there closer.start st.label_close) (Settled (stays reader leaf closer st)) (Settled (stays reader leaf closer (richer st))) _ _ (λ h. refl) (own-follows (between reader leaf taken.opener.bracket.end closer.start) taken closer st)
+  reference-follows o taken closer st = search (rules, refers-follow, follows-if, own-follows)
 
   link-follows : (o : Option LinkTail) (taken : Taken) (closer : Bracket) (st : State) → Follows (link_or reader leaf o taken closer st) (link_or reader leaf o taken closer (richer st))
   link-follows (Some tail) taken closer st = λ h. refl
@@ -132,11 +105,7 @@ module _ (reader : Reader) (leaf : Leaf) (k : ℕ) where
       follows-if (reader.options.wikilinks && first_is (λ b. b == 93) (following reader leaf closer.end)) _ _ _ _ (wikilink-follows (doubled now.openers) (nearest st.openers) closer now) (taken-follows (nearest st.openers) closer now)
 
   comes-follows : (Says : Saying) (asked : List Exchange) (x y : Decision) (o : Outcome) → Follows x y → Comes Says asked x o → 0 < o.after.expansion_left → Comes Says asked y (richer_outcome o)
-  comes-follows Says asked (Settled s) (Settled p) o f c h = ap richer_outcome c ∙ sym (f (subst (λ (z : Outcome). 0 < z.after.expansion_left) c h))
-  comes-follows Says asked (Settled s) (Asks r b) o f c h = absurd (f (subst (λ (z : Outcome). 0 < z.after.expansion_left) c h))
-  comes-follows Says asked (Asks q a) (Settled p) o f c h = absurd f
-  comes-follows Says asked (Asks q a) (Asks r b) o f c h =
-      (c.0, subst (λ z. Says asked z c.0) (sym f.0) c.1, ap richer_outcome c.2 ∙ sym (f.1 c.0 (subst (λ (z : Outcome). 0 < z.after.expansion_left) c.2 h)))
+  comes-follows Says asked x y o f c h = grind arith
 
   -- ## The rest of the limit never grows
 
@@ -144,14 +113,7 @@ module _ (reader : Reader) (leaf : Leaf) (k : ℕ) where
   Spends st o = o.after.expansion_left ≤ st.expansion_left
 
   shape_spends : (st : State) (closer : Bracket) (asked : List Exchange) (o : Outcome) → Shape reader leaf st closer asked o → Spends st o
-  shape_spends st closer asked o (Stays label os h e) = subst (Spends st) (sym e) (omega arith)
-  shape_spends st closer asked o (ToInline label os taken tail h t found e) = subst (Spends st) (sym e) (omega arith)
-  shape_spends st closer asked o (ToReference label os taken named link_type found h t n some l e) = subst (Spends st) (sym e) (less st.expansion_left (length found.url) (length found.title))
-    where
-      less : (a b c : ℕ) → a - b - c ≤ a
-      less a b c = omega arith
-  shape_spends st closer asked o (ToFootnote label os taken name h t on e) = subst (Spends st) (sym e) (omega arith)
-  shape_spends st closer asked o (ToWiki label os first far h t on next touched e) = subst (Spends st) (sym e) (omega arith)
+  shape_spends st closer asked o h = grind arith
 
   comes-spends : (Says : Saying) (asked : List Exchange) (st : State) (closer : Bracket) (o : Outcome) → Comes Says asked (decide reader leaf st closer) o → Spends st o
   comes-spends Says asked st closer o c = go (decide reader leaf st closer) (always-by reader leaf st closer (Spends st) (shape_spends st closer)) c
@@ -163,13 +125,8 @@ module _ (reader : Reader) (leaf : Leaf) (k : ℕ) where
   reads-spend : (Says : Saying) (a : State) (parts : Parts) (b : State) → Reads (token reader leaf) (decide reader leaf) Says a parts b → b.expansion_left ≤ a.expansion_left
   reads-spend Says a NoParts b h = subst (λ (x : State). x.expansion_left ≤ a.expansion_left) (sym h) (omega arith)
   reads-spend Says a (SinglePart item after) b h = reads-spend Says (moved h.0 a) after b h.2
-  reads-spend Says a (Form opener inside closer formed after) b h =
-      let x = reads-spend Says (opened opener a) inside h.until h.inside in
-      let y = comes-spends Says h.until.asked h.until closer (record { result = Forms (openings inside) formed; after = h.next }) h.comes in
-      let z = reads-spend Says h.next after b h.after in omega (arith, x, y, z)
-  reads-spend Says a (Closing closer after) b h =
-      let y = comes-spends Says a.asked a closer (record { result = StaysText; after = h.next }) h.comes in
-      let z = reads-spend Says h.next after b h.after in omega (arith, y, z)
+  reads-spend Says a (Form opener inside closer formed after) b h = search (rules, comes-spends, reads-spend Says (opened opener a) inside h.until h.inside, reads-spend Says h.next after b h.after)
+  reads-spend Says a (Closing closer after) b h = grind (arith, comes-spends, reads-spend Says h.next after b h.after)
   reads-spend Says a (Opening opener after) b h = reads-spend Says (opened opener a) after b h.1
 
   reads-richer : (Says : Saying) (a : State) (parts : Parts) (b : State) → 0 < b.expansion_left → Reads (token reader leaf) (decide reader leaf) Says a parts b → Reads (token reader leaf) (decide reader leaf) Says (richer a) parts (richer b)
@@ -189,15 +146,7 @@ module _ (reader : Reader) (leaf : Leaf) (k : ℕ) where
         comes = comes-follows Says h.until.asked (decide reader leaf h.until closer) (decide reader leaf (richer h.until) closer) o (decide-follows h.until closer) h.comes some;
         after = reads-richer Says h.next after b w h.after;
       }
-  reads-richer Says a (Closing closer after) b w h =
-      let o : Outcome = record { result = StaysText; after = h.next } in
-      let z = reads-spend Says h.next after b h.after in
-      record {
-        next = richer h.next;
-        closes = h.closes;
-        comes = comes-follows Says a.asked (decide reader leaf a closer) (decide reader leaf (richer a) closer) o (decide-follows a closer) h.comes (omega (arith, w, z));
-        after = reads-richer Says h.next after b w h.after;
-      }
+  reads-richer Says a (Closing closer after) b w h = grind (arith, reads-spend, comes-follows, decide-follows, reads-richer Says h.next after b w h.after)
   reads-richer Says a (Opening opener after) b w h = (h.0, reads-richer Says (opened opener a) after b w h.1)
 
 module _ (reader : Reader) (k : ℕ) (Says : Saying) where

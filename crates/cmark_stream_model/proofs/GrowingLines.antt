@@ -1,10 +1,9 @@
 -- The lines of a text that grows, and its blocks.
-use Rattle.std.proofs.Common.{◌≡◌, ℕ, suc, ◌+◌, Bool, true, false, ◌==◌, ◌&&◌, ◌||◌, not, List, [], ◌∷◌, ◌++◌, length, refl, sym, ap, ◌∙◌, arith}
+use Rattle.std.proofs.Common.{◌≡◌, ℕ, suc, ◌+◌, Bool, true, false, List, [], ◌∷◌, ◌++◌, length, refl, sym, ap, ◌∙◌, arith, rules}
 use Rattle.std.specs.Prelude.{if◌then◌else◌}
-use Rattle.cmark_grammar.specs.Characters.{carriage_return, line_feed}
-use Rattle.cmark_grammar.specs.Lines.{begins_with_line_feed, ends_line, onto, lines}
+use Rattle.cmark_grammar.specs.Lines.{ends_line, onto, lines}
 use Rattle.cmark_grammar.specs.Options.{Options}
-use Rattle.cmark_grammar.specs.Rows.{Row, row_at, rows_from, rows, shown}
+use Rattle.cmark_grammar.specs.Rows.{Row, rows_from, rows, shown}
 use Rattle.cmark_grammar.specs.Blocks.{Blocks, Nil, join}
 use Rattle.cmark_block_model.specs.BlocksModel.{blocks}
 use Rattle.cmark_block_model.specs.BlocksByLine.{OpenLines, Between, close_lines, lines_begin, lines_feed_all, blocks_by_line}
@@ -34,12 +33,7 @@ onto-append b ls first l ms e = rw e refl
 
 -- if a byte ends a line before some bytes, it also ends a line at the end of a text
 pub ends-alone : (b : ℕ) (bs : List ℕ) → ends_line b bs ≡ true → ends_line b [] ≡ true
-ends-alone b bs e = go (b == line_feed) (b == carriage_return) (begins_with_line_feed bs) e
-  where
-    go : (x y z : Bool) → (x || (y && not z)) ≡ true → (x || (y && true)) ≡ true
-    go true y z e = refl
-    go false true z e = refl
-    go false false z e = e
+ends-alone b bs e = grind arith
 
 pub lines-append : (front following : List ℕ) → ends_whole front following ≡ true → lines (front ++ following) ≡ lines front ++ lines following
 lines-append [] following e = refl
@@ -62,26 +56,15 @@ onto-total b (l ∷ ls) = omega arith
 
 pub lines-total : (text : List ℕ) → total (lines text) ≡ length text
 lines-total [] = refl
-lines-total (b ∷ bs) = go (ends_line b bs) (lines-total bs)
-  where
-    go : (z : Bool) → total (lines bs) ≡ length bs → total (if z then (b ∷ []) ∷ lines bs else onto b (lines bs)) ≡ suc (length bs)
-    go true ih = omega (arith, ih)
-    go false ih = onto-total b (lines bs) ∙ ap suc ih
+lines-total (b ∷ bs) = search (rules, onto-total, lines-total bs)
 
 rows-append : (at : ℕ) (ls ms : List (List ℕ)) → rows_from at (ls ++ ms) ≡ rows_from at ls ++ rows_from (at + total ls) ms
 rows-append at [] ms = ap (λ n. rows_from n ms) (omega arith)
-rows-append at (l ∷ ls) ms = ap (λ rs. row_at at l ∷ rs) (rows-append (at + length l) ls ms ∙ ap (λ n. rows_from (at + length l) ls ++ rows_from n ms) (sum at (length l) (total ls)))
-  where
-    sum : (a b c : ℕ) → a + b + c ≡ a + (b + c)
-    sum a b c = omega arith
+rows-append at (l ∷ ls) ms = search (rules, rows-append (at + length l) ls ms)
 
 -- the rows of a text that grows after a whole line ending
 pub rows-grow : (front following : List ℕ) → ends_whole front following ≡ true → rows (front ++ following) ≡ rows front ++ rows_from (length front) (lines following)
-rows-grow front following e =
-    ap (rows_from 0) (lines-append front following e) ∙ rows-append 0 (lines front) (lines following) ∙ ap (λ n. rows front ++ rows_from n (lines following)) (from-zero (total (lines front)) (length front) (lines-total front))
-  where
-    from-zero : (n m : ℕ) → n ≡ m → 0 + n ≡ m
-    from-zero n m h = omega (arith, h)
+rows-grow front following e = grind (arith, lines-append, rows-append, lines-total)
 
 module _ (options : Options) where
   -- the blocks before a cut stay, and the blocks after it are those of its lines alone

@@ -1,5 +1,5 @@
 -- The readings of documents that are joined.
-use Rattle.std.proofs.Common.{◌≡◌, ℕ, Bool, true, false, ◌==◌, List, [], ◌∷◌, ◌++◌, length, refl, sym, ap, ◌∙◌, subst, append_assoc, Option, Some, None}
+use Rattle.std.proofs.Common.{◌≡◌, ℕ, Bool, true, false, List, [], ◌∷◌, ◌++◌, length, refl, sym, ap, ◌∙◌, subst, append_assoc, Option, Some, None, arith, rules}
 use Rattle.std.specs.Prelude.{if◌then◌else◌}
 use Rattle.cmark_grammar.specs.Answers.{Lookup}
 use Rattle.cmark_grammar.specs.Options.{Options}
@@ -8,19 +8,19 @@ use Rattle.cmark_grammar.specs.Lines.{lines}
 use Rattle.cmark_grammar.specs.LeafReading.{Between}
 use Rattle.cmark_grammar.specs.Questions.{Exchange, Saying, IsNext}
 use Rattle.cmark_grammar.specs.Readers.{Reader}
-use Rattle.cmark_grammar.specs.References.{reference_of_kind, references}
+use Rattle.cmark_grammar.specs.References.{references}
 use Rattle.cmark_grammar.specs.Rows.{Row, start_of, last_line_end, rows_from}
 use Rattle.cmark_grammar.specs.Containers.{BlockQuote as BlockQuotePrefix, Item, Footnote, ListDefinition}
-use Rattle.cmark_grammar.specs.Openings.{Leaf, ThematicBreak as ThematicBreakLeaf, AtxHeading as AtxHeadingLeaf, IndentedCode as IndentedCodeLeaf, FencedCode as FencedCodeLeaf, HtmlBlock as HtmlBlockLeaf, LinkDefinition as LinkDefinitionLeaf, MetadataBlock as MetadataBlockLeaf, Table as TableLeaf}
+use Rattle.cmark_grammar.specs.Openings.{Leaf}
 use Rattle.cmark_grammar.specs.Blocks.{Blocks, Nil as NoBlocks, BlankLine, Paragraph as ParagraphBlock, SetextHeading, LeafBlock, ContainerBlock}
 use Rattle.cmark_block_model.specs.BlocksModel.{blocks}
 use Rattle.cmark_grammar.specs.Lists.{ListBefore, definition_delimiter, is_title, title_tight_after, tight_after, goes_on}
 use Rattle.cmark_grammar.specs.Tokens.{paragraph_tokens}
-use Rattle.cmark_grammar.specs.BlockDocument.{BlockKind, BlockNode, BlockDocument, BlockList, DefinitionList, DefinitionListTitle, Nil, Node, node, join}
-use Rattle.cmark_grammar.specs.BlockReading.{read_as, first_event, starts_before}
+use Rattle.cmark_grammar.specs.BlockDocument.{BlockKind, BlockNode, BlockDocument, DefinitionList, DefinitionListTitle, Nil, Node, node, join}
+use Rattle.cmark_grammar.specs.BlockReading.{read_as, first_event}
 use Rattle.cmark_grammar.specs.Derivation.{leaf_then, list_kind, item_then, paragraph_kind, document_of}
 use Rattle.cmark_block_model.specs.DocumentModel.{document}
-use Rattle.cmark_grammar.specs.SpanDocuments.{Profile, Segment, Given, Content, footnote_label, footnote_labels, node_segments, inside_of, with_first_segment, segments, reader_of, at_start, ReadsAll, IsReading}
+use Rattle.cmark_grammar.specs.SpanDocuments.{Profile, Segment, Given, Content, footnote_labels, segments, reader_of, at_start, ReadsAll, IsReading}
 use Rattle.cmark_block_model.proofs.BlockDocumentOne.{document-only}
 use Rattle.cmark_stream_model.specs.Growth.{ends_whole, begins_apart, blocks_at, IsCut, IsJoined, ReadInTurn, document_before, document_of_tail}
 use Rattle.cmark_stream_model.proofs.GrowingLines.{blocks-grow}
@@ -32,31 +32,18 @@ NoFirst Nil = Unit {0}
 NoFirst (Node n inside after) = (first_event (read_as n.kind) ≡ None) × NoFirst after
 
 item-first : (joins : Bool) (list : BlockKind) (n : BlockNode) (inside after : BlockDocument) → first_event (read_as list) ≡ None → NoFirst after → NoFirst (item_then joins list n inside after)
-item-first false list n inside after e h = (e, h)
-item-first true list n inside Nil e h = (e, tt)
-item-first true list n inside (Node others items after) e h = (e, h.1)
+item-first joins list n inside after e h = grind arith
 
 paragraph-first : (direct : Bool) → first_event (read_as (paragraph_kind direct)) ≡ None
 paragraph-first true = refl
 paragraph-first false = refl
 
 list-first : (d : ℕ) (number : Option ℕ) (tight : Bool) → first_event (read_as (list_kind d number tight)) ≡ None
-list-first d number tight = go (d == definition_delimiter)
-  where
-    go : (z : Bool) → first_event (read_as (if z then DefinitionList tight else BlockList number tight)) ≡ None
-    go true = refl
-    go false = refl
+list-first d number tight = grind arith
 
 module _ (text : List ℕ) (options : Options) (lookup : Lookup) where
   leaf-first : (leaf : Leaf) (first : Row) (more : List Row) (after : BlockDocument) → NoFirst after → NoFirst (leaf_then text options lookup leaf first more after)
-  leaf-first ThematicBreakLeaf first more after h = (refl, h)
-  leaf-first (AtxHeadingLeaf level) first more after h = (refl, h)
-  leaf-first IndentedCodeLeaf first more after h = (refl, h)
-  leaf-first (FencedCodeLeaf fence) first more after h = (refl, h)
-  leaf-first (HtmlBlockLeaf kind) first more after h = (refl, h)
-  leaf-first (LinkDefinitionLeaf definition) first more after h = (refl, h)
-  leaf-first (MetadataBlockLeaf kind) first more after h = (refl, h)
-  leaf-first (TableLeaf alignments) first more after h = (refl, h)
+  leaf-first leaf first more after h = grind arith
 
   pub document-first : (direct : Bool) (list : Option ListBefore) (b : Blocks) → NoFirst (document_of text options lookup direct list b)
   document-first direct list NoBlocks = tt
@@ -70,17 +57,12 @@ module _ (text : List ℕ) (options : Options) (lookup : Lookup) where
           item_then true (DefinitionList tight) (node DefinitionListTitle (start_of first) (last_line_end first more)) (paragraph_tokens text first more)
           (document_of text options lookup direct (Some (record { delimiter = definition_delimiter; tight = tight })) after))
           else Node (node (paragraph_kind direct) (start_of first) (last_line_end first more)) (paragraph_tokens text first more) (document_of text options lookup direct None after))
-      go true i j =
-          item-first true (DefinitionList (title_tight_after list after)) (node DefinitionListTitle (start_of first) (last_line_end first more)) (paragraph_tokens text first more)
-          (document_of text options lookup direct (Some (record { delimiter = definition_delimiter; tight = title_tight_after list after })) after) refl i
-      go false i j = (paragraph-first direct, j)
+      go t i j = grind (arith, item-first, paragraph-first)
   document-first direct list (SetextHeading level first more underline after) = (refl, document-first direct None after)
   document-first direct list (LeafBlock leaf first more after) = leaf-first leaf first more (document_of text options lookup direct None after) (document-first direct None after)
   document-first direct list (ContainerBlock (BlockQuotePrefix alert) first more inside after) = (refl, document-first direct None after)
   document-first direct list (ContainerBlock (Footnote label old size) first more inside after) = (refl, document-first direct None after)
-  document-first direct list (ContainerBlock (Item m number width task) first more inside after) =
-      item-first (goes_on m after) (list_kind m number (tight_after list m inside after)) _ _ (document_of text options lookup direct (Some (record { delimiter = m; tight = tight_after list m inside after })) after)
-      (list-first m number (tight_after list m inside after)) (document-first direct (Some (record { delimiter = m; tight = tight_after list m inside after })) after)
+  document-first direct list (ContainerBlock (Item m number width task) first more inside after) = search (rules, item-first, list-first, document-first direct (Some (record { delimiter = m; tight = tight_after list m inside after })) after)
   document-first direct list (ContainerBlock (ListDefinition width) first more inside after) =
       item-first (goes_on definition_delimiter after) (DefinitionList (tight_after list definition_delimiter inside after)) _ _ (document_of text options lookup direct (Some (record { delimiter = definition_delimiter; tight = tight_after list definition_delimiter inside after })) after)
       refl (document-first direct (Some (record { delimiter = definition_delimiter; tight = tight_after list definition_delimiter inside after })) after)
@@ -88,29 +70,16 @@ module _ (text : List ℕ) (options : Options) (lookup : Lookup) where
 -- the segments of joined documents are those of the first and then those of the second
 pub segments-join : (d c : BlockDocument) → NoFirst d → segments (join d c) ≡ segments d ++ segments c
 segments-join Nil c h = refl
-segments-join (Node n inside after) c h =
-    ap (λ f. with_first_segment f (starts_before (join after c)) n (own ++ segments (join after c))) h.0
-    ∙ ap (λ l. own ++ l) (segments-join after c h.1)
-    ∙ sym (append_assoc own (segments after) (segments c))
-    ∙ ap (λ f. with_first_segment f (starts_before after) n (own ++ segments after) ++ segments c) (sym h.0)
-  where
-    own : List Segment
-    own = node_segments (read_as n.kind) n (inside_of n.kind inside (segments inside))
+segments-join (Node n inside after) c h = grind (arith, append_assoc, segments-join after c h.1)
 
 -- the same is true of their definitions and footnotes
 pub references-join : (d c : BlockDocument) → references (join d c) ≡ references d ++ references c
 references-join Nil c = refl
-references-join (Node n inside after) c =
-    ap (λ l. reference_of_kind n.kind ++ (references inside ++ l)) (references-join after c)
-    ∙ ap (λ l. reference_of_kind n.kind ++ l) (sym (append_assoc (references inside) (references after) (references c)))
-    ∙ sym (append_assoc (reference_of_kind n.kind) (references inside ++ references after) (references c))
+references-join (Node n inside after) c = grind (arith, append_assoc, references-join after c)
 
 pub footnotes-join : (d c : BlockDocument) → footnote_labels (join d c) ≡ footnote_labels d ++ footnote_labels c
 footnotes-join Nil c = refl
-footnotes-join (Node n inside after) c =
-    ap (λ l. footnote_label n.kind ++ (footnote_labels inside ++ l)) (footnotes-join after c)
-    ∙ ap (λ l. footnote_label n.kind ++ l) (sym (append_assoc (footnote_labels inside) (footnote_labels after) (footnote_labels c)))
-    ∙ sym (append_assoc (footnote_label n.kind) (footnote_labels inside ++ footnote_labels after) (footnote_labels c))
+footnotes-join (Node n inside after) c = grind (arith, append_assoc, footnotes-join after c)
 
 module _ (reader : Reader) (Says : Saying) where
   -- two lists of segments are read in turn
@@ -141,16 +110,12 @@ module _ (reader : Reader) (Says : Saying) where
 -- the document of a text with a cut is the joined documents of both parts
 pub document-grow : (options : Options) (lookup : Lookup) (front following : List ℕ) (r : Row) (rs : List Row) → ends_whole front following ≡ true → rows_from (length front) (lines following) ≡ r ∷ rs → IsCut options front r rs → begins_apart (blocks_at options (length front) following) ≡ true
     → document (front ++ following) options lookup ≡ join (document_before options lookup (front ++ following) front) (document_of_tail options lookup (front ++ following) (length front) following)
-document-grow options lookup front following r rs whole are cut apart =
-    ap (document_of (front ++ following) options lookup false None) (blocks-grow options front following r rs whole are cut)
-    ∙ document-join (front ++ following) options lookup false None (blocks options front) (blocks_at options (length front) following) apart
+document-grow options lookup front following r rs whole are cut apart = grind (arith, blocks-grow, document-join)
 
 -- each reading of it is read in turn
 pub reading-grow : (profile : Profile) (front following : List ℕ) (exchanges : List Exchange) (events : List Ranged) → IsJoined profile.options profile.lookup front following → (h : IsReading (front ++ following) profile exchanges events)
     → ReadInTurn (reader_of (front ++ following) profile h.document) (IsNext exchanges) (segments (document_before profile.options profile.lookup (front ++ following) front)) (segments (document_of_tail profile.options profile.lookup (front ++ following) (length front) following)) (at_start profile) events h.after
-reading-grow profile front following exchanges events e h =
-    split (reader_of (front ++ following) profile h.document) (IsNext exchanges) (segments first) (segments second) (at_start profile) events h.after
-    (subst (λ s. ReadsAll (reader_of (front ++ following) profile h.document) (IsNext exchanges) s (at_start profile) events h.after) are_segments h.reads)
+reading-grow profile front following exchanges events e h = grind (arith, split, first, second, are_segments)
   where
     first : BlockDocument
     first = document_before profile.options profile.lookup (front ++ following) front
@@ -167,7 +132,4 @@ reading-grow profile front following exchanges events e h =
 pub tables-grow : (options : Options) (lookup : Lookup) (front following : List ℕ) → IsJoined options lookup front following
     → (references (document (front ++ following) options lookup) ≡ references (document_before options lookup (front ++ following) front) ++ references (document_of_tail options lookup (front ++ following) (length front) following))
     × (footnote_labels (document (front ++ following) options lookup) ≡ footnote_labels (document_before options lookup (front ++ following) front) ++ footnote_labels (document_of_tail options lookup (front ++ following) (length front) following))
-tables-grow options lookup front following e = (
-  ap references e ∙ references-join (document_before options lookup (front ++ following) front) (document_of_tail options lookup (front ++ following) (length front) following),
-  ap footnote_labels e ∙ footnotes-join (document_before options lookup (front ++ following) front) (document_of_tail options lookup (front ++ following) (length front) following),
-)
+tables-grow options lookup front following e = grind (arith, references-join, footnotes-join)

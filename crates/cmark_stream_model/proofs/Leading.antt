@@ -1,25 +1,24 @@
 -- If no definition lists are read, the first line of blocks decides whether they may continue a list.
-use Rattle.std.proofs.Common.{◌≡◌, ℕ, zero, suc, Bool, true, false, ◌==◌, ◌&&◌, not, List, [], ◌∷◌, ◌++◌, length, refl, sym, ap, ◌∙◌, subst, Option, Some, None, true≢false}
+use Rattle.std.proofs.Common.{◌≡◌, ℕ, zero, suc, Bool, true, false, ◌==◌, ◌&&◌, not, List, [], ◌∷◌, ◌++◌, length, refl, sym, ap, ◌∙◌, subst, Option, Some, None, true≢false, arith, rules}
 use Rattle.std.specs.Prelude.{if◌then◌else◌, nat_le}
 use Rattle.cmark_grammar.specs.Alignment.{Alignment}
 use Rattle.cmark_grammar.specs.BlockQuoteKind.{BlockQuoteKind}
 use Rattle.cmark_grammar.specs.Options.{Options}
 use Rattle.cmark_grammar.specs.Places.{Apart}
 use Rattle.cmark_grammar.specs.Rows.{Row, shown, is_blank_line, indent_of, words_of}
-use Rattle.cmark_grammar.specs.Leaves.{Fence, Continuation, GoesOn, Closes, Waits, Stops, underlines, is_thematic_break, is_atx_heading, run, fence_of, counted, code_continuation}
-use Rattle.cmark_grammar.specs.LinkDefinitions.{Parsed, Defined, definition_in, bytes_over}
-use Rattle.cmark_grammar.specs.HtmlBlocks.{html_kind, holds_end}
-use Rattle.cmark_grammar.specs.Footnotes.{Footnotes, Off, Gfm, Old, footnotes_in, footnote_in}
-use Rattle.cmark_grammar.specs.Containers.{Container, BlockQuote, Item, Footnote, ListDefinition, Marker, marker_of, width_with, item_with, item_of, is_block_quote, container_with, footnote_with, footnote_of, footnote_or, with_task, container_of, enter, keeps, strip, is_bare_start, bare_after}
+use Rattle.cmark_grammar.specs.Leaves.{Fence, Continuation, counted, code_continuation}
+use Rattle.cmark_grammar.specs.LinkDefinitions.{Parsed, Defined}
+use Rattle.cmark_grammar.specs.HtmlBlocks.{holds_end}
+use Rattle.cmark_grammar.specs.Footnotes.{Footnotes, footnotes_in}
+use Rattle.cmark_grammar.specs.Containers.{Container, BlockQuote, Item, Footnote, ListDefinition, Marker, marker_of, item_with, item_of, is_block_quote, container_with, footnote_with, footnote_of, footnote_or, with_task, container_of, enter, keeps, strip, is_bare_start, bare_after}
 use Rattle.cmark_grammar.specs.DefinitionLists.{is_definition}
-use Rattle.cmark_grammar.specs.Metadata.{metadata_kind, holds_metadata, metadata_continuation}
+use Rattle.cmark_grammar.specs.Metadata.{metadata_kind}
 use Rattle.cmark_grammar.specs.MetadataBlockKind.{MetadataBlockKind}
-use Rattle.cmark_grammar.specs.TableRows.{table_head}
-use Rattle.cmark_grammar.specs.Openings.{Leaf, IndentedCode, HtmlBlock, MetadataBlock, Opening, Blank, Nests, Takes, Plain, or_else, nests_if, fenced_if, html_if, break_if, heading_if, metadata_begun, defined_if, begins_no_link, texts, lazily, text_lines, definition_of, table_if, text_of, leaf_of, whole_opens, opens, opens_at}
+use Rattle.cmark_grammar.specs.Openings.{Leaf, IndentedCode, HtmlBlock, Opening, Blank, Nests, Takes, Plain, or_else, nests_if, fenced_if, html_if, break_if, heading_if, metadata_begun, defined_if, lazily, table_if, text_of, leaf_of, whole_opens, opens, opens_at}
 use Rattle.cmark_grammar.specs.Blocks.{Blocks, Nil, BlankLine, Paragraph, SetextHeading, LeafBlock, ContainerBlock, join, place_in}
 use Rattle.cmark_grammar.specs.Lists.{definition_delimiter, is_title, goes_on}
 use Rattle.cmark_block_model.specs.BlocksModel.{within, place_after}
-use Rattle.cmark_block_model.specs.BlocksByLine.{leaf_in, continuation_if, OpenLines, Between, AfterTag, InParagraph, InLeaf, InVerbatim, InContainer, blank_lines, close_lines, lines_take_lazy, html_begun, leaf_begun, lines_begin_as, lines_underline_or, lines_go_on_or, lines_kept_or, verbatim_line, lines_begin_in, lines_begin, lines_feed, lines_feed_all}
+use Rattle.cmark_block_model.specs.BlocksByLine.{leaf_in, continuation_if, OpenLines, Between, AfterTag, InParagraph, InLeaf, InVerbatim, InContainer, blank_lines, close_lines, lines_take_lazy, html_begun, leaf_begun, lines_begin_as, lines_kept_or, verbatim_line, lines_begin_in, lines_begin, lines_feed, lines_feed_all}
 use Rattle.cmark_block_model.proofs.BlockLaws.{at-plain, off-defines}
 use Rattle.cmark_stream_model.specs.Growth.{is_blank, begins_apart, continues, is_outside_of_lists, may_continue}
 use Rattle.cmark_stream_model.proofs.GrowingTables.{no-task}
@@ -43,33 +42,20 @@ no-nests None h = tt
 no-nests (Some k) h = h
 
 item-other : (r : Row) (m : Option Marker) → NoneOrOther (item_with r m)
-item-other r None = tt
-item-other r (Some m) = go _
-  where
-    go : (z : Bool) → NoneOrOther (if z then Some (Item m.delimiter m.number (width_with m.size r) None) else None)
-    go true = refl
-    go false = tt
+item-other r m = grind arith
 
 task-other : (options : Options) (r : Row) (o : Option Container) → NoneOrOther o → NoneOrOther (with_task options r o)
-task-other options r None h = tt
-task-other options r (Some (BlockQuote alert)) h = refl
-task-other options r (Some (Item delimiter number width task)) h = refl
-task-other options r (Some (Footnote label old size)) h = refl
-task-other options r (Some (ListDefinition width)) h = h
+task-other options r o h = grind arith
 
 quote-other : (o : Option Container) (quoted : Bool) (alert : Option BlockQuoteKind) → NoneOrOther o → NoneOrOther (container_with o quoted alert)
-quote-other (Some k) quoted alert h = h
-quote-other None true alert h = refl
-quote-other None false alert h = tt
+quote-other o quoted alert h = grind arith
 
 footnote_with-other : (old : Bool) (r : Row) (o : Option Parsed) → NoneOrOther (footnote_with old r o)
 footnote_with-other old r None = tt
 footnote_with-other old r (Some found) = refl
 
 footnote_of-other : (footnotes : Footnotes) (r : Row) → NoneOrOther (footnote_of footnotes r)
-footnote_of-other Off r = tt
-footnote_of-other Gfm r = footnote_with-other false r (footnote_in (words_of r))
-footnote_of-other Old r = footnote_with-other true r (footnote_in (words_of r))
+footnote_of-other footnotes r = grind (arith, footnote_with-other)
 
 or-other : (a b : Option Container) → NoneOrOther a → NoneOrOther b → NoneOrOther (footnote_or a b)
 or-other None b h k = k
@@ -108,33 +94,19 @@ module _ (options : Options) where
   no-link false x h = h
 
   no-text : (r : Row) (ahead : List Row) → NoDefinition (text_of options r ahead)
-  no-text r ahead =
-      no-or (definition_of options r ahead) (table_if options (table_head options r ahead) ahead)
-      (no-link (begins_no_link (footnotes_in options) (words_of r)) (defined_if (length (text_lines options ahead)) (definition_in (bytes_over r (text_lines options ahead)))) (no-defined (length (text_lines options ahead)) (definition_in (bytes_over r (text_lines options ahead)))))
-      (no-table (table_head options r ahead) ahead)
+  no-text r ahead = grind (arith, no-or, no-link, no-defined, no-table)
 
   no-leaf : (r : Row) (ahead : List Row) → NoDefinition (leaf_of options r ahead)
-  no-leaf r ahead =
-      no-or (html_if r ahead (html_kind (words_of r))) _ (no-html r ahead (html_kind (words_of r)))
-      (no-or (break_if (is_thematic_break (words_of r))) _ (no-break (is_thematic_break (words_of r)))
-      (no-or (heading_if (is_atx_heading (words_of r)) (run 35 (words_of r))) _ (no-heading (is_atx_heading (words_of r)) (run 35 (words_of r)))
-      (no-or (fenced_if (fence_of (indent_of r) (words_of r)) ahead) _ (no-fence (fence_of (indent_of r) (words_of r)) ahead) (no-text r ahead))))
+  no-leaf r ahead = grind (arith, no-or, no-html, no-break, no-heading, no-fence, no-text)
 
   no-whole : (r : Row) (ahead : List Row) → NoDefinition (whole_opens options r ahead)
   no-whole r ahead = go (is_blank_line r) (nat_le 4 (indent_of r))
     where
       go : (x y : Bool) → NoDefinition (if x then Blank else if y then Takes IndentedCode (counted code_continuation ahead) else or_else (nests_if (container_of options r)) (leaf_of options r ahead))
-      go true y = tt
-      go false true = tt
-      go false false = no-or (nests_if (container_of options r)) (leaf_of options r ahead) (no-nests (container_of options r) (container-other r)) (no-leaf r ahead)
+      go x y = grind (arith, no-or, no-nests, container-other, no-leaf)
 
   no-metadata : (k : Option MetadataBlockKind) (ahead : List Row) → NoDefinition (metadata_begun k ahead)
-  no-metadata None ahead = tt
-  no-metadata (Some kind) ahead = go (holds_metadata kind ahead)
-    where
-      go : (z : Bool) → NoDefinition (if z then Takes (MetadataBlock kind) (counted (metadata_continuation kind) ahead) else Plain)
-      go true = tt
-      go false = tt
+  no-metadata k ahead = grind arith
 
   no-opens : (r : Row) (ahead : List Row) → NoDefinition (opens options r ahead)
   unfolding opens
@@ -272,22 +244,10 @@ leads-blanks other text so [] = refl
 leads-blanks other text so (w ∷ ws) = leads-blanks other text so ws
 
 pub close-none : (o : OpenLines) → NoneOpen o → NoDefinitions (close_lines o)
-close-none (Between closed) h = h
-close-none AfterTag h = absurd h
-close-none (InParagraph closed first more) h = no-join closed (Paragraph first more Nil) h tt
-close-none (InLeaf closed leaf first had left) h = no-join closed (LeafBlock leaf first had Nil) h tt
-close-none (InVerbatim closed verbatim first had waiting) h = no-join (join closed (LeafBlock (leaf_in verbatim) first had Nil)) (blank_lines waiting) (no-join closed (LeafBlock (leaf_in verbatim) first had Nil) h tt) (no-blanks waiting)
-close-none (InContainer closed k first more inside) h = no-join closed (ContainerBlock k first more (close_lines inside) Nil) h.0 (h.1, tt)
+close-none o h = grind (arith, no-join, no-blanks)
 
 close-leads : (other : ℕ → Bool) (text : Bool) → (o : OpenLines) → LeadsOpen other text o → first_leads other text false (close_lines o) ≡ true
-close-leads other text (Between closed) h = h
-close-leads other text AfterTag h = absurd h
-close-leads other text (InParagraph closed first more) h = leads-join other text false closed (Paragraph first more Nil) ∙ h
-close-leads other text (InLeaf closed leaf first had left) h = leads-join other text false closed (LeafBlock leaf first had Nil) ∙ h
-close-leads other text (InVerbatim closed verbatim first had waiting) h =
-    leads-join other text false (join closed (LeafBlock (leaf_in verbatim) first had Nil)) (blank_lines waiting) ∙ ap (λ z. first_leads other text z (join closed (LeafBlock (leaf_in verbatim) first had Nil))) (leads-blanks other text false waiting)
-    ∙ leads-join other text false closed (LeafBlock (leaf_in verbatim) first had Nil) ∙ h
-close-leads other text (InContainer closed k first more inside) h = leads-join other text false closed (ContainerBlock k first more (close_lines inside) Nil) ∙ h
+close-leads other text o h = grind (arith, leads-join, leads-blanks)
 
 html-none : (z : Bool) (closed : Blocks) (kind : ℕ) (r : Row) → NoDefinitions closed → NoneOpen (html_begun z closed kind r)
 html-none true closed kind r h = h
@@ -306,16 +266,10 @@ leaf-leads other text (HtmlBlock kind) n closed r h = html-leads other text (nat
 leaf-leads other text _ n closed r h = h
 
 pub begun-none : (o : Opening) (inside : Container → OpenLines) (closed : Blocks) (r : Row) → NoDefinition o → NoDefinitions closed → NoneOpen (lines_begin_as o inside closed r)
-begun-none Blank inside closed r n h = no-join closed (BlankLine r Nil) h tt
-begun-none (Nests k) inside closed r n h = (h, n)
-begun-none (Takes leaf m) inside closed r n h = leaf-none leaf m closed r h
-begun-none Plain inside closed r n h = h
+begun-none o inside closed r n h = grind (arith, no-join, leaf-none)
 
 begun-leads : (other : ℕ → Bool) (text : Bool) → (o : Opening) (inside : Container → OpenLines) (closed : Blocks) (r : Row) → first_leads other text false closed ≡ true → LeadsOpen other text (lines_begin_as o inside closed r)
-begun-leads other text Blank inside closed r h = leads-join other text false closed (BlankLine r Nil) ∙ h
-begun-leads other text (Nests k) inside closed r h = leads-more other text (leads_in other k) closed h
-begun-leads other text (Takes leaf m) inside closed r h = leaf-leads other text leaf m closed r (leads-more other text true closed h)
-begun-leads other text Plain inside closed r h = leads-more other text text closed h
+begun-leads other text o inside closed r h = search (rules, leads-join, leads-more, leaf-leads)
 
 -- a line begins a block of this kind
 abbrev Leads : (other : ℕ → Bool) (text : Bool) → Opening → Type 0
@@ -325,60 +279,31 @@ Leads other text (Takes leaf more) = Unit {0}
 Leads other text Plain = text ≡ true
 
 first-leads : (other : ℕ → Bool) (text : Bool) → (o : Opening) (inside : Container → OpenLines) (r : Row) → Leads other text o → LeadsOpen other text (lines_begin_as o inside Nil r)
-first-leads other text Blank inside r e = absurd e
-first-leads other text (Takes leaf m) inside r e = leaf-leads other text leaf m Nil r refl
-first-leads other text _ inside r e = e
+first-leads other text o inside r e = grind (arith, leaf-leads)
 
 -- the line begins no item
 outside-leads : (o : Opening) → is_outside_of_lists o ≡ true → Leads (λ m. false) true o
-outside-leads Blank e = absurd (true≢false (sym e))
-outside-leads (Nests (BlockQuote alert)) e = refl
-outside-leads (Nests (Item delimiter number width task)) e = absurd (true≢false (sym e))
-outside-leads (Nests (Footnote label old size)) e = refl
-outside-leads (Nests (ListDefinition width)) e = absurd (true≢false (sym e))
-outside-leads (Takes leaf m) e = tt
-outside-leads Plain e = refl
+outside-leads o e = grind arith
 
 -- the line begins a block that is no item of this list, and no title that may continue it
 another-leads : (titles : Bool) (d : ℕ) (text : Bool) → ((titles && (definition_delimiter == d)) ≡ false → text ≡ true) → (o : Opening) → may_continue titles (Some d) o ≡ false → Leads (λ m. not (m == d)) text o
-another-leads titles d text h Blank e = absurd (true≢false e)
-another-leads titles d text h (Nests (BlockQuote alert)) e = refl
-another-leads titles d text h (Nests (Item delimiter number width task)) e = ap not e
-another-leads titles d text h (Nests (Footnote label old size)) e = refl
-another-leads titles d text h (Nests (ListDefinition width)) e = absurd (true≢false e)
-another-leads titles d text h (Takes leaf m) e = tt
-another-leads titles d text h Plain e = h e
+another-leads titles d text h o e = grind arith
 
 -- any line that is not blank begins some block
 some-leads : (o : Opening) → NoDefinition o → is_blank o ≡ false → Leads (λ m. true) true o
-some-leads Blank n e = absurd (true≢false e)
-some-leads (Nests (BlockQuote alert)) n e = refl
-some-leads (Nests (Item delimiter number width task)) n e = refl
-some-leads (Nests (Footnote label old size)) n e = refl
-some-leads (Nests (ListDefinition width)) n e = absurd (true≢false n)
-some-leads (Takes leaf m) n e = tt
-some-leads Plain n e = refl
+some-leads o n e = grind arith
 
 -- ## No definitions, line by line
 
 module _ (options : Options) (off : options.definition_list ≡ false) where
   begin-none : (closed : Blocks) (r : Row) (ahead : List Row) → NoDefinitions closed → NoneOpen (lines_begin options closed r ahead)
   unfolding lines_begin
-  begin-none closed r ahead n = begun-none (opens_at options (place_after Apart closed) r ahead) inside closed r (no-at options off closed r ahead) n
-    where
-      inside : Container → OpenLines
-      inside k = lines_begin_in options (length r.columns) (place_in k) Nil (enter k r) (within k (is_bare_start k r) ahead)
+  begin-none closed r ahead n = grind (arith, begun-none, no-at)
 
   feed-none : (o : OpenLines) (r : Row) (ahead : List Row) → NoneOpen o → NoneOpen (lines_feed options o r ahead)
   feed-none (Between closed) r ahead g = begin-none closed r ahead g
   feed-none AfterTag r ahead g = absurd g
-  feed-none (InParagraph closed first more) r ahead g = go (underlines r) (texts options r ahead) (begin-none (join closed (Paragraph first more Nil)) r ahead (close-none (InParagraph closed first more) g))
-    where
-      go : (u : Option ℕ) (t : Bool) → NoneOpen (lines_begin options (join closed (Paragraph first more Nil)) r ahead)
-          → NoneOpen (lines_underline_or u (λ level. Between (join closed (SetextHeading level first more r Nil))) (lines_go_on_or t (InParagraph closed first (more ++ r ∷ [])) (lines_begin options (join closed (Paragraph first more Nil)) r ahead)))
-      go (Some level) t b = no-join closed (SetextHeading level first more r Nil) g tt
-      go None true b = g
-      go None false b = b
+  feed-none (InParagraph closed first more) r ahead g = grind (arith, begin-none, close-none, no-join)
   feed-none (InLeaf closed leaf first had zero) r ahead g = begin-none (join closed (LeafBlock leaf first had Nil)) r ahead (close-none (InLeaf closed leaf first had 0) g)
   feed-none (InLeaf closed leaf first had (suc left)) r ahead g = g
   feed-none (InVerbatim closed verbatim first had waiting) r ahead g =
@@ -386,10 +311,7 @@ module _ (options : Options) (off : options.definition_list ≡ false) where
     where
       go : (k : Continuation) → NoneOpen (lines_begin options (join (join closed (LeafBlock (leaf_in verbatim) first had Nil)) (blank_lines waiting)) r ahead)
           → NoneOpen (verbatim_line k closed verbatim first had waiting r (lines_begin options (join (join closed (LeafBlock (leaf_in verbatim) first had Nil)) (blank_lines waiting)) r ahead))
-      go GoesOn b = g
-      go Closes b = g
-      go Waits b = g
-      go Stops b = b
+      go k b = grind arith
   feed-none (InContainer closed k first more inside) r ahead g =
       go (keeps k (bare_after (is_bare_start k first) more) r) (lazily options k r ahead && lines_take_lazy inside) (begin-none (join closed (ContainerBlock k first more (close_lines inside) Nil)) r ahead (close-none (InContainer closed k first more inside) g))
     where
@@ -398,9 +320,7 @@ module _ (options : Options) (off : options.definition_list ≡ false) where
 
       go : (o : Option Row) (z : Bool) → NoneOpen (lines_begin options (join closed (ContainerBlock k first more (close_lines inside) Nil)) r ahead)
           → NoneOpen (lines_kept_or o z (InContainer closed k first (more ++ r ∷ []) on) (lines_begin options (join closed (ContainerBlock k first more (close_lines inside) Nil)) r ahead))
-      go (Some s) z b = g
-      go None true b = g
-      go None false b = b
+      go o z b = grind arith
 
   all-none : (o : OpenLines) (rs : List Row) → NoneOpen o → NoneOpen (lines_feed_all options o rs)
   all-none o [] g = g
@@ -421,35 +341,7 @@ module _ (options : Options) (other : ℕ → Bool) (text : Bool) where
   following-leads o r ahead g = begin-leads (close_lines o) r ahead (close-leads other text o g)
 
   feed-leads : (o : OpenLines) (r : Row) (ahead : List Row) → LeadsOpen other text o → LeadsOpen other text (lines_feed options o r ahead)
-  feed-leads (Between closed) r ahead g = begin-leads closed r ahead g
-  feed-leads AfterTag r ahead g = absurd g
-  feed-leads (InParagraph closed first more) r ahead g = go (underlines r) (texts options r ahead) (following-leads (InParagraph closed first more) r ahead g)
-    where
-      go : (u : Option ℕ) (t : Bool) → LeadsOpen other text (lines_begin options (join closed (Paragraph first more Nil)) r ahead)
-          → LeadsOpen other text (lines_underline_or u (λ level. Between (join closed (SetextHeading level first more r Nil))) (lines_go_on_or t (InParagraph closed first (more ++ r ∷ [])) (lines_begin options (join closed (Paragraph first more Nil)) r ahead)))
-      go (Some level) t b = leads-join other text false closed (SetextHeading level first more r Nil) ∙ leads-text other text closed g
-      go None true b = g
-      go None false b = b
-  feed-leads (InLeaf closed leaf first had zero) r ahead g = following-leads (InLeaf closed leaf first had 0) r ahead g
-  feed-leads (InLeaf closed leaf first had (suc left)) r ahead g = g
-  feed-leads (InVerbatim closed verbatim first had waiting) r ahead g = go (continuation_if r.lazy verbatim r) (following-leads (InVerbatim closed verbatim first had waiting) r ahead g)
-    where
-      go : (c : Continuation) → LeadsOpen other text (lines_begin options (join (join closed (LeafBlock (leaf_in verbatim) first had Nil)) (blank_lines waiting)) r ahead)
-          → LeadsOpen other text (verbatim_line c closed verbatim first had waiting r (lines_begin options (join (join closed (LeafBlock (leaf_in verbatim) first had Nil)) (blank_lines waiting)) r ahead))
-      go GoesOn b = g
-      go Closes b = g
-      go Waits b = g
-      go Stops b = b
-  feed-leads (InContainer closed k first more inside) r ahead g = go (keeps k (bare_after (is_bare_start k first) more) r) (lazily options k r ahead && lines_take_lazy inside) (following-leads (InContainer closed k first more inside) r ahead g)
-    where
-      on : OpenLines
-      on = lines_feed options inside (strip k (bare_after (is_bare_start k first) more) r) (within k false ahead)
-
-      go : (o : Option Row) (z : Bool) → LeadsOpen other text (lines_begin options (join closed (ContainerBlock k first more (close_lines inside) Nil)) r ahead)
-          → LeadsOpen other text (lines_kept_or o z (InContainer closed k first (more ++ r ∷ []) on) (lines_begin options (join closed (ContainerBlock k first more (close_lines inside) Nil)) r ahead))
-      go (Some s) z b = g
-      go None true b = g
-      go None false b = b
+  feed-leads o r ahead g = search (rules, begin-leads, following-leads, leads-join, leads-text)
 
   all-leads : (o : OpenLines) (rs : List Row) → LeadsOpen other text o → LeadsOpen other text (lines_feed_all options o rs)
   all-leads o [] g = g
@@ -478,17 +370,4 @@ module _ (options : Options) (r : Row) (rs : List Row) where
   lines-untitled e = untitled-of (λ m. true) true (close_lines after_all) (lines-lead options (λ m. true) true r rs (some-leads (opens_at options Apart r (shown rs)) (no-opens options r (shown rs)) e))
 
   pub lines-continue : (list : Option ℕ) → may_continue options.definition_list list (opens_at options Apart r (shown rs)) ≡ false → continues list (close_lines after_all) ≡ false
-  lines-continue None e = refl
-  lines-continue (Some d) e = go options.definition_list refl e
-    where
-      firm : (z : Bool) → (true && z) ≡ false → not z ≡ true
-      firm true h = absurd (true≢false h)
-      firm false h = refl
-
-      go : (z : Bool) → options.definition_list ≡ z → may_continue z (Some d) (opens_at options Apart r (shown rs)) ≡ false → goes_on d (close_lines after_all) ≡ false
-      go false q h =
-          goes-of d (close_lines after_all) (none-after q)
-          (lines-lead options (λ m. not (m == d)) true r rs (another-leads false d true (λ x. refl) (opens_at options Apart r (shown rs)) h))
-      go true q h =
-          goes-firm d (close_lines after_all)
-          (lines-lead options (λ m. not (m == d)) (not (definition_delimiter == d)) r rs (another-leads true d (not (definition_delimiter == d)) (firm (definition_delimiter == d)) (opens_at options Apart r (shown rs)) h))
+  lines-continue list e = grind (arith, goes-of, none-after, lines-lead, another-leads, goes-firm)

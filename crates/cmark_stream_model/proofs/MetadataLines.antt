@@ -1,5 +1,5 @@
 -- Metadata begins only on whole lines: a line inside a container has lost a column, is held, or lacks a prefix.
-use Rattle.std.proofs.Common.{◌≡◌, ◌⊎◌, inl, inr, ⊎_elim, ℕ, zero, suc, ◌+◌, ◌-◌, ◌<◌, Bool, true, false, ◌==◌, ◌&&◌, ◌||◌, not, List, [], ◌∷◌, ◌++◌, length, drop, refl, ap, ◌∙◌, subst, Option, Some, None, arith, ne_eqb}
+use Rattle.std.proofs.Common.{◌≡◌, ◌⊎◌, inl, inr, ⊎_elim, ℕ, zero, suc, ◌+◌, ◌-◌, ◌<◌, Bool, true, false, ◌==◌, ◌&&◌, ◌||◌, not, List, [], ◌∷◌, ◌++◌, length, drop, refl, ap, ◌∙◌, subst, Option, Some, None, arith, ne_eqb, rules}
 use Rattle.std.specs.Prelude.{if◌then◌else◌, nat_le}
 use Rattle.cmark_grammar.specs.Characters.{tab}
 use Rattle.cmark_grammar.specs.Columns.{Column, expand, tab_columns, to_tab_stop, bytes_of}
@@ -10,12 +10,11 @@ use Rattle.cmark_grammar.specs.Options.{Options}
 use Rattle.cmark_grammar.specs.Places.{Place, Apart, AfterLazy}
 use Rattle.cmark_grammar.specs.Rows.{Row, row_at, without, hold, place, first_place, begin_of, is_blank_line, is_whole_line, indent_of, rows_from, words_of}
 use Rattle.cmark_grammar.specs.HtmlBlocks.{holds_end}
-use Rattle.cmark_grammar.specs.Leaves.{Continuation, GoesOn, Closes, Waits, Stops, underlines}
-use Rattle.cmark_grammar.specs.Containers.{Container, BlockQuote, Item, Footnote, ListDefinition, is_block_quote, block_quote_width, marker_width, width_of, enter, keep_as, keeps, strip_as, strip, is_alert, is_bare_start, bare_after}
-use Rattle.cmark_grammar.specs.Openings.{Leaf, HtmlBlock, Opening, Blank, Nests, Takes, Plain, opens_at, texts, lazily}
-use Rattle.cmark_grammar.specs.Blocks.{Blocks, Nil, Paragraph, SetextHeading, LeafBlock, ContainerBlock, join, place_in}
+use Rattle.cmark_grammar.specs.Containers.{Container, BlockQuote, Item, Footnote, ListDefinition, is_block_quote, block_quote_width, marker_width, width_of, enter, keep_as, keeps, strip_as, strip, is_bare_start, bare_after}
+use Rattle.cmark_grammar.specs.Openings.{Leaf, HtmlBlock, Opening, Nests, opens_at}
+use Rattle.cmark_grammar.specs.Blocks.{Blocks, Nil, LeafBlock, join, place_in}
 use Rattle.cmark_block_model.specs.BlocksModel.{within, place_after}
-use Rattle.cmark_block_model.specs.BlocksByLine.{leaf_in, continuation_if, OpenLines, Between, AfterTag, InParagraph, InLeaf, InVerbatim, InContainer, blank_lines, close_lines, lines_take_lazy, html_begun, leaf_begun, lines_inside_begun, lines_begin_as, lines_begin_in, lines_begin, lines_underline_or, lines_go_on_or, lines_kept_or, verbatim_line, lines_feed}
+use Rattle.cmark_block_model.specs.BlocksByLine.{OpenLines, Between, AfterTag, InParagraph, InLeaf, InVerbatim, InContainer, html_begun, leaf_begun, lines_begin_as, lines_begin_in, lines_begin, lines_feed}
 use Rattle.cmark_block_model.proofs.BlockLaws.{IsWide, at-wide, marker-within}
 use Rattle.cmark_block_model.proofs.RowPlaces.{Runs, drop-Runs, expand-Runs}
 
@@ -105,11 +104,7 @@ module _ (options : Options) where
       go : (z : Bool) → (if z then Some (without (block_quote_width r) r) else None) ≡ Some s → IsInside s
       go true q = let p : without (block_quote_width r) r ≡ s = cc in subst IsInside p (without-inside (block_quote_width r) r (omega arith) h)
       go false q = absurd (let p : None ≡ Some s = q in cc)
-  kept_as-inside (Footnote label true size) r s w h e = go _ e
-    where
-      go : (z : Bool) → (if z then None else Some (hold r)) ≡ Some s → IsInside s
-      go true q = absurd (let p : None ≡ Some s = q in cc)
-      go false q = let p : hold r ≡ s = cc in subst IsInside p (hold-inside r)
+  kept_as-inside (Footnote label true size) r s w h e = search (rules, hold-inside)
   kept_as-inside (Footnote label false size) r s w h e = wide-inside 4 r s (omega arith) h e
   kept_as-inside (Item delimiter number width task) r s w h e = wide-inside width r s w h e
   kept_as-inside (ListDefinition width) r s w h e = wide-inside width r s w h e
@@ -132,11 +127,7 @@ module _ (options : Options) where
 
   -- a line in a container is lazy, or begins no metadata
   pub strip-told : (k : Container) (bare : Bool) (r : Row) → HasPrefix k → IsWholly r → ((strip k bare r).lazy ≡ true) ⊎ (metadata_kind options (strip k bare r) ≡ None)
-  strip-told k bare r w h = go (keeps k bare r) refl
-    where
-      go : (o : Option Row) → keeps k bare r ≡ o → ((strip_as o r).lazy ≡ true) ⊎ (metadata_kind options (strip_as o r) ≡ None)
-      go None e = inl refl
-      go (Some s) e = inr (kept-inside k bare r s w h e).0
+  strip-told k bare r w h = grind (arith, kept-inside)
 
   -- the first line of a container, inside of it
   pub enter-wholly : (k : Container) (r : Row) → IsWholly r → IsWholly (enter k r)
@@ -144,16 +135,11 @@ module _ (options : Options) where
   enter-wholly k r h = without-wholly (width_of k r) r h
 
   opened-prefix : (k : Container) (r : Row) → indent_of r < marker_width k r → HasPrefix k
-  opened-prefix (Item delimiter number width task) r lt = omega (arith, lt)
-  opened-prefix (ListDefinition width) r lt = omega (arith, lt)
-  opened-prefix _ r lt = tt
+  opened-prefix k r lt = grind arith
 
   pub enter-none : (k : Container) (place : Place) (r : Row) (ahead : List Row) → opens_at options place r ahead ≡ Nests k → IsWholly r → metadata_kind options (enter k r) ≡ None
   unfolding enter
-  enter-none k place r ahead e h =
-      let own : indent_of r < marker_width k r = subst (IsWide options r) e (at-wide options place r ahead) in
-      let within = marker-within options k r in
-      (without-inside (width_of k r) r (omega (arith, own, within)) h).0
+  enter-none k place r ahead e h = grind (arith, at-wide, marker-within, without-inside)
 
   -- ## The open containers take columns
 
@@ -166,14 +152,7 @@ module _ (options : Options) where
   leaf-prefixed _ n closed r = tt
 
   begun-prefixed : (o : Opening) (inside : Container → OpenLines) (closed : Blocks) (r : Row) → IsWide options r o → ((k : Container) → ArePrefixed (inside k)) → ArePrefixed (lines_begin_as o inside closed r)
-  begun-prefixed Blank inside closed r w h = tt
-  begun-prefixed (Nests k) inside closed r w h = (opened-prefix k r w, tagged (is_alert k))
-    where
-      tagged : (z : Bool) → ArePrefixed (lines_inside_begun z (inside k))
-      tagged true = tt
-      tagged false = h k
-  begun-prefixed (Takes leaf n) inside closed r w h = leaf-prefixed leaf n closed r
-  begun-prefixed Plain inside closed r w h = tt
+  begun-prefixed o inside closed r w h = grind (arith, opened-prefix, leaf-prefixed)
 
   begin_in-prefixed : (n : ℕ) (place : Place) (closed : Blocks) (r : Row) (ahead : List Row) → ArePrefixed (lines_begin_in options n place closed r ahead)
   begin_in-prefixed zero place closed r ahead = tt
@@ -188,31 +167,11 @@ module _ (options : Options) where
   pub feed-prefixed : (o : OpenLines) (r : Row) (ahead : List Row) → ArePrefixed o → ArePrefixed (lines_feed options o r ahead)
   feed-prefixed (Between closed) r ahead h = begin-prefixed closed r ahead
   feed-prefixed AfterTag r ahead h = begin_in-prefixed (suc (length r.columns)) AfterLazy Nil r ahead
-  feed-prefixed (InParagraph closed first more) r ahead h = go (underlines r) (texts options r ahead)
-    where
-      go : (u : Option ℕ) (t : Bool) → ArePrefixed (lines_underline_or u (λ level. Between (join closed (SetextHeading level first more r Nil))) (lines_go_on_or t (InParagraph closed first (more ++ r ∷ [])) (lines_begin options (join closed (Paragraph first more Nil)) r ahead)))
-      go (Some level) t = tt
-      go None true = tt
-      go None false = begin-prefixed (join closed (Paragraph first more Nil)) r ahead
+  feed-prefixed (InParagraph closed first more) r ahead h = grind (arith, begin-prefixed)
   feed-prefixed (InLeaf closed leaf first had zero) r ahead h = begin-prefixed (join closed (LeafBlock leaf first had Nil)) r ahead
   feed-prefixed (InLeaf closed leaf first had (suc left)) r ahead h = tt
-  feed-prefixed (InVerbatim closed verbatim first had waiting) r ahead h = go (continuation_if r.lazy verbatim r)
-    where
-      go : (c : Continuation) → ArePrefixed (verbatim_line c closed verbatim first had waiting r (lines_begin options (join (join closed (LeafBlock (leaf_in verbatim) first had Nil)) (blank_lines waiting)) r ahead))
-      go GoesOn = tt
-      go Closes = tt
-      go Waits = tt
-      go Stops = begin-prefixed (join (join closed (LeafBlock (leaf_in verbatim) first had Nil)) (blank_lines waiting)) r ahead
-  feed-prefixed (InContainer closed k first more inside) r ahead h =
-      go (feed-prefixed inside (strip k (bare_after (is_bare_start k first) more) r) (within k false ahead) h.1) (keeps k (bare_after (is_bare_start k first) more) r) (lazily options k r ahead && lines_take_lazy inside)
-    where
-      on : OpenLines
-      on = lines_feed options inside (strip k (bare_after (is_bare_start k first) more) r) (within k false ahead)
-
-      go : ArePrefixed (lines_feed options inside (strip k (bare_after (is_bare_start k first) more) r) (within k false ahead)) → (o : Option Row) (z : Bool) → ArePrefixed (lines_kept_or o z (InContainer closed k first (more ++ r ∷ []) on) (lines_begin options (join closed (ContainerBlock k first more (close_lines inside) Nil)) r ahead))
-      go inner (Some s) z = (h.0, inner)
-      go inner None true = (h.0, inner)
-      go inner None false = begin-prefixed (join closed (ContainerBlock k first more (close_lines inside) Nil)) r ahead
+  feed-prefixed (InVerbatim closed verbatim first had waiting) r ahead h = grind (arith, begin-prefixed)
+  feed-prefixed (InContainer closed k first more inside) r ahead h = search (rules, begin-prefixed, feed-prefixed inside (strip k (bare_after (is_bare_start k first) more) r) (within k false ahead) h.1)
 
   -- ## Lines of a text
 

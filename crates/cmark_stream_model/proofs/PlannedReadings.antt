@@ -1,10 +1,10 @@
 -- The law of a text that grows, if the answers are those of a plan.
-use Rattle.std.proofs.Common.{◌≡◌, ℕ, List, [], ◌∷◌, ◌++◌, sym, ap, ◌∙◌, subst, append_assoc, append-nil, Option}
+use Rattle.std.proofs.Common.{◌≡◌, ℕ, List, [], ◌∷◌, ◌++◌, sym, ap, ◌∙◌, subst, append_assoc, append-nil, Option, arith}
 use Rattle.cmark_grammar.specs.Answers.{Destination}
 use Rattle.cmark_block_model.specs.DocumentModel.{document}
 use Rattle.cmark_grammar.specs.Event.{Ranged}
 use Rattle.cmark_grammar.specs.Questions.{Exchange, Question, Plan, ByPlan, IsNext}
-use Rattle.cmark_grammar.specs.SpanDocuments.{Profile, segments, reader_of, at_start, ReadsAll, IsReading}
+use Rattle.cmark_grammar.specs.SpanDocuments.{Profile, segments, IsReading}
 use Rattle.cmark_inline_model.specs.PlannedAnswers.{AreByPlan}
 use Rattle.cmark_inline_model.proofs.GivenAnswers.{all-wider, all-one}
 use Rattle.cmark_stream_model.specs.Continued.{AskAlike, definitions_of, footnotes_of}
@@ -27,17 +27,4 @@ module _ (plan : Plan) where
       → (h : IsReading (front ++ one) profile asked first) → (k : IsReading (front ++ other) profile others_asked second)
       → AskAlike profile (front ++ one) (definitions_of h.document) (definitions_of k.document) (footnotes_of h.document) (footnotes_of k.document) (segments (document front profile.options profile.lookup))
       → (settled later others : List Ranged) × (first ≡ settled ++ later) × (second ≡ settled ++ others)
-  readings-share-planned profile front one other asked others_asked first second e1 e2 p q h k alike =
-      let x = reading-grow profile front one asked first e1 h in
-      let y = reading-grow profile front other others_asked second e2 k in
-      let ss = segments (document front profile.options profile.lookup) in
-      let as_x : ReadsAll (reader_of (front ++ one) profile h.document) (ByPlan plan) ss (at_start profile) x.earlier x.between =
-      all-wider (IsNext asked) (ByPlan plan) (planned-next asked p) (reader_of (front ++ one) profile h.document) ss (at_start profile) x.between x.earlier
-      (subst (λ d. ReadsAll (reader_of (front ++ one) profile h.document) (IsNext asked) (segments d) (at_start profile) x.earlier x.between) (documents-stay profile.options profile.lookup front one) x.reads_first) in
-      let as_y : ReadsAll (reader_of (front ++ other) profile k.document) (ByPlan plan) ss (at_start profile) y.earlier y.between =
-      all-wider (IsNext others_asked) (ByPlan plan) (planned-next others_asked q) (reader_of (front ++ other) profile k.document) ss (at_start profile) y.between y.earlier
-      (subst (λ d. ReadsAll (reader_of (front ++ other) profile k.document) (IsNext others_asked) (segments d) (at_start profile) y.earlier y.between) (documents-stay profile.options profile.lookup front other) y.reads_first) in
-      let moved : ReadsAll (reader_of (front ++ other) profile k.document) (ByPlan plan) ss (at_start profile) x.earlier x.between =
-      events-stay profile front one (definitions_of h.document) (definitions_of k.document) (footnotes_of h.document) (footnotes_of k.document) other (ByPlan plan) (at_start profile) x.between x.earlier alike as_x in
-      let same : x.earlier ≡ y.earlier = (all-one (reader_of (front ++ other) profile k.document) plan ss (at_start profile) x.earlier y.earlier x.between y.between moved as_y).0 in
-      (x.earlier, x.later, y.later, x.joined, y.joined ∙ ap (λ l. l ++ y.later) (sym same))
+  readings-share-planned profile front one other asked others_asked first second e1 e2 p q h k alike = grind (arith, reading-grow, all-wider, planned-next, documents-stay, events-stay, all-one)

@@ -1,5 +1,5 @@
 -- Settled cuts: they stay if the text grows, and the document stays joined there.
-use Rattle.std.proofs.Common.{◌≡◌, ◌⊎◌, inl, inr, ⊎_elim, ℕ, ◌+◌, ◌≤◌, Bool, true, false, ◌&&◌, ◌||◌, List, [], ◌∷◌, ◌++◌, length, take, drop, refl, sym, ap, ◌∙◌, subst, arith, append_assoc, Option, Some, None, true≢false}
+use Rattle.std.proofs.Common.{◌≡◌, ◌⊎◌, inl, inr, ⊎_elim, ℕ, ◌+◌, ◌≤◌, true, false, List, [], ◌∷◌, ◌++◌, length, take, drop, refl, sym, ap, ◌∙◌, subst, arith, append_assoc, Option, Some, None, true≢false}
 use Rattle.std.proofs.lemmas.List.{append_cancel_right, take-append-le, drop-append-le, take-append-drop, length-take-le}
 use Rattle.cmark_grammar.specs.Answers.{Lookup}
 use Rattle.cmark_grammar.specs.BlockDocument as document
@@ -8,16 +8,16 @@ use Rattle.cmark_grammar.specs.DefinitionLists.{begins_definition}
 use Rattle.cmark_grammar.specs.Lines.{lines}
 use Rattle.cmark_grammar.specs.Options.{Options}
 use Rattle.cmark_grammar.specs.Places.{Apart}
-use Rattle.cmark_grammar.specs.Rows.{Row, row_at, rows, rows_from, shown, is_blank_line}
+use Rattle.cmark_grammar.specs.Rows.{Row, row_at, rows, rows_from, shown}
 use Rattle.cmark_grammar.specs.Openings.{opens_at}
 use Rattle.cmark_grammar.specs.Blocks.{Blocks, Nil, BlankLine, Paragraph, SetextHeading, LeafBlock, ContainerBlock, join}
 use Rattle.cmark_grammar.specs.Containers.{BlockQuote, Item, Footnote, ListDefinition}
 use Rattle.cmark_grammar.specs.Lists.{definition_delimiter}
 use Rattle.cmark_block_model.specs.BlocksModel.{blocks}
-use Rattle.cmark_block_model.specs.BlocksByLine.{OpenLines, Between, AfterTag, InParagraph, InLeaf, InVerbatim, InContainer, close_lines, lines_begin, lines_feed_all}
+use Rattle.cmark_block_model.specs.BlocksByLine.{OpenLines, Between, close_lines, lines_begin, lines_feed_all}
 use Rattle.cmark_block_model.specs.Tails.{document_after}
 use Rattle.cmark_block_model.proofs.Theorem.{document-whole}
-use Rattle.cmark_stream_model.specs.Growth.{ends_whole, is_blank, continues, fed_before, open_after, blocks_at, Parts, IsCut, are_blind, has_blank_line, are_resolved, last_list, may_continue}
+use Rattle.cmark_stream_model.specs.Growth.{ends_whole, is_blank, continues, fed_before, open_after, blocks_at, Parts, IsCut, has_blank_line, are_resolved, last_list, may_continue}
 use Rattle.cmark_stream_model.specs.Settled.{BeginsWithLine, IsSettledCut, IsSettledAt, StaysJoinedAt}
 use Rattle.cmark_stream_model.specs.Tails.{IsJoinedAt}
 use Rattle.cmark_stream_model.proofs.EndsApart.{ends-grow}
@@ -37,19 +37,11 @@ whole-first (x ∷ []) next a b = refl
 whole-first (x ∷ (y ∷ bs)) next a b = whole-first (y ∷ bs) next a b
 
 complete-grows : (bytes line more : List ℕ) → BeginsWithLine bytes line → BeginsWithLine (bytes ++ more) line
-complete-grows bytes line more h = record {
-  next = h.next;
-  rest = h.rest ++ more;
-  are = ap (λ l. l ++ more) h.are ∙ append_assoc line (h.next ∷ h.rest) more;
-  one = h.one;
-  whole = whole-first line h.next (h.rest ++ more) h.rest ∙ h.whole;
-}
+complete-grows bytes line more h = grind (arith, append_assoc, whole-first)
 
 -- the first row of bytes that begin with a complete line
 pub complete-row : (at : ℕ) (bytes line : List ℕ) → (h : BeginsWithLine bytes line) → rows_from at (lines bytes) ≡ row_at at line ∷ rows_from (at + length line) (lines (h.next ∷ h.rest))
-complete-row at bytes line h =
-    ap (λ l. rows_from at (lines l)) h.are
-    ∙ ap (rows_from at) (lines-append line (h.next ∷ h.rest) h.whole ∙ ap (λ ls. ls ++ lines (h.next ∷ h.rest)) h.one)
+complete-row at bytes line h = cc (lines-append line (h.next ∷ h.rest) h.whole)
 
 -- bytes that begin with a line have a byte
 apart-grows : (front bytes line more : List ℕ) → BeginsWithLine bytes line → ends_whole front bytes ≡ true → ends_whole front (bytes ++ more) ≡ true
@@ -125,9 +117,7 @@ module _ (options : Options) where
       cut = settled-cut h rs
 
       ends : continues (last_list None (blocks_at options 0 (take at text))) (blocks_at options (length (take at text)) (drop at text)) ≡ false
-      ends =
-          ap (λ ls. continues (last_list None (blocks_at options 0 front)) (close_lines (lines_feed_all options (Between Nil) ls))) first
-          ∙ lines-continue options r rs (last_list None (blocks_at options 0 front)) (h.ends_list (shown rs))
+      ends = grind (arith, front, first, lines-continue, r, rs)
 
   -- the beginning of a text
   empty-document : (lookup : Lookup) → document_in [] options lookup ≡ document.Nil
@@ -138,31 +128,18 @@ module _ (options : Options) where
   start-joined text lookup = sym (document-whole text options lookup) ∙ ap (λ d. document.join d (document_after text options lookup 0)) (sym (empty-document lookup))
 
   pub stays-joined : (text : List ℕ) (at : ℕ) → IsSettledAt options text at → StaysJoinedAt options text at
-  stays-joined text at h lookup more =
-      ⊎_elim (λ z. subst (λ n. IsJoinedAt options lookup (text ++ more) n) (sym z) (start-joined (text ++ more) lookup))
-      (λ s. settled-joined (text ++ more) at lookup (settled-stays text more at s)) h
+  stays-joined text at h lookup more = grind (arith, start-joined, settled-joined, settled-stays)
 
   -- ## A further cut after a settled one
 
   blank-append : (a b : List Row) → has_blank_line a ≡ true → has_blank_line (a ++ b) ≡ true
   blank-append [] b e = absurd (true≢false (sym e))
-  blank-append (r ∷ a) b e = go (is_blank_line r) (has_blank_line a) refl e (blank-append a b)
-    where
-      go : (z w : Bool) → has_blank_line a ≡ w → (z || w) ≡ true → (has_blank_line a ≡ true → has_blank_line (a ++ b) ≡ true) → (z || has_blank_line (a ++ b)) ≡ true
-      go true w q t ih = refl
-      go false true q t ih = ih q
-      go false false q t ih = absurd (true≢false (sym t))
+  blank-append (r ∷ a) b e = grind (arith, blank-append a b)
 
   -- lines that are resolved stay so before others
   pub resolved-append : (a b : List Row) → are_resolved a ≡ true → are_resolved b ≡ true → are_resolved (a ++ b) ≡ true
   resolved-append [] b e f = f
-  resolved-append (r ∷ a) b e f = go (are_blind r.columns) (has_blank_line a) refl (resolved-append a b) e
-    where
-      go : (z w : Bool) → has_blank_line a ≡ w → (are_resolved a ≡ true → are_resolved b ≡ true → are_resolved (a ++ b) ≡ true) → ((z || w) && are_resolved a) ≡ true
-          → ((z || has_blank_line (a ++ b)) && are_resolved (a ++ b)) ≡ true
-      go true w q ih t = ih t f
-      go false true q ih t = ap (λ z. z && are_resolved (a ++ b)) (blank-append a b q) ∙ ih t f
-      go false false q ih t = absurd (true≢false (sym t))
+  resolved-append (r ∷ a) b e f = grind (arith, blank-append, resolved-append a b)
 
   pub last-join : (list : Option ℕ) (a b : Blocks) → last_list list (join a b) ≡ last_list (last_list list a) b
   last-join list Nil b = refl
@@ -176,12 +153,7 @@ module _ (options : Options) where
   last-join list (ContainerBlock (ListDefinition width) first more inside after) b = last-join (Some definition_delimiter) after b
 
   parts-front : (b : Blocks) (o : OpenLines) (r : Row) (ahead : List Row) → Parts options o r ahead → Parts options (preceding b o) r ahead
-  parts-front b (Between closed) r ahead h = h
-  parts-front b AfterTag r ahead h = h
-  parts-front b (InParagraph closed first more) r ahead h = h
-  parts-front b (InLeaf closed leaf first had left) r ahead h = h
-  parts-front b (InVerbatim closed verbatim first had waiting) r ahead h = h
-  parts-front b (InContainer closed k first more inside) r ahead h = h
+  parts-front b o r ahead h = grind arith
 
   -- the list that may continue after the bytes before an offset
   abbrev pub list_before : (text : List ℕ) → (from : ℕ) → Option ℕ
@@ -205,12 +177,7 @@ module _ (options : Options) where
 
     -- the rows of the bytes before the cut are those before the earlier offset and those after it
     rows-done : from ≤ length text → ends_whole (take from text) (drop from text) ≡ true → rows (take at text) ≡ rows (take from text) ++ done
-    rows-done le whole =
-        append_cancel_right (rows (take at text)) (rows (take from text) ++ done) rest
-        (sym (grown at f.within f.apart)
-        ∙ grown from le whole
-        ∙ ap (λ l. rows (take from text) ++ l) f.split
-        ∙ sym (append_assoc (rows (take from text)) done rest))
+    rows-done le whole = grind (arith, append_cancel_right, rest, grown, append_assoc)
       where
         rest : List Row
         rest = rows_from at (lines (drop at text))
@@ -220,36 +187,11 @@ module _ (options : Options) where
             ap rows (sym (take-append-drop n text)) ∙ rows-grow (take n text) (drop n text) e ∙ ap (λ m. rows (take n text) ++ rows_from m (lines (drop n text))) (length-take-le n text le)
 
     settled-with : (b : Blocks) → ((following : List Row) → fed_before options following (Between Nil) (rows (take at text)) ≡ open_after options (take at text)) → open_after options (take at text) ≡ preceding b o → last_list None (close_lines (preceding b o)) ≡ last_list (list_before text from) (close_lines o) → IsSettledCut options text at
-    settled-with b settled opened listed = record {
-      line = line;
-      unmarked = f.unmarked;
-      within = f.within;
-      apart = f.apart;
-      complete = f.complete;
-      settled = settled;
-      parts = λ ahead. subst (λ x. Parts options x (row_at at line) ahead) (sym opened) (parts-front b o (row_at at line) ahead (f.parts ahead));
-      begins = f.begins;
-      ends_list = λ ahead. ap (λ l. may_continue options.definition_list l (opens_at options Apart (row_at at line) ahead)) (ap (λ x. last_list None (close_lines x)) opened ∙ listed) ∙ f.ends_list ahead;
-    }
+    settled-with b settled opened listed = grind (arith, parts-front)
 
     -- after the beginning of the text
     from-start : from ≡ 0 → IsSettledCut options text at
-    from-start z =
-        settled-with Nil
-        (λ following. subst (λ rs. fed_before options following (Between Nil) rs ≡ lines_feed_all options (Between Nil) rs) (sym all) (f.settled following))
-        (ap (lines_feed_all options (Between Nil)) all ∙ sym (none o))
-        (ap (λ x. last_list None (close_lines x)) (none o) ∙ ap (λ n. last_list (list_before text n) (close_lines o)) (sym z))
-      where
-        none : (x : OpenLines) → preceding Nil x ≡ x
-        none (Between closed) = refl
-        none AfterTag = refl
-        none (InParagraph closed first more) = refl
-        none (InLeaf closed leaf first had left) = refl
-        none (InVerbatim closed verbatim first had waiting) = refl
-        none (InContainer closed k first more inside) = refl
-
-        all : rows (take at text) ≡ done
-        all = rows-done (omega (arith, z)) (ap (λ n. ends_whole (take n text) (drop n text)) z) ∙ ap (λ n. rows (take n text) ++ done) z
+    from-start z = grind (arith, settled-with, preceding, rows-done)
 
     -- after a settled cut
     from-settled : IsSettledCut options text from → IsSettledCut options text at

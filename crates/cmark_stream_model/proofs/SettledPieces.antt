@@ -1,15 +1,13 @@
 -- The bytes up to a line after a settled cut are joined at that cut, even if no byte follows the line at the cut in them.
-use Rattle.std.proofs.Common.{◌≡◌, inl, ⊎_elim, ℕ, ◌+◌, ◌<◌, ◌≤◌, true, false, List, [], ◌∷◌, ◌++◌, length, take, drop, refl, sym, ap, ◌∙◌, subst, arith, append-nil, append_assoc, None}
+use Rattle.std.proofs.Common.{◌≡◌, inl, ℕ, ◌+◌, ◌<◌, ◌≤◌, true, false, List, [], ◌∷◌, ◌++◌, length, take, drop, refl, sym, ap, ◌∙◌, subst, arith, append-nil, append_assoc, None}
 use Rattle.std.proofs.lemmas.List.{length-take-le, take-append-drop, take-take, length-drop}
 use Rattle.std.proofs.Math.Seq.{drop-append_seam}
 use Rattle.std.specs.Prelude.{◌-◌}
 use Rattle.cmark_grammar.specs.Answers.{Lookup}
 use Rattle.cmark_grammar.specs.Lines.{lines}
 use Rattle.cmark_grammar.specs.Options.{Options}
-use Rattle.cmark_grammar.specs.Rows.{Row, row_at, rows_from, shown}
-use Rattle.cmark_grammar.specs.Blocks.{Nil}
+use Rattle.cmark_grammar.specs.Rows.{Row, row_at, rows_from}
 use Rattle.cmark_block_model.proofs.BoundaryLaws.{joined, lines-ended}
-use Rattle.cmark_block_model.specs.BlocksByLine.{Between, close_lines, lines_feed_all}
 use Rattle.cmark_stream_model.specs.Growth.{ends_whole, IsCut, blocks_at, continues, last_list}
 use Rattle.cmark_stream_model.specs.Settled.{IsSettledCut, IsSettledAt}
 use Rattle.cmark_stream_model.specs.Tails.{IsJoinedAt}
@@ -45,9 +43,7 @@ module _ (options : Options) (lookup : Lookup) (text : List ℕ) (from : ℕ) (h
       cut = settled-cut options h rs
 
       ends : continues (last_list None (blocks_at options 0 front)) (blocks_at options (length front) middle) ≡ false
-      ends =
-          ap (λ ls. continues (last_list None (blocks_at options 0 front)) (close_lines (lines_feed_all options (Between Nil) ls))) are
-          ∙ lines-continue options r rs (last_list None (blocks_at options 0 front)) (h.ends_list (shown rs))
+      ends = grind (arith, are, lines-continue)
 
   module _ (to : ℕ) (less : from < to) (within : to ≤ length text) (whole : ends_whole (take to text) (drop to text) ≡ true) where
     abbrev middle : List ℕ
@@ -66,17 +62,10 @@ module _ (options : Options) (lookup : Lookup) (text : List ℕ) (from : ℕ) (h
         ∙ drop-append_seam front (middle ++ end)
 
     some : 0 < length middle
-    some =
-        let a = length-take-le to text within in
-        let b = length-drop from (take to text) in
-        omega (arith, a, b, less)
+    some = grind (arith, length-take-le, length-drop)
 
     apart : (b : ℕ) (bs : List ℕ) → middle ≡ b ∷ bs → ends_whole front middle ≡ true
-    apart b bs are =
-        ap (ends_whole front) are
-        ∙ whole-first front b bs (bs ++ end)
-        ∙ ap (ends_whole front) (sym (following ∙ ap (λ l. l ++ end) are))
-        ∙ h.apart
+    apart b bs are = grind (arith, whole-first, following)
 
     ends : (b : ℕ) (bs : List ℕ) → middle ≡ b ∷ bs → ends_whole middle end ≡ true
     ends b bs are =
@@ -101,15 +90,11 @@ module _ (options : Options) (lookup : Lookup) (text : List ℕ) (from : ℕ) (h
       where
         go : (m : List ℕ) → middle ≡ m → IsJoinedAt options lookup (take to text) from
         go [] e = absurd (let n = ap length e in omega (arith, n, some))
-        go (b ∷ bs) e =
-            let f = first b bs e in
-            subst (λ t. IsJoinedAt options lookup t from) (sym halves) (joined-before middle f.0 (apart b bs e) f.1)
+        go (b ∷ bs) e = grind (arith, first, halves, joined-before, apart)
 
 -- the bytes before one of two settled cuts are joined at the other, which is before it
 pub front-joined : (options : Options) (lookup : Lookup) (text : List ℕ) (from to : ℕ) → from < to → IsSettledAt options text from → IsSettledAt options text to → IsJoinedAt options lookup (take to text) from
-front-joined options lookup text from to less begun ended =
-    ⊎_elim (λ z. at-start z)
-    (λ h. ⊎_elim (λ z. absurd (omega (arith, z, less))) (λ (k : IsSettledCut options text to). cut-joined options lookup text from h to less k.within k.apart) ended) begun
+front-joined options lookup text from to less begun ended = grind (arith, at-start, cut-joined)
   where
     at-start : from ≡ 0 → IsJoinedAt options lookup (take to text) from
     at-start z =

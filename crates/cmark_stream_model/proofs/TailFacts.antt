@@ -1,22 +1,16 @@
 -- The rest of a text is a part of its document, so facts about the document hold for the rest.
-use Rattle.std.proofs.Common.{◌≡◌, ℕ, ◌≤◌, false, List, [], ◌∷◌, ◌++◌, length, take, drop, refl, sym, ap, ◌∙◌, subst, arith, length-append, None}
+use Rattle.std.proofs.Common.{◌≡◌, ℕ, ◌≤◌, false, List, [], ◌∷◌, ◌++◌, length, take, drop, refl, ap, ◌∙◌, subst, arith, length-append, None}
 use Rattle.std.specs.Prelude.{IsUtf8, IsCharBoundary}
 use Rattle.cmark_grammar.specs.Answers.{Lookup}
 use Rattle.cmark_grammar.specs.BlockDocument.{BlockDocument, Nil, Node, join}
 use Rattle.cmark_block_model.specs.BlocksModel.{blocks}
-use Rattle.cmark_block_model.specs.BlocksByLine.{Between, close_lines, lines_feed_all}
-use Rattle.cmark_grammar.specs.Blocks.{Nil as NoBlocks}
-use Rattle.cmark_grammar.specs.Derivation.{document_of}
 use Rattle.cmark_block_model.specs.DocumentModel.{document}
 use Rattle.cmark_grammar.specs.Event.{Ranged}
 use Rattle.cmark_grammar.specs.LeafReading.{Between as BetweenLeaves}
-use Rattle.cmark_grammar.specs.Lines.{lines}
 use Rattle.cmark_grammar.specs.Options.{Options}
 use Rattle.cmark_grammar.specs.Questions.{IsNext}
-use Rattle.cmark_grammar.specs.Readers.{Reader}
 use Rattle.cmark_block_model.specs.Ranges.{InOrder, AllAt}
 use Rattle.cmark_grammar.specs.References.{references}
-use Rattle.cmark_grammar.specs.Rows.{rows_from}
 use Rattle.cmark_grammar.specs.SpanDocuments.{Profile, Segment, Given, Content, Left, segments, footnote_labels, reader_of, at_start, ReadsAll, IsReading}
 use Rattle.cmark_block_model.proofs.BoundaryLaws.{derived-boundaries}
 use Rattle.cmark_block_model.proofs.RangeLaws.{derived-order}
@@ -25,7 +19,7 @@ use Rattle.cmark_block_model.proofs.Drawings.{derived}
 use Rattle.cmark_block_model.proofs.Theorem.{document-whole}
 use Rattle.cmark_block_model.proofs.LeafDrawings.{HasWholeLeaves, derived-whole}
 use Rattle.cmark_inline_model.specs.LeafExtents.{extents}
-use Rattle.cmark_stream_model.specs.Growth.{IsJoined, document_of_tail}
+use Rattle.cmark_stream_model.specs.Growth.{IsJoined}
 use Rattle.cmark_stream_model.specs.Settled.{StaysJoinedAt}
 use Rattle.cmark_stream_model.specs.Tails.{IsJoinedAt}
 use Rattle.cmark_stream_model.proofs.JoinedReadings.{document-first, segments-join, references-join, footnotes-join, joined}
@@ -42,27 +36,12 @@ drop-all [] tail = refl
 drop-all (b ∷ front) tail = drop-all front tail
 
 pub joined-at : (options : Options) (lookup : Lookup) (front tail : List ℕ) → IsJoined options lookup front tail → IsJoinedAt options lookup (front ++ tail) (length front)
-joined-at options lookup front tail h =
-    h
-    ∙ ap (λ d. join d (document_of_tail options lookup text (length front) tail)) (documents-stay options lookup front tail ∙ ap (λ l. document l options lookup) (sym (take-all front tail)))
-    ∙ ap (λ l. join (document (take (length front) text) options lookup) (document_of text options lookup false None (close_lines (lines_feed_all options (Between NoBlocks) (rows_from (length front) (lines l)))))) (sym (drop-all front tail))
-  where
-    text : List ℕ
-    text = front ++ tail
+joined-at options lookup front tail h = cc (documents-stay options lookup front tail, take-all front tail, drop-all front tail)
 
 -- at the beginning nothing is before the offset
 pub joined-at-start : (options : Options) (text : List ℕ) → StaysJoinedAt options text 0
 unfolding blocks
-joined-at-start options text lookup more = go (text ++ more)
-  where
-    take-none : (t : List ℕ) → take 0 t ≡ []
-    take-none [] = refl
-    take-none (b ∷ bs) = refl
-
-    go : (t : List ℕ) → IsJoinedAt options lookup t 0
-    go t =
-        sym (document-whole t options lookup)
-        ∙ ap (λ d. join d (document_after t options lookup 0)) (sym (ap (λ l. document l options lookup) (take-none t)))
+joined-at-start options text lookup more = grind (arith, document-whole)
 
 -- ## The second part of a document
 
@@ -125,19 +104,4 @@ module _ (text : List ℕ) (options : Options) (lookup : Lookup) (from : ℕ) (h
 pub readings-continue : (text : List ℕ) (profile : Profile) (from : ℕ) → IsJoinedAt profile.options profile.lookup text from → (first later : List Ranged) (between : BetweenLeaves)
     → ReadsAll (reader_of text profile (document text profile.options profile.lookup)) (IsNext []) (segments (document (take from text) profile.options profile.lookup)) (at_start profile) first between → between.asked ≡ []
     → Left (reader_of text profile (document text profile.options profile.lookup)) (segments (document_after text profile.options profile.lookup from)) between.expansion_left [] later → IsReading text profile [] (first ++ later)
-readings-continue text profile from h first later between reads none left = record {
-  document = whole;
-  after = left.after;
-  derives = derived text profile.options profile.lookup;
-  reads =
-      subst (λ s. ReadsAll reader (IsNext []) s (at_start profile) (first ++ later) left.after) (sym (tail-segments text profile.options profile.lookup from h))
-      (joined reader (IsNext []) (segments (document (take from text) profile.options profile.lookup)) (segments (document_after text profile.options profile.lookup from)) (at_start profile) between left.after first later reads
-      (subst (λ asked. ReadsAll reader (IsNext []) (segments (document_after text profile.options profile.lookup from)) (record { expansion_left = between.expansion_left; asked = asked }) later left.after) (sym none) left.reads));
-  asked = left.asked;
-}
-  where
-    whole : BlockDocument
-    whole = document text profile.options profile.lookup
-
-    reader : Reader
-    reader = reader_of text profile whole
+readings-continue text profile from h first later between reads none left = grind (arith, derived, tail-segments, joined)

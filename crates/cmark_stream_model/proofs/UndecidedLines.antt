@@ -1,5 +1,5 @@
 -- A search that keeps what is undecided about metadata knows when the lines so far decide it by themselves.
-use Rattle.std.proofs.Common.{◌≡◌, Bool, true, false, ◌||◌, List, [], ◌∷◌, ◌++◌, refl, sym, ap, ◌∙◌, subst, append-nil, append_assoc, Option, Some, None, true≢false}
+use Rattle.std.proofs.Common.{◌≡◌, Bool, true, false, ◌||◌, List, [], ◌∷◌, ◌++◌, refl, sym, ap, ◌∙◌, append-nil, append_assoc, Option, true≢false, rules}
 use Rattle.std.specs.Prelude.{if◌then◌else◌}
 use Rattle.cmark_grammar.specs.Metadata.{ends_metadata, is_ended, metadata_kind}
 use Rattle.cmark_grammar.specs.MetadataBlockKind.{MetadataBlockKind}
@@ -25,10 +25,7 @@ module _ (options : Options) where
   with-snoc : (following more : List Row) (o : OpenLines) (done : List Row) (r : Row) → AreDecidedWith (r ∷ following) (r ∷ more) o done
       → (Parts options (fed_before options (r ∷ following) o done) r (shown following) → decide (metadata_kind options r) more ≡ true) → AreDecidedWith following more o (done ++ r ∷ [])
   with-snoc following more o [] r h last = (last, tt)
-  with-snoc following more o (x ∷ done) r h last =
-      subst (λ l. (Parts options o x (shown l) → decide (metadata_kind options x) ((done ++ r ∷ []) ++ more) ≡ true) × AreDecidedWith following more (lines_feed options o x (shown l)) (done ++ r ∷ []))
-      (sym (append_assoc done (r ∷ []) following))
-      ((λ parts. ap (decide (metadata_kind options x)) (append_assoc done (r ∷ []) more) ∙ h.0 parts), with-snoc following more (lines_feed options o x (shown (done ++ r ∷ following))) done r h.1 last)
+  with-snoc following more o (x ∷ done) r h last = search (rules, append_assoc, with-snoc following more (lines_feed options o x (shown (done ++ r ∷ following))) done r h.1 last)
 
   -- what the search keeps: the lines so far decide about metadata together with each list of lines that decides what they leave undecided
   abbrev pub Leaves : (following : List Row) → OpenLines → List Row → Undecided → Type 0
@@ -48,13 +45,7 @@ module _ (options : Options) where
   begun-decides begins parts r tells more e p = go (metadata_kind options r) refl begins (λ q. tells p q) e
     where
       go : (o : Option MetadataBlockKind) → metadata_kind options r ≡ o → (b : Bool) → (is_blank_line r ≡ false → b ≡ true) → decided_by (begun_by b o) more ≡ true → decide o more ≡ true
-      go None q b t d = refl
-      go (Some kind) q true t d = d
-      go (Some kind) q false t d = absurd (blank (is_blank_line r) refl)
-        where
-          blank : (z : Bool) → is_blank_line r ≡ z → ⊥
-          blank true w = let n : Some kind ≡ None = sym q ∙ blank-kind options r w in cc
-          blank false w = true≢false (sym (t w))
+      go o q b t d = search (rules, blank-kind)
 
   -- no line begins a block
   none-decides : (parts : Type 0) (r : Row) → Tells false parts r → (more : List Row) → parts → decide (metadata_kind options r) more ≡ true

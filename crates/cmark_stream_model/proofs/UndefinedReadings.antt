@@ -1,24 +1,22 @@
 -- If nothing is defined and there is no callback, references take nothing of the reference expansion limit, and a reading goes on with the next part
 -- of the text.
-use Rattle.std.proofs.Common.{◌≡◌, ℕ, zero, suc, ◌-◌, Bool, true, false, not, ◌==◌, ◌&&◌, ◌||◌, List, [], ◌∷◌, ◌++◌, append-nil, length, drop, take, refl, sym, ap, ◌∙◌, subst, Option, Some, None}
-use Rattle.std.specs.Prelude.{if◌then◌else◌, map}
+use Rattle.std.proofs.Common.{◌≡◌, ℕ, zero, suc, ◌-◌, Bool, true, false, List, [], ◌∷◌, ◌++◌, append-nil, drop, take, refl, sym, ap, ◌∙◌, subst, Option, Some, None, arith}
+use Rattle.std.specs.Prelude.{if◌then◌else◌}
 use Rattle.cmark_grammar.specs.BlockDocument.{BlockDocument, Reference as Definition}
-use Rattle.cmark_grammar.specs.BracketDecisions.{Named, following, between, place, stays, question, answered, with_answer, ask, defined_or_asked, refers, one_line_footnotes, is_footnote_label, footnote_reference, as_label, collapsed_or_shortcut, by_own_label, reference_or, unless_footnote, link_or, with_taken, wiki_text, wikilink, wikilink_or, decide, is_there, forms, name_in}
+use Rattle.cmark_grammar.specs.BracketDecisions.{Named, following, stays, ask, refers, footnote_reference, by_own_label, reference_or, unless_footnote, link_or, with_taken, wikilink_or, decide}
 use Rattle.cmark_grammar.specs.BracketReading.{Reads, Comes}
 use Rattle.cmark_grammar.specs.BracketStates.{State, moved, opened, StaysText, Forms, Outcome, Decision, Settled, Asks}
 use Rattle.cmark_block_model.specs.DocumentModel.{document}
 use Rattle.cmark_grammar.specs.Event.{Ranged}
 use Rattle.cmark_grammar.specs.InlineTokens.{token}
 use Rattle.cmark_grammar.specs.Items.{Bracket}
-use Rattle.cmark_grammar.specs.Labels.{fold, normal_form}
+use Rattle.cmark_grammar.specs.Labels.{fold}
 use Rattle.cmark_grammar.specs.LeafReading.{Between, entering, ReadsLeaf}
 use Rattle.cmark_grammar.specs.LeafText.{Leaf}
-use Rattle.cmark_grammar.specs.Letters.{first_is}
 use Rattle.cmark_grammar.specs.LinkDefinitions.{Parsed}
-use Rattle.cmark_grammar.specs.LinkTails.{LinkTail, link_tail_in, after_collapsed, is_bracketed_label, reference_label_in}
-use Rattle.cmark_grammar.specs.LinkType.{Reference}
-use Rattle.cmark_grammar.specs.OpenBrackets.{Taken, nearest, used_up, doubled, tried, dropped}
-use Rattle.cmark_grammar.specs.Parts.{Footnote, Parts, Nil as NoParts, Single as SinglePart, Form, Closing, Opening, openings}
+use Rattle.cmark_grammar.specs.LinkTails.{LinkTail, link_tail_in, reference_label_in}
+use Rattle.cmark_grammar.specs.OpenBrackets.{Taken}
+use Rattle.cmark_grammar.specs.Parts.{Parts, Nil as NoParts, Single as SinglePart, Form, Closing, Opening, openings}
 use Rattle.cmark_grammar.specs.Questions.{Saying, IsNext}
 use Rattle.cmark_grammar.specs.Readers.{Reader}
 use Rattle.cmark_grammar.specs.SpanDocuments.{Profile, Segment, Given, Content, Left, ReadsAll, IsReading, at_start, reader_of, segments}
@@ -43,34 +41,19 @@ module _ (reader : Reader) (leaf : Leaf) (undefined : (folded : List ℕ) → re
   keeps-if n false a b h g = g
 
   ask-keeps : (named : Named) (taken : Taken) (closer : Bracket) (st : State) → Keeps st.expansion_left (ask reader leaf named taken closer st)
-  ask-keeps named taken closer st =
-      subst (λ z. Keeps st.expansion_left
-      (if z then Asks (question reader leaf named taken.opener.bracket) (λ answer. answered reader leaf named taken closer (with_answer reader leaf (question reader leaf named taken.opener.bracket) answer st) answer) else Settled (stays reader leaf closer st)))
-      (sym silent) refl
+  ask-keeps named taken closer st = grind arith
 
   refers-keep : (named : Named) (taken : Taken) (closer : Bracket) (st : State) → Keeps st.expansion_left (refers reader leaf named taken closer st)
-  refers-keep named taken closer st =
-      keeps-if st.expansion_left (st.expansion_left == 0) (Settled (stays reader leaf closer st)) (defined_or_asked reader leaf (reader.definition (fold named.label)) named taken closer st) refl
-      (subst (λ found. Keeps st.expansion_left (defined_or_asked reader leaf found named taken closer st)) (sym (undefined (fold named.label))) (ask-keeps named taken closer st))
+  refers-keep named taken closer st = grind (arith, keeps-if, ask-keeps)
 
   footnote-keeps : (label : List ℕ) (taken : Taken) (closer : Bracket) (st : State) → Keeps st.expansion_left (footnote_reference reader leaf label taken closer st)
-  footnote-keeps label taken closer st =
-      keeps-if st.expansion_left (one_line_footnotes reader leaf && not (reader.has_footnote (fold label))) (Settled (stays reader leaf closer st))
-      (Settled (forms reader leaf taken (Footnote (normal_form label) closer.end) closer.end (map dropped) st)) refl refl
+  footnote-keeps label taken closer st = grind (arith, keeps-if)
 
   own-keeps : (label : List ℕ) (taken : Taken) (closer : Bracket) (st : State) → Keeps st.expansion_left (by_own_label reader leaf label taken closer st)
-  own-keeps label taken closer st =
-      keeps-if st.expansion_left (is_footnote_label reader leaf label) _ _ (footnote-keeps (as_label reader leaf (drop 1 label)) taken closer st)
-      (keeps-if st.expansion_left (is_bracketed_label label) (refers reader leaf named taken closer st) (Settled (stays reader leaf closer st)) (refers-keep named taken closer st) refl)
-    where
-      named : Named
-      named = collapsed_or_shortcut reader leaf (as_label reader leaf label) closer.end (after_collapsed (following reader leaf closer.end))
+  own-keeps label taken closer st = grind (arith, keeps-if, footnote-keeps, refers-keep)
 
   reference-keeps : (o : Option Parsed) (taken : Taken) (closer : Bracket) (st : State) → Keeps st.expansion_left (reference_or reader leaf o taken closer st)
-  reference-keeps (Some found) taken closer st =
-      refers-keep (record { label = as_label reader leaf found.bytes; link_type = Reference; end = place reader leaf found.following; resume = place reader leaf found.following }) taken closer (record st { label_close = Some (place reader leaf found.following - 1) })
-  reference-keeps None taken closer st =
-      keeps-if st.expansion_left (is_there closer.start st.label_close) (Settled (stays reader leaf closer st)) _ refl (own-keeps (between reader leaf taken.opener.bracket.end closer.start) taken closer st)
+  reference-keeps o taken closer st = grind (arith, refers-keep, keeps-if, own-keeps)
 
   link-keeps : (o : Option LinkTail) (taken : Taken) (closer : Bracket) (st : State) → Keeps st.expansion_left (link_or reader leaf o taken closer st)
   link-keeps (Some tail) taken closer st = refl
@@ -81,24 +64,15 @@ module _ (reader : Reader) (leaf : Leaf) (undefined : (folded : List ℕ) → re
   taken-keeps (Some taken) closer st = keeps-if st.expansion_left taken.opener.is_inactive (Settled (stays reader leaf closer st)) _ refl (link-keeps (link_tail_in (following reader leaf closer.end)) taken closer st)
 
   wikilink-keeps : (first o : Option Taken) (closer : Bracket) (st : State) → Keeps st.expansion_left (wikilink_or reader leaf first o closer st)
-  wikilink-keeps None o closer st = taken-keeps o closer st
-  wikilink-keeps (Some first) o closer st =
-      keeps-if st.expansion_left (first.opener.is_inactive || (length (name_in (wiki_text reader leaf first closer)) == 0)) _ (Settled (wikilink reader leaf first closer st))
-      (taken-keeps o closer (record st { openers = tried first.nearer st.openers })) refl
+  wikilink-keeps first o closer st = grind (arith, taken-keeps, keeps-if)
 
   decide-keeps : (st : State) (closer : Bracket) → Keeps st.expansion_left (decide reader leaf st closer)
   unfolding decide
-  decide-keeps st closer =
-      let now = record st { openers = used_up st.openers } in
-      keeps-if st.expansion_left (reader.options.wikilinks && first_is (λ b. b == 93) (following reader leaf closer.end)) _ _ (wikilink-keeps (doubled now.openers) (nearest st.openers) closer now) (taken-keeps (nearest st.openers) closer now)
+  decide-keeps st closer = grind (arith, keeps-if, wikilink-keeps, taken-keeps)
 
   module _ (Says : Saying) where
     comes-keeps : (st : State) (closer : Bracket) (o : Outcome) → Comes Says st.asked (decide reader leaf st closer) o → o.after.expansion_left ≡ st.expansion_left
-    comes-keeps st closer o c = go (decide reader leaf st closer) (decide-keeps st closer) c
-      where
-        go : (x : Decision) → Keeps st.expansion_left x → Comes Says st.asked x o → o.after.expansion_left ≡ st.expansion_left
-        go (Settled outcome) h c = ap (λ (z : Outcome). z.after.expansion_left) c ∙ h
-        go (Asks question answered) h c = absurd h
+    comes-keeps st closer o c = grind (arith, decide-keeps)
 
     reads-keep : (a : State) (parts : Parts) (b : State) → Reads (token reader leaf) (decide reader leaf) Says a parts b → b.expansion_left ≡ a.expansion_left
     reads-keep a NoParts b h = ap (λ (s : State). s.expansion_left) h
@@ -147,15 +121,10 @@ module _ (profile : Profile) (silent : profile.has_callback ≡ false) (text : L
   undefined-reading = readings-continue text profile from at-joint first later (at_start profile) earlier refl left
 
   same-after : left.after ≡ at_start profile
-  same-after =
-      ap (λ (n : ℕ). record { expansion_left = n; asked = left.after.asked }) (all-keep reader none.definitions silent (IsNext []) (segments (document_after text profile.options profile.lookup from)) (at_start profile) left.after later left.reads)
-      ∙ ap (λ asked. record { expansion_left = profile.reference_expansion_limit; asked = asked }) left.asked
+  same-after = grind (arith, all-keep)
 
   all : ReadsAll reader (IsNext []) (segments whole) (at_start profile) (first ++ later) (at_start profile)
-  all =
-      subst (λ ss. ReadsAll reader (IsNext []) ss (at_start profile) (first ++ later) (at_start profile)) (sym (tail-segments text profile.options profile.lookup from at-joint))
-      (joined reader (IsNext []) (segments (document (take from text) profile.options profile.lookup)) (segments (document_after text profile.options profile.lookup from)) (at_start profile) (at_start profile) (at_start profile) first later earlier
-      (subst (λ after. ReadsAll reader (IsNext []) (segments (document_after text profile.options profile.lookup from)) (at_start profile) later after) same-after left.reads))
+  all = grind (arith, tail-segments, joined, earlier, same-after)
 
   pub undefined-alone : IsReadAlone profile text (first ++ later)
   undefined-alone more d f nothing =

@@ -1,27 +1,25 @@
 -- The lines ahead that a line looks at: none if it has no bracket and no pipe, and otherwise none after a blank line.
-use Rattle.std.proofs.Common.{◌≡◌, ◌⊎◌, inl, inr, ⊎_elim, ℕ, zero, suc, ◌-◌, Bool, true, false, ◌==◌, ◌&&◌, ◌||◌, not, List, [], ◌∷◌, ◌++◌, length, drop, take_while, refl, sym, ap, ◌∙◌, subst, append-nil, Option, Some, None, true≢false}
+use Rattle.std.proofs.Common.{◌≡◌, ◌⊎◌, inl, inr, ⊎_elim, ℕ, zero, suc, ◌-◌, Bool, true, false, ◌==◌, ◌&&◌, ◌||◌, not, List, [], ◌∷◌, ◌++◌, length, drop, take_while, refl, sym, ap, ◌∙◌, subst, append-nil, Option, Some, None, true≢false, arith, rules}
 use Rattle.std.specs.Prelude.{if◌then◌else◌, cond, nat_le, nat_lt}
 use Rattle.std.proofs.lemmas.List.Sums.{take_while-cons}
 use Rattle.cmark_grammar.specs.Alignment.{Alignment}
 use Rattle.cmark_grammar.specs.Columns.{Column, is_blank, without_indent, bytes_of}
 use Rattle.cmark_grammar.specs.Lines.{onto, lines}
-use Rattle.cmark_grammar.specs.MetadataBlockKind.{MetadataBlockKind, YamlStyle, PlusesStyle}
-use Rattle.cmark_grammar.specs.Metadata.{metadata_of, has_metadata, metadata_if, metadata_kind, ends_metadata, is_ended, holds_metadata, metadata_continuation}
+use Rattle.cmark_grammar.specs.MetadataBlockKind.{MetadataBlockKind}
+use Rattle.cmark_grammar.specs.Metadata.{metadata_kind, ends_metadata, is_ended, holds_metadata}
 use Rattle.cmark_grammar.specs.Options.{Options}
 use Rattle.cmark_grammar.specs.Places.{Place, Apart, AfterLazy, is_after_task}
-use Rattle.cmark_grammar.specs.Rows.{Row, rows, shown, show_as, is_bare, is_blank_line, is_whole_line, indent_of, words_of}
-use Rattle.cmark_grammar.specs.Leaves.{Fence, Continuation, Stops, underlines, is_thematic_break, is_atx_heading, run, fence_of, counted, code_continuation}
-use Rattle.cmark_grammar.specs.LinkDefinitions.{definition_in, further_bytes, bytes_over}
+use Rattle.cmark_grammar.specs.Rows.{Row, rows, shown, show_as, is_bare, is_blank_line, indent_of, words_of}
+use Rattle.cmark_grammar.specs.Leaves.{Fence, underlines, is_thematic_break, is_atx_heading, run, fence_of, counted, code_continuation}
+use Rattle.cmark_grammar.specs.LinkDefinitions.{definition_in, further_bytes}
 use Rattle.cmark_grammar.specs.HtmlBlocks.{html_kind}
-use Rattle.cmark_grammar.specs.Containers.{Container, is_alert, enter, keeps, strip, strip_as, strips, is_bare_start, bare_after, container_of, width_of}
+use Rattle.cmark_grammar.specs.Containers.{Container, is_alert, enter, keeps, strip, strips, is_bare_start, bare_after, container_of, width_of}
 use Rattle.cmark_grammar.specs.DefinitionLists.{definition_at, begins_definition, is_definition}
-use Rattle.cmark_grammar.specs.Footnotes.{footnotes_in}
-use Rattle.cmark_grammar.specs.TableRows.{parts, count_missing, most_filled, one_more_if, holds_pipe, with_columns, delimited_ahead, count_cells, table_head, is_some_head, begins_with_pipe, table_interrupts}
-use Rattle.cmark_grammar.specs.Tables.{delimiter_row}
-use Rattle.cmark_grammar.specs.Openings.{Leaf, ThematicBreak, AtxHeading, IndentedCode, FencedCode, HtmlBlock, LinkDefinition, MetadataBlock, Table, Opening, Blank, Nests, Takes, Plain, or_else, nests_if, fenced_if, html_if, break_if, heading_if, metadata_begun, defined_if, begins_no_link, put_if, is_none, interrupts, texts, lazily, text_lines, definition_of, count_rows, table_if, text_of, leaf_of, whole_opens, opens, text_begun, definition_or, opens_at}
-use Rattle.cmark_grammar.specs.Blocks.{Blocks, Nil, Paragraph, SetextHeading, LeafBlock, ContainerBlock, join, place_in}
+use Rattle.cmark_grammar.specs.TableRows.{parts, count_missing, most_filled, one_more_if, holds_pipe, delimited_ahead, count_cells, table_head, is_some_head, begins_with_pipe, table_interrupts}
+use Rattle.cmark_grammar.specs.Openings.{Leaf, IndentedCode, FencedCode, HtmlBlock, MetadataBlock, Table, Opening, Blank, Nests, Takes, Plain, or_else, nests_if, fenced_if, html_if, break_if, heading_if, metadata_begun, put_if, is_none, interrupts, texts, lazily, text_lines, definition_of, count_rows, table_if, text_of, leaf_of, whole_opens, opens, text_begun, definition_or, opens_at}
+use Rattle.cmark_grammar.specs.Blocks.{Blocks, Nil, LeafBlock, ContainerBlock, join, place_in}
 use Rattle.cmark_block_model.specs.BlocksModel.{within, place_after}
-use Rattle.cmark_block_model.specs.BlocksByLine.{leaf_in, continuation_if, OpenLines, Between, AfterTag, InParagraph, InLeaf, InVerbatim, InContainer, blank_lines, close_lines, lines_take_lazy, leaf_begun, lines_inside_begun, lines_begin_as, lines_underline_or, lines_go_on_or, lines_kept_or, verbatim_line, lines_begin_in, lines_begin, lines_feed, lines_feed_all}
+use Rattle.cmark_block_model.specs.BlocksByLine.{OpenLines, Between, AfterTag, InParagraph, InLeaf, InVerbatim, InContainer, close_lines, lines_take_lazy, leaf_begun, lines_inside_begun, lines_begin_as, lines_kept_or, lines_begin_in, lines_begin, lines_feed, lines_feed_all}
 use Rattle.cmark_block_model.proofs.RowPlaces.{kept-following}
 use Rattle.cmark_stream_model.specs.Growth.{fed_before, open_after, Parts, looks_ahead, are_blind, has_blank_line, are_resolved, decide, AreDecided, HasNoMetadata}
 use Rattle.cmark_stream_model.proofs.Fronts.{Steady, feed-steady}
@@ -45,19 +43,13 @@ blind_bytes (b ∷ bs) = not (looks_ahead b) && blind_bytes bs
 
 blind-bytes : (cs : List Column) → are_blind cs ≡ true → blind_bytes (bytes_of cs) ≡ true
 blind-bytes [] e = refl
-blind-bytes (c ∷ cs) e = go (c.part == 0) (blind-bytes cs (both (not (looks_ahead c.byte)) (are_blind cs) e).1)
-  where
-    go : (z : Bool) → blind_bytes (bytes_of cs) ≡ true → blind_bytes (if z then c.byte ∷ bytes_of cs else bytes_of cs) ≡ true
-    go true ih = ap (λ x. x && blind_bytes (bytes_of cs)) (both (not (looks_ahead c.byte)) (are_blind cs) e).0 ∙ ih
-    go false ih = ih
+blind-bytes (c ∷ cs) e = search (rules, both, blind-bytes cs (both (not (looks_ahead c.byte)) (are_blind cs) e).1)
 
 blind-words : (r : Row) → are_blind r.columns ≡ true → blind_bytes (words_of r) ≡ true
 blind-words r e = blind-bytes (without_indent r.columns) (blind-drop _ r.columns e)
 
 not-both : (a b : Bool) → not (a || b) ≡ true → (a ≡ false) × (b ≡ false)
-not-both true b e = absurd (true≢false (sym e))
-not-both false true e = absurd (true≢false (sym e))
-not-both false false e = (refl, refl)
+not-both a b e = grind arith
 
 -- no pipe separates them
 blind-parts : (escaped : Bool) (bs : List ℕ) → blind_bytes bs ≡ true → (part : List ℕ) × (parts escaped bs ≡ part ∷ [])
@@ -73,11 +65,7 @@ blind-pipe bs e = ap (λ l. nat_lt 1 (length l)) (blind-parts false bs e).1
 -- no definition begins with them
 further-none : (r : Row) (more : List Row) → definition_in (further_bytes r more) ≡ None
 further-none r [] = refl
-further-none r (s ∷ more) = go (nat_le 2 (r.line_end - r.content_end))
-  where
-    go : (z : Bool) → definition_in ((if z then 13 ∷ 10 ∷ [] else 10 ∷ []) ++ (bytes_of s.columns ++ further_bytes s more)) ≡ None
-    go true = refl
-    go false = refl
+further-none r (s ∷ more) = grind arith
 
 blind-defined : (r : Row) (words : List ℕ) (more : List Row) → blind_bytes words ≡ true → definition_in (words ++ further_bytes r more) ≡ None
 blind-defined r [] more e = further-none r more
@@ -88,9 +76,7 @@ either true x = refl
 either false x = refl
 
 and-none : (a b : Bool) → (a && (b && false)) ≡ false
-and-none true true = refl
-and-none true false = refl
-and-none false b = refl
+and-none a b = grind arith
 
 module _ (options : Options) where
   -- ## Blank lines
@@ -106,11 +92,7 @@ module _ (options : Options) where
       go false q = absurd (true≢false (sym e ∙ ap is_bare (bare-front c cs false q)))
 
   pub bare-blank : (c : Column) (cs : List Column) → is_bare (without_indent (c ∷ cs)) ≡ true → is_blank c ≡ true
-  bare-blank c cs e = go (is_blank c) refl
-    where
-      go : (z : Bool) → is_blank c ≡ z → is_blank c ≡ true
-      go true q = q
-      go false q = absurd (true≢false (sym e ∙ ap is_bare (bare-front c cs false q)))
+  bare-blank c cs e = grind (arith, bare-front)
 
   pub bare-drop : (n : ℕ) (cs : List Column) → is_bare (without_indent cs) ≡ true → is_bare (without_indent (drop n cs)) ≡ true
   bare-drop zero cs e = e
@@ -118,29 +100,17 @@ module _ (options : Options) where
   bare-drop (suc n) (c ∷ cs) e = bare-drop n cs (bare-following c cs e)
 
   strip-blank : (k : Container) (bare : Bool) (r : Row) → is_blank_line r ≡ true → is_blank_line (strip k bare r) ≡ true
-  strip-blank k bare r e = go (keeps k bare r) refl
-    where
-      go : (o : Option Row) → keeps k bare r ≡ o → is_blank_line (strip_as o r) ≡ true
-      go None q = e
-      go (Some s) q = let w = kept-following k bare r s q in subst (λ x. is_blank_line x ≡ true) w.1.1 (bare-drop w.0 r.columns e)
+  strip-blank k bare r e = grind (arith, kept-following, bare-drop)
 
   strip-blind : (k : Container) (bare : Bool) (r : Row) → are_blind r.columns ≡ true → are_blind (strip k bare r).columns ≡ true
-  strip-blind k bare r e = go (keeps k bare r) refl
-    where
-      go : (o : Option Row) → keeps k bare r ≡ o → are_blind (strip_as o r).columns ≡ true
-      go None q = e
-      go (Some s) q = let w = kept-following k bare r s q in subst (λ x. are_blind x.columns ≡ true) w.1.1 (blind-drop w.0 r.columns e)
+  strip-blind k bare r e = grind (arith, kept-following, blind-drop)
 
   enter-blind : (k : Container) (r : Row) → are_blind r.columns ≡ true → are_blind (enter k r).columns ≡ true
   unfolding enter
   enter-blind k r e = blind-drop (width_of k r) r.columns e
 
   pub blank-words : (r : Row) → is_blank_line r ≡ true → words_of r ≡ []
-  blank-words r e = go (without_indent r.columns) e
-    where
-      go : (cs : List Column) → is_bare cs ≡ true → bytes_of cs ≡ []
-      go [] q = refl
-      go (c ∷ cs) q = absurd (true≢false (sym q))
+  blank-words r e = grind arith
 
   blank-interrupts : (same : Bool) (r : Row) (ahead : List Row) → is_blank_line r ≡ true → interrupts options same r ahead ≡ true
   blank-interrupts same r ahead e = rw e refl
@@ -195,20 +165,13 @@ module _ (options : Options) where
   sees-entered k shows r a b h = ⊎_elim (λ e. inl (enter-blind k r e)) (λ t. inr (within-alike k shows a b t)) h
 
   delimited-alike : (columns : ℕ) (a b : List Row) → Alike a b → delimited_ahead columns a ≡ delimited_ahead columns b
-  delimited-alike columns [] [] h = refl
-  delimited-alike columns [] (s ∷ ss) h = absurd h
-  delimited-alike columns (r ∷ rs) [] h = absurd h
-  delimited-alike columns (r ∷ rs) (s ∷ ss) h = ap (λ x. if nat_le (indent_of x) 3 then with_columns columns (delimiter_row (words_of x)) else None) (sym h.0)
+  delimited-alike columns a b h = grind arith
 
   blind-head : (r : Row) (ahead : List Row) → are_blind r.columns ≡ true → table_head options r ahead ≡ None
-  blind-head r ahead e =
-      ap (λ z. if options.tables && (not r.lazy && z) then delimited_ahead (count_cells r) ahead else None) (blind-pipe (words_of r) (blind-words r e))
-      ∙ ap (λ z. if z then delimited_ahead (count_cells r) ahead else None) (and-none options.tables (not r.lazy))
+  blind-head r ahead e = cc (blind-pipe (words_of r) (blind-words r e), and-none options.tables (not r.lazy))
 
   head-same : (r : Row) (a b : List Row) → Sees r a b → table_head options r a ≡ table_head options r b
-  head-same r a b h =
-      ⊎_elim (λ e. blind-head r a e ∙ sym (blind-head r b e))
-      (λ t. ap (λ d. if options.tables && (not r.lazy && holds_pipe (words_of r)) then d else None) (delimited-alike (count_cells r) a b t)) h
+  head-same r a b h = grind (arith, blind-head, delimited-alike)
 
   table_interrupts-same : (r : Row) (a b : List Row) → Sees r a b → table_interrupts options r a ≡ table_interrupts options r b
   table_interrupts-same r a b h = ap (λ t. nat_le (indent_of r) 3 && (begins_with_pipe (words_of r) && is_some_head t)) (head-same r a b h)
@@ -243,11 +206,7 @@ module _ (options : Options) where
       counted-blank e x = ap (λ z. one_more_if (not z && nat_le (count_missing columns r) left) (count_rows options columns (left - count_missing columns r) x)) (blank-interrupts false r x e)
 
   blank-delimited : (columns : ℕ) (s : Row) (ahead : List Row) → is_blank_line s ≡ true → delimited_ahead columns (s ∷ ahead) ≡ None
-  blank-delimited columns s ahead e = ap (λ w. if nat_le (indent_of s) 3 then with_columns columns (delimiter_row w) else None) (blank-words s e) ∙ go (nat_le (indent_of s) 3)
-    where
-      go : (z : Bool) → (if z then with_columns columns (delimiter_row []) else None) ≡ None
-      go true = refl
-      go false = refl
+  blank-delimited columns s ahead e = grind (arith, blank-words)
 
   -- a table begins before one list of lines exactly if it begins before the other
   table-alike : (r : Row) (a b : List Row) → Alike a b → table_if options (table_head options r a) a ≡ table_if options (table_head options r a) b
@@ -265,21 +224,13 @@ module _ (options : Options) where
       go (Some alignments) h = ap (λ n. Takes (Table alignments) (suc n)) (count_rows-alike (length alignments) most_filled rs ss h)
 
   blind-definition : (r : Row) (ahead : List Row) → are_blind r.columns ≡ true → definition_of options r ahead ≡ Plain
-  blind-definition r ahead e =
-      ap (λ d. if begins_no_link (footnotes_in options) (words_of r) then Plain else defined_if (length (text_lines options ahead)) d) (blind-defined r (words_of r) (text_lines options ahead) (blind-words r e)) ∙ go (begins_no_link (footnotes_in options) (words_of r))
-    where
-      go : (z : Bool) → (if z then Plain else Plain) ≡ Plain
-      go true = refl
-      go false = refl
+  blind-definition r ahead e = grind (arith, blind-defined, blind-words)
 
   blind-text : (r : Row) (ahead : List Row) → are_blind r.columns ≡ true → text_of options r ahead ≡ Plain
   blind-text r ahead e = ap (λ o. or_else o (table_if options (table_head options r ahead) ahead)) (blind-definition r ahead e) ∙ ap (λ t. table_if options t ahead) (blind-head r ahead e)
 
   text-same : (r : Row) (a b : List Row) → Sees r a b → text_of options r a ≡ text_of options r b
-  text-same r a b h =
-      ⊎_elim (λ e. blind-text r a e ∙ sym (blind-text r b e))
-      (λ t. ap (λ l. or_else (if begins_no_link (footnotes_in options) (words_of r) then Plain else defined_if (length l) (definition_in (bytes_over r l))) (table_if options (table_head options r a) a)) (text_lines-alike a b t)
-      ∙ ap (or_else (definition_of options r b)) (table-alike r a b t ∙ ap (λ x. table_if options x b) (head-same r a b (inr t)))) h
+  text-same r a b h = grind (arith, blind-text, text_lines-alike, table-alike, head-same)
 
   -- ## The block that a line begins, without the number of its lines if these are judged one by one
 
@@ -297,24 +248,14 @@ module _ (options : Options) where
   quiet Plain = Plain
 
   quiet-begun : (leaf : Leaf) (n : ℕ) (closed : Blocks) (r : Row) → leaf_begun leaf (quiet_leaf leaf n) closed r ≡ leaf_begun leaf n closed r
-  quiet-begun ThematicBreak n closed r = refl
-  quiet-begun (AtxHeading level) n closed r = refl
-  quiet-begun IndentedCode n closed r = refl
-  quiet-begun (FencedCode fence) n closed r = refl
-  quiet-begun (HtmlBlock kind) n closed r = refl
-  quiet-begun (LinkDefinition definition) n closed r = refl
-  quiet-begun (MetadataBlock kind) n closed r = refl
-  quiet-begun (Table alignments) n closed r = refl
+  quiet-begun leaf n closed r = grind arith
 
   quiet-begins : (o : Opening) (inside : Container → OpenLines) (closed : Blocks) (r : Row) → lines_begin_as (quiet o) inside closed r ≡ lines_begin_as o inside closed r
   quiet-begins (Takes leaf n) inside closed r = quiet-begun leaf n closed r
   quiet-begins _ inside closed r = refl
 
   quiet-or : (x y : Opening) → quiet (or_else x y) ≡ or_else (quiet x) (quiet y)
-  quiet-or Blank y = refl
-  quiet-or (Nests k) y = refl
-  quiet-or (Takes leaf n) y = refl
-  quiet-or Plain y = refl
+  quiet-or x y = grind arith
 
   or-quiet : (x x' y y' : Opening) → quiet x ≡ quiet x' → quiet y ≡ quiet y' → quiet (or_else x y) ≡ quiet (or_else x' y')
   or-quiet x x' y y' e f = quiet-or x y ∙ ap (λ o. or_else o (quiet y)) e ∙ ap (or_else (quiet x')) f ∙ sym (quiet-or x' y')
@@ -348,16 +289,7 @@ module _ (options : Options) where
   -- ## Metadata
 
   pub no-metadata : HasNoMetadata options → (r : Row) → metadata_kind options r ≡ None
-  no-metadata m r = go (is_whole_line r) (metadata_of (bytes_of r.columns))
-    where
-      off : (kind : MetadataBlockKind) → has_metadata options kind ≡ false
-      off YamlStyle = m.0
-      off PlusesStyle = m.1
-
-      go : (z : Bool) (o : Option MetadataBlockKind) → (if z then metadata_if options o else None) ≡ None
-      go true None = refl
-      go true (Some kind) = ap (λ x. if x then Some kind else None) (off kind)
-      go false o = refl
+  no-metadata m r = search rules
 
   -- both lists of lines decide alike whether metadata begins on the line
   abbrev Told : Row → List Row → List Row → Type 0
@@ -384,9 +316,7 @@ module _ (options : Options) where
   at-quiet place r a b told h = go (is_after_task place && not r.lazy) (definition_at options place r)
     where
       go : (z : Bool) (d : Option ℕ) → quiet (if z then text_begun r else definition_or d (opens options r a)) ≡ quiet (if z then text_begun r else definition_or d (opens options r b))
-      go true d = refl
-      go false (Some width) = refl
-      go false None = opens-quiet r a b told h
+      go z d = grind (arith, opens-quiet)
 
   begins-inside : (o : Opening) (one other : Container → OpenLines) (closed : Blocks) (r : Row) → ((k : Container) → o ≡ Nests k → one k ≡ other k) → lines_begin_as o one closed r ≡ lines_begin_as o other closed r
   begins-inside (Nests k) one other closed r e = ap (λ x. InContainer closed k r [] (lines_inside_begun (is_alert k) x)) (e k refl)
@@ -422,35 +352,10 @@ module _ (options : Options) where
   feed-same : (o : OpenLines) (r : Row) (a b : List Row) → ArePrefixed o → IsWholly options r → (Begins o r a → Told r a b) → Sees r a b → lines_feed options o r a ≡ lines_feed options o r b
   feed-same (Between closed) r a b p w told h = begin-same closed r a b w (told tt) h
   feed-same AfterTag r a b p w told h = begin_in-same (suc (length r.columns)) AfterLazy Nil r a b w (told tt) h
-  feed-same (InParagraph closed first more) r a b p w told h =
-      ap (λ t. lines_underline_or (underlines r) underlined (lines_go_on_or t on (lines_begin options off r a))) (texts-same r a b h)
-      ∙ go (underlines r) refl (texts options r b) refl
-    where
-      off : Blocks
-      off = join closed (Paragraph first more Nil)
-
-      on : OpenLines
-      on = InParagraph closed first (more ++ r ∷ [])
-
-      underlined : ℕ → OpenLines
-      underlined level = Between (join closed (SetextHeading level first more r Nil))
-
-      go : (u : Option ℕ) → underlines r ≡ u → (t : Bool) → texts options r b ≡ t
-          → lines_underline_or u underlined (lines_go_on_or t on (lines_begin options off r a)) ≡ lines_underline_or u underlined (lines_go_on_or t on (lines_begin options off r b))
-      go (Some level) e t q = refl
-      go None e true q = refl
-      go None e false q = begin-same off r a b w (told (e, texts-same r a b h ∙ q)) h
+  feed-same (InParagraph closed first more) r a b p w told h = grind (arith, texts-same, begin-same)
   feed-same (InLeaf closed leaf first had zero) r a b p w told h = begin-same (join closed (LeafBlock leaf first had Nil)) r a b w (told refl) h
   feed-same (InLeaf closed leaf first had (suc left)) r a b p w told h = refl
-  feed-same (InVerbatim closed verbatim first had waiting) r a b p w told h = go (continuation_if r.lazy verbatim r) refl
-    where
-      off : Blocks
-      off = join (join closed (LeafBlock (leaf_in verbatim) first had Nil)) (blank_lines waiting)
-
-      go : (c : Continuation) → continuation_if r.lazy verbatim r ≡ c
-          → verbatim_line c closed verbatim first had waiting r (lines_begin options off r a) ≡ verbatim_line c closed verbatim first had waiting r (lines_begin options off r b)
-      go Stops e = begin-same off r a b w (told e) h
-      go _ e = refl
+  feed-same (InVerbatim closed verbatim first had waiting) r a b p w told h = grind (arith, begin-same)
   feed-same (InContainer closed k first more inside) r a b p w told h =
       ap (λ z. lines_kept_or (keeps k bare r) (z && lines_take_lazy inside) (on (lines_feed options inside (strip k bare r) (within k false a))) (lines_begin options off r a)) (lazily-same k r a b h)
       ∙ ap (λ x. lines_kept_or (keeps k bare r) (lazily options k r b && lines_take_lazy inside) (on x) (lines_begin options off r a))
@@ -470,19 +375,13 @@ module _ (options : Options) where
       go : (o : Option Row) → keeps k (bare_after (is_bare_start k first) more) r ≡ o → (z : Bool) → (lazily options k r b && lines_take_lazy inside) ≡ z
           → lines_kept_or o z (on (lines_feed options inside (strip k (bare_after (is_bare_start k first) more) r) (within k false b))) (lines_begin options off r a)
           ≡ lines_kept_or o z (on (lines_feed options inside (strip k (bare_after (is_bare_start k first) more) r) (within k false b))) (lines_begin options off r b)
-      go (Some s) e z q = refl
-      go None e true q = refl
-      go None e false q = begin-same off r a b w (told (e, ap (λ z. z && lines_take_lazy inside) (lazily-same k r a b h) ∙ q)) h
+      go o e z q = grind (arith, begin-same, off, lazily-same)
 
   -- ## Lines that decide about metadata
 
   ended-append : (kind : MetadataBlockKind) (rs x : List Row) → AreLines options rs → is_ended kind rs ≡ true → is_ended kind (shown (rs ++ x)) ≡ true
   ended-append kind [] x l e = absurd (true≢false (sym e))
-  ended-append kind (r ∷ rs) x l e = ap (λ z. is_ended kind (show_as z r (shown (rs ++ x)))) l.0.0 ∙ go (ended-append kind rs x l.1) (ends_metadata kind r) e
-    where
-      go : (is_ended kind rs ≡ true → is_ended kind (shown (rs ++ x)) ≡ true) → (z : Bool) → (z || is_ended kind rs) ≡ true → (z || is_ended kind (shown (rs ++ x))) ≡ true
-      go ih true t = refl
-      go ih false t = ih t
+  ended-append kind (r ∷ rs) x l e = grind (arith, ended-append kind rs x l.1)
 
   -- lines that decide about metadata decide alike, whatever follows them
   decide-told : (r : Row) (rs x y : List Row) → AreLines options rs → decide (metadata_kind options r) rs ≡ true → Told r (shown (rs ++ x)) (shown (rs ++ y))
@@ -490,33 +389,16 @@ module _ (options : Options) where
     where
       held : (kind : MetadataBlockKind) (s : Row) (ss : List Row) → AreLines options ss → (blank ends : Bool) → is_blank_line s ≡ blank → ends_metadata kind s ≡ ends → (blank || (ends || is_ended kind ss)) ≡ true
           → holds_metadata kind (s ∷ shown (ss ++ x)) ≡ holds_metadata kind (s ∷ shown (ss ++ y))
-      held kind s ss m true ends p q t = rw p refl
-      held kind s ss m false true p q t = rw (p, q) refl
-      held kind s ss m false false p q t = rw (p, q) (ap (λ z. not false && z) (ended-append kind ss x m t ∙ sym (ended-append kind ss y m t)))
+      held kind s ss m blank ends p q t = grind (arith, ended-append)
 
       begun : (kind : MetadataBlockKind) (a b : List Row) → holds_metadata kind a ≡ holds_metadata kind b → quiet (metadata_begun (Some kind) a) ≡ quiet (metadata_begun (Some kind) b)
-      begun kind a b q = both-ways (holds_metadata kind a) (holds_metadata kind b) q
-        where
-          both-ways : (z w : Bool) → z ≡ w
-              → quiet (if z then Takes (MetadataBlock kind) (counted (metadata_continuation kind) a) else Plain) ≡ quiet (if w then Takes (MetadataBlock kind) (counted (metadata_continuation kind) b) else Plain)
-          both-ways true true q = refl
-          both-ways true false q = absurd (true≢false q)
-          both-ways false true q = absurd (true≢false (sym q))
-          both-ways false false q = refl
+      begun kind a b q = grind arith
 
       go : (o : Option MetadataBlockKind) (ss : List Row) → AreLines options ss → decide o ss ≡ true → quiet (metadata_begun o (shown (ss ++ x))) ≡ quiet (metadata_begun o (shown (ss ++ y)))
-      go None ss m t = refl
-      go (Some kind) [] m t = absurd (true≢false (sym t))
-      go (Some kind) (s ∷ ss) m t =
-          begun kind (shown ((s ∷ ss) ++ x)) (shown ((s ∷ ss) ++ y))
-          (ap (λ z. holds_metadata kind (show_as z s (shown (ss ++ x)))) m.0.0
-          ∙ held kind s ss m.1 (is_blank_line s) (ends_metadata kind s) refl refl t
-          ∙ sym (ap (λ z. holds_metadata kind (show_as z s (shown (ss ++ y)))) m.0.0))
+      go o ss m t = grind (arith, begun, held)
 
   begins-parts : (o : OpenLines) (r : Row) (ahead : List Row) → Steady Nil o → Begins o r ahead → Parts options o r ahead
-  begins-parts (Between closed) r ahead s h = tt
-  begins-parts AfterTag r ahead s h = absurd s
-  begins-parts _ r ahead s h = h
+  begins-parts o r ahead s h = grind arith
 
   -- the state after the lines does not depend on the lines after them
   pub fed-same : (o : OpenLines) (rs x y : List Row) → Steady Nil o → ArePrefixed o → AreLines options rs → are_resolved rs ≡ true → AreDecided options x o rs → fed_before options x o rs ≡ fed_before options y o rs
@@ -526,12 +408,7 @@ module _ (options : Options) where
       ∙ ap (λ z. fed_before options y z rs) (feed-same o r (shown (rs ++ x)) (shown (rs ++ y)) p l.0.1 (λ b. decide-told r rs x y l.1 (d.0 (begins-parts o r (shown (rs ++ x)) s b))) sees)
     where
       sees : Sees r (shown (rs ++ x)) (shown (rs ++ y))
-      sees = go (are_blind r.columns) (has_blank_line rs) refl refl (both (are_blind r.columns || has_blank_line rs) (are_resolved rs) e).0
-        where
-          go : (z w : Bool) → are_blind r.columns ≡ z → has_blank_line rs ≡ w → (z || w) ≡ true → Sees r (shown (rs ++ x)) (shown (rs ++ y))
-          go true w p q t = inl p
-          go false true p q t = inr (shown-alike (rs ++ x) (rs ++ y) (alike-following rs x y q))
-          go false false p q t = absurd (true≢false (sym t))
+      sees = grind (arith, both, shown-alike, alike-following)
 
   pub fed-alone : (o : OpenLines) (rs : List Row) → fed_before options [] o rs ≡ lines_feed_all options o rs
   fed-alone o [] = refl

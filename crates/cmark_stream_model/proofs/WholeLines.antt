@@ -1,5 +1,5 @@
 -- The first line of some bytes, and the bytes after it.
-use Rattle.std.proofs.Common.{◌≡◌, ℕ, ◌+◌, ◌<◌, Bool, true, false, List, [], ◌∷◌, ◌++◌, length, refl, sym, ap, ◌∙◌, subst, arith, append-nil}
+use Rattle.std.proofs.Common.{◌≡◌, ℕ, ◌+◌, ◌<◌, Bool, true, false, List, [], ◌∷◌, ◌++◌, length, refl, sym, ap, ◌∙◌, subst, arith, append-nil, rules}
 use Rattle.std.specs.Prelude.{if◌then◌else◌}
 use Rattle.cmark_grammar.specs.Lines.{ends_line, onto, lines}
 use Rattle.cmark_stream_model.specs.Growth.{ends_whole}
@@ -32,31 +32,7 @@ first-parted (b ∷ bs) line more e = go (ends_line b bs) refl (lines bs) refl (
           one = ap (λ z. if z then (b ∷ []) ∷ lines [] else onto b (lines [])) (ends-alone b bs q);
           whole = λ next others r. q;
         })
-    go false q [] d ih =
-        let was : (b ∷ []) ∷ [] ≡ line ∷ more = sym (ap (λ z. if z then (b ∷ []) ∷ lines bs else onto b (lines bs)) q ∙ ap (onto b) d) ∙ e in
-        let none : bs ≡ [] = no-line bs d in
-        subst (Parted (b ∷ bs)) (let r : b ∷ [] ≡ line = cc in r) (record {
-          first = b;
-          others = [];
-          is = refl;
-          rest = bs;
-          are = refl;
-          one = alone (ends_line b []);
-          whole = λ next others r. absurd (let x : [] ≡ next ∷ others = sym none ∙ r in cc);
-        })
-      where
-        no-line : (l : List ℕ) → lines l ≡ [] → l ≡ []
-        no-line [] h = refl
-        no-line (c ∷ l) h = absurd (go-line (ends_line c l) (lines l) h)
-          where
-            go-line : (z : Bool) (ls : List (List ℕ)) → (if z then (c ∷ []) ∷ ls else onto c ls) ≡ [] → ⊥
-            go-line true ls h = let x : (c ∷ []) ∷ ls ≡ [] = h in cc
-            go-line false [] h = let x : (c ∷ []) ∷ [] ≡ [] = h in cc
-            go-line false (m ∷ ms) h = let x : (c ∷ m) ∷ ms ≡ [] = h in cc
-
-        alone : (z : Bool) → (if z then (b ∷ []) ∷ [] else onto b []) ≡ (b ∷ []) ∷ []
-        alone true = refl
-        alone false = refl
+    go false q [] d ih = search rules
     go false q (l ∷ ls) d ih =
         let was : (b ∷ l) ∷ ls ≡ line ∷ more = sym (ap (λ z. if z then (b ∷ []) ∷ lines bs else onto b (lines bs)) q ∙ ap (onto b) d) ∙ e in
         let p = ih l ls d in
@@ -71,10 +47,7 @@ first-parted (b ∷ bs) line more e = go (ends_line b bs) refl (lines bs) refl (
         })
       where
         same : Parted bs l → ends_line b l ≡ false
-        same p =
-            ap (ends_line b) p.is
-            ∙ ap (ends_line b) {x = p.first ∷ (p.others ++ p.rest)} {y = bs} (sym (p.are ∙ ap (λ x. x ++ p.rest) p.is))
-            ∙ q
+        same p = cc
 
         longer : (p : Parted bs l) → ends_whole (b ∷ l) p.rest ≡ ends_whole l p.rest
         longer p = ap (λ x. ends_whole (b ∷ x) p.rest) p.is ∙ ap (λ x. ends_whole x p.rest) (sym p.is)

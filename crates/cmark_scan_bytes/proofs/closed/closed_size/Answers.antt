@@ -1,5 +1,5 @@
-use Rattle.std.proofs.Common.{sym, ap, ◌∙◌}
-use Rattle.cmark_grammar.specs.LinkDefinitions.{put, up_to, escapes_next}
+use Rattle.std.proofs.Common.{ap, ◌∙◌, arith}
+use Rattle.cmark_grammar.specs.LinkDefinitions.{up_to, escapes_next}
 use Rattle.cmark_scan_bytes.proofs.PartSteps.{reads_none, reads_more, reads_fail, reads_closed, reads_byte, no_bytes}
 use Rattle.cmark_scan_bytes.proofs.closed.closed_size.Goals as goal
 
@@ -7,10 +7,7 @@ pub loop-first-init : goal.loop-first-init
 loop-first-init c = reads_none _ c.args.bytes.now
 
 pub loop-first-preserved : goal.loop-first-preserved
-loop-first-preserved c =
-    let cut = c.in-Some.ensures.cases.0 in
-    reads_more _ _ _ c.args.bytes.now _ c.in-Some.others.now c.in-Some.first.now c.loop-first.invariant cut
-    (ap (up_to c.loop-first.escaped c.args.closer c.args.refused c.args.over_lines) cut ∙ c.in-GoesOn.ensures.value c.in-Some.others.now _ ∙ ap (λ t. put c.in-Some.first.now (up_to t c.args.closer c.args.refused c.args.over_lines c.in-Some.others.now)) (sym c.escapes_next-escaped.ensures))
+loop-first-preserved c = grind (arith, reads_more)
 
 pub returns-in-Ends-clause-value : goal.returns-in-Ends-clause-value
 returns-in-Ends-clause-value c =

@@ -1,6 +1,6 @@
 use Rattle.std.proofs.Common.{◌≡◌, ℕ, ◌-◌, List, [], length, take, drop, Option, None, Some, Bool, false, if◌then◌else◌, eq-eqb, sym, ap, ◌∙◌, arith}
 use Rattle.std.proofs.lemmas.Bool.{ne_eqb}
-use Rattle.cmark_grammar.specs.LinkDefinitions.{Parsed, put, bare_in, depth_after}
+use Rattle.cmark_grammar.specs.LinkDefinitions.{Parsed, bare_in}
 use Rattle.cmark_scan_bytes.specs.Steps.{puts}
 use Rattle.cmark_scan_bytes.proofs.Lists.{rest_of}
 use Rattle.cmark_scan_bytes.proofs.PartSteps.{Reads, reads_none, reads_more, reads_far, reads_fail, reads_open, reads_end, no_bytes}
@@ -13,28 +13,13 @@ at_end t = if t then Some (record { bytes = []; following = [] }) else None
 module _ (all : Option Parsed) (escaped : Bool) (depth n : ℕ) (bytes rest : List ℕ) where
   pub further : Reads all (bare_in escaped depth rest) bytes rest → bare_in escaped depth rest ≡ puts (take n rest) (bare_in escaped depth (drop n rest))
       → let others : List ℕ = take (length rest - n) (drop n rest) in Reads all (bare_in escaped depth others) bytes others
-  further reads passed =
-      let is : take (length rest - n) (drop n rest) ≡ drop n rest = rest_of rest n in
-      reads_far all _ _ bytes rest _ n reads is (passed ∙ ap (λ (l : List ℕ). puts (take n rest) (bare_in escaped depth l)) (sym is))
+  further reads passed = grind (arith, rest_of, reads_far)
 
 pub loop-first-init : goal.loop-first-init
-loop-first-init c = record {
-  reads = further _ false 0 c.plain_size.result c.args.bytes.now c.args.bytes.now (reads_none _ c.args.bytes.now) (c.plain_size.ensures.value 0);
-  shallow = omega arith;
-}
+loop-first-init c = grind (arith, further, reads_none)
 
 pub loop-first-preserved : goal.loop-first-preserved
-loop-first-preserved c =
-    let cut = c.in-Some.ensures.cases.0 in
-    record {
-      reads = further _ c.escapes_next-escaped.result c.depth_after-depth.result c.plain_size-in-Some.result c.args.bytes.now c.in-Some.others.now
-          (reads_more _ _ _ c.args.bytes.now _ c.in-Some.others.now c.in-Some.first.now c.loop-first.invariant.reads cut
-          (ap (bare_in c.loop-first.escaped c.loop-first.depth) cut ∙ c.in-GoesOn.ensures.value c.in-Some.others.now _
-          ∙ ap (λ t. put c.in-Some.first.now (bare_in t (depth_after c.loop-first.escaped c.loop-first.depth c.in-Some.first.now) c.in-Some.others.now)) (sym c.escapes_next-escaped.ensures)
-          ∙ ap (λ n. put c.in-Some.first.now (bare_in c.escapes_next-escaped.result n c.in-Some.others.now)) (sym c.depth_after-depth.ensures)))
-          (c.plain_size-in-Some.ensures.value c.depth_after-depth.result);
-      shallow = let e = c.depth_after-depth.ensures in let s = c.in-GoesOn.ensures.shallow in omega (arith, e, s);
-    }
+loop-first-preserved c = grind (arith, further, reads_more)
 
 pub returns-in-Ends-clause-value : goal.returns-in-Ends-clause-value
 returns-in-Ends-clause-value c =

@@ -1,8 +1,6 @@
-use Rattle.std.proofs.Common.{◌≡◌, ℕ, suc, ◌+◌, ◌-◌, ◌<◌, List, Some, length, take, drop, false, ap, subst, ◌∙◌, arith, length-drop}
-use Rattle.std.specs.Prelude.{option_map}
+use Rattle.std.proofs.Common.{◌≡◌, ℕ, suc, ◌+◌, ◌-◌, List, Some, take, drop, false, ap, ◌∙◌, arith, length-drop}
 use Rattle.std.proofs.lemmas.Str.{IsCharBoundary-after_ascii}
 use Rattle.cmark_grammar.specs.LinkDefinitions.{Parsed, up_to}
-use Rattle.cmark_scan_bytes.specs.Shown.{Part, cut_after}
 use Rattle.cmark_scan_bytes.proofs.Lists.{rest_of}
 use Rattle.cmark_scan_bytes.proofs.Links.{cut_out}
 use Rattle.cmark_scan_bytes.proofs.Boundaries.{boundary_after}
@@ -16,16 +14,7 @@ range-requires-clause-start_boundary c = λ some. IsCharBoundary-after_ascii c.a
 
 pub returns-clause-value : goal.returns-clause-value
 unfolding FindsPointed
-returns-clause-value c =
-    let text : List ℕ = c.args.text.now in
-    let start : ℕ = c.args.start_ix + 1 in
-    let size : ℕ = c.in_ok-size.size in
-    let cut : take (length c.as_bytes.result.now - start) (drop start c.as_bytes.result.now) ≡ drop start text = rest_of c.as_bytes.result.now start ∙ ap (drop start) c.as_bytes.ensures.value in
-    let lt : size < length (drop start text) = subst (λ (bs : List ℕ). size < length bs) cut c.in_ok-size.ensures.within in
-    let end : start + size + 1 ≡ length text - length (drop (suc size) (drop start text)) = let l = length-drop start text in let m = length-drop (suc size) (drop start text) in omega arith in
-    ap (λ bs. let part : Part = record { end = start + size + 1; bytes = bs } in Some part) (c.range.ensures.value ∙ cut_out text start size)
-    ∙ ap (λ n. let part : Part = record { end = n; bytes = take size (drop start text) } in Some part) end
-    ∙ ap (option_map (cut_after text)) (subst (FindsPointed size) cut c.in_ok-size.ensures.value)
+returns-clause-value c = grind (arith, rest_of, length-drop, cut_out, FindsPointed)
 
 pub returns-clause-boundary : goal.returns-clause-boundary
 returns-clause-boundary c =

@@ -1,8 +1,7 @@
-use Rattle.std.proofs.Common.{◌≡◌, ◌-◌, ◌<◌, ℕ, Bool, suc, List, Some, length, take, drop, ap, subst, ◌∙◌, arith}
+use Rattle.std.proofs.Common.{◌≡◌, ◌-◌, ℕ, Bool, suc, List, Some, take, drop, ap, ◌∙◌, arith}
 use Rattle.std.proofs.lemmas.Grind.{common_steps}
 use Rattle.cmark_grammar.specs.Autolinks.{autolink_in}
 use Rattle.cmark_grammar.specs.LinkDefinitions.{Parsed}
-use Rattle.cmark_scan_bytes.specs.Shown.{cut_at}
 use Rattle.cmark_scan_bytes.proofs.Lists.{rest_of}
 use Rattle.cmark_scan_bytes.proofs.Links.{part_is, cut_out}
 use Rattle.cmark_scan_bytes.proofs.Boundaries.{boundary_after}
@@ -13,13 +12,7 @@ FindsAddress emails size bs = Some (let found : Parsed = record { bytes = take s
 
 pub returns-clause-value : goal.returns-clause-value
 unfolding FindsAddress
-returns-clause-value c =
-    let start : ℕ = c.args.start_ix in
-    let size : ℕ = c.in_ok-size.size in
-    let cut : take (length c.as_bytes.result.now - start) (drop start c.as_bytes.result.now) ≡ drop start c.args.text.now = rest_of c.as_bytes.result.now start ∙ ap (drop start) c.as_bytes.ensures.value in
-    part_is (drop start c.args.text.now) c.range.result.now (drop (suc size) (drop start c.args.text.now)) start size (c.range.ensures.value ∙ cut_out c.args.text.now start size)
-    (subst (λ (bs : List ℕ). size < length bs) cut c.in_ok-size.ensures.within)
-    ∙ ap (cut_at start) (subst (FindsAddress c.args.emails size) cut c.in_ok-size.ensures.value)
+returns-clause-value c = grind (arith, rest_of, part_is, cut_out, FindsAddress)
 
 pub returns-clause-boundary : goal.returns-clause-boundary
 returns-clause-boundary c =

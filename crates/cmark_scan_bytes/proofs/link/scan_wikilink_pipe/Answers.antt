@@ -1,9 +1,8 @@
-use Rattle.std.proofs.Common.{◌≡◌, ◌+◌, ◌-◌, ℕ, suc, List, Option, None, Some, take, drop, refl, sym, ap, subst, ◌∙◌, arith, eqb-true}
+use Rattle.std.proofs.Common.{◌≡◌, ◌+◌, ◌-◌, ℕ, suc, List, Option, Some, take, drop, refl, sym, ap, subst, ◌∙◌, arith, eqb-true}
 use Rattle.std.proofs.lemmas.Grind.{elements}
 use Rattle.std.proofs.lemmas.List.{length-take, get_or-take}
-use Rattle.std.specs.Prelude.{option_map}
 use Rattle.memchr.specs.Find.{IsFirstByte, is_byte}
-use Rattle.cmark_scan_bytes.specs.Shown.{shown_cut, cut_at}
+use Rattle.cmark_scan_bytes.specs.Shown.{cut_at}
 use Rattle.cmark_scan_bytes.proofs.Links.{part_is, cut_out, shorter_cut, pipe_found, no_pipe}
 use Rattle.cmark_scan_bytes.proofs.Boundaries.{boundary_after}
 use Rattle.cmark_scan_bytes.proofs.link.scan_wikilink_pipe.Goals as goal
@@ -16,10 +15,7 @@ FindsPipe size bs = IsFirstByte (is_byte 124) bs size
 
 pub returns-in_err-size-clause-value : goal.returns-in_err-size-clause-value
 unfolding FindsPipe
-returns-in_err-size-clause-value c =
-    ap (option_map shown_cut) c.from_residual.ensures
-    ∙ ap (cut_at c.args.start_ix) (no_pipe (take c.args.len (drop c.args.start_ix c.args.text.now))
-    (subst (FindsPipe None) (cut c.args.text.now c.as_bytes.result.now c.args.start_ix c.args.len c.as_bytes.ensures.value) c.in_err-size.ensures))
+returns-in_err-size-clause-value c = grind (arith, no_pipe, FindsPipe, cut)
 
 pub returns-clause-value : goal.returns-clause-value
 unfolding FindsPipe

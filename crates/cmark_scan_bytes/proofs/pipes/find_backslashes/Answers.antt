@@ -16,14 +16,7 @@ found_in : (needle bytes text : List ℕ) (at : ℕ) (result value : Bool) → b
 found_in needle bytes text at result value same is e = ap (λ l. starts needle (drop at l)) (sym same) ∙ ap (starts needle) (sym (take_rest bytes at)) ∙ sym is ∙ e
 
 pub loop-start-preserved-then-is_second : goal.loop-start-preserved-then-is_second
-loop-start-preserved-then-is_second c =
-    let text = c.args.text.now in
-    let at = c.loop-start.start in
-    let within : at < length text = omega (arith, c.loop-start-test.true, ap length c.loop-start.invariant.same) in
-    record {
-      same = c.loop-start.invariant.same;
-      stay = second_stays text at within (with_literal_pipes text) (stay_as text at c.loop-start.is_second true c.if-is_second.true c.loop-start.invariant.stay);
-    }
+loop-start-preserved-then-is_second c = grind (arith, second_stays, stay_as)
 
 pub returns-then-starts : goal.returns-then-starts
 returns-then-starts c =

@@ -1,6 +1,5 @@
-use Rattle.std.proofs.Common.{◌==◌, sym, ap, ◌∙◌, arith}
-use Rattle.cmark_grammar.specs.Letters.{after_if}
-use Rattle.cmark_grammar.specs.Tags.{after_quotation_mark, after_ending}
+use Rattle.std.proofs.Common.{sym, ap, ◌∙◌, arith}
+use Rattle.cmark_grammar.specs.Tags.{after_quotation_mark}
 use Rattle.cmark_scan_bytes.proofs.TagSteps.{quote_to_stop, quote_next, quote_here}
 use Rattle.cmark_scan_bytes.proofs.tag.after_quotation_mark.Goals as goal
 
@@ -16,6 +15,4 @@ lines-preserved g c =
     }
 
 pub returns-in-None-clause-value : goal.returns-in-None-clause-value
-returns-in-None-clause-value g c = λ prefix answers.
-    c.after_byte.ensures.value ∙ ap (after_if (λ b. b == c.args.quote)) c.at_first3-stop.ensures.value
-    ∙ quote_here prefix c.args.quote c.lines.line.now (ap after_ending (sym c.at_first3-stop.ensures.value) ∙ sym c.in-None.ensures.value) ∙ c.lines.invariant.same prefix answers
+returns-in-None-clause-value g c = grind (arith, quote_here)

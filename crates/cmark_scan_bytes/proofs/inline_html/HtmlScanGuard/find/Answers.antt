@@ -1,5 +1,5 @@
 use Rattle.std.proofs.Common.{length, sym, subst, ◌∙◌, arith}
-use Rattle.cmark_scan_bytes.specs.Guards.{AreMarks, AreWithin}
+use Rattle.cmark_scan_bytes.specs.Guards.{AreMarks}
 use Rattle.cmark_scan_bytes.proofs.Marks.{marks-further, marks-set, none-closes, none-mapped, within-set}
 use Rattle.cmark_scan_bytes.proofs.inline_html.HtmlScanGuard.find.Goals as goal
 use Rattle.cmark_scan_bytes.proofs.inline_html.HtmlScanGuard.find.Goals.{then-is_none, else-is_none}
@@ -17,8 +17,4 @@ returns-clause-marks c = λ later le.
     ]
 
 pub returns-clause-bound : goal.returns-clause-bound
-returns-clause-bound c = λ within.
-    elim c.if-is_none.branch [
-      | then-is_none w ↦ within-set (length c.args.bytes.now) c.args.self.now c.if-is_none.self c.args.kind (length c.args.bytes.now) within (omega arith) (w.self-is ∙ w.set.ensures)
-      | else-is_none w ↦ subst (AreWithin (length c.args.bytes.now)) (sym w.self-is) within
-    ]
+returns-clause-bound c = grind (arith, then-is_none, within-set, else-is_none)
