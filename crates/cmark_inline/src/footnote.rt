@@ -1,6 +1,6 @@
 //! Footnote references (this profile's own).
 
-ghost use Rattle.std.specs.Prelude.{◌≡◌, false, ◌<◌, ◌≤◌, ◌+◌, ◌++◌, ◌∷◌, ℕ, List, [], drop, length, is_some, IfOk, OnErr, OnOk, IfSome, None, Some, option_copied, option_map};
+ghost use Rattle.std.specs.Prelude.{◌≡◌, false, ◌<◌, ◌≤◌, ◌+◌, ◌^◌, ◌++◌, ◌∷◌, ℕ, List, [], drop, length, is_some, IfOk, OnErr, OnOk, IfSome, None, Some, option_copied, option_map};
 ghost use Rattle.std.specs.Str.{IsCharBoundary};
 ghost use Rattle.cmark_link_scan.specs.Shown.{shown_label};
 ghost use Rattle.cmark_grammar.specs.BracketDecisions.{is_there};
@@ -171,7 +171,7 @@ fn referred_footnote<'a>(
 
 /// The index of the slot for the reference that `bracket` opens: its own slot, or the next one if it opens an image.
 fn reference_slot(bracket: Bracket) -> usize
-    requires { bracket.slot < 18446744073709551615 }
+    requires { bracket.slot + 1 < 2 ^ 64 }
     ensures { result ≡ reference_slot bracket }
 {
     if bracket.is_image {

@@ -1,6 +1,6 @@
 //! The rows of tables, cell by cell (GFM 4.10).
 
-ghost use Rattle.std.specs.Prelude.{◌≡◌, ◌≤◌, ◌+◌, ◌-◌, ℕ, suc, List, length, IfOk, OnOk};
+ghost use Rattle.std.specs.Prelude.{◌≡◌, ◌<◌, ◌≤◌, ◌+◌, ◌-◌, ◌^◌, ℕ, suc, List, length, IfOk, OnOk};
 ghost use Rattle.cmark_items.specs.Tables.{defined};
 ghost use Rattle.cmark_grammar.specs.BlockDocument.{TableHead, TableRow, TableCell, Node, Nil, node};
 ghost use Rattle.cmark_grammar.specs.Rows.{start_of};
@@ -22,7 +22,7 @@ use std::alloc::AllocError;
 /// Adds a cell of these bytes, which are at a byte offset of the text, as a node after the last sibling. Its text is without the spaces and
 /// tabs at both ends.
 fn draw_cell(builder: &mut Builder<'_>, at: usize, cell: &[u8]) -> Result<(), AllocError>
-    requires small { at + length cell.now ≤ 18446744073709551615 }
+    requires small { at + length cell.now < 2 ^ 64 }
     ensures drawn { OnOk result
         ((text : List ℕ) (d : Drawing) → Draws text builder.old d
         → Draws text builder.new

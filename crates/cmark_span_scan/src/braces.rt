@@ -1,6 +1,6 @@
 //! The contexts into which braces divide a text (this profile's own).
 
-ghost use Rattle.std.specs.Prelude.{◌≡◌, ◌≤◌, ◌<◌, ◌+◌, false, OnOk};
+ghost use Rattle.std.specs.Prelude.{◌≡◌, ◌≤◌, ◌<◌, ◌+◌, ◌^◌, false, OnOk};
 ghost use Rattle.cmark_grammar.specs.Characters.{left_brace, right_brace};
 ghost use Rattle.cmark_grammar.specs.Formulas.{no_braces, context_of, after_byte};
 ghost use Rattle.cmark_span_scan.specs.Dollars.{shown_braces};
@@ -46,7 +46,7 @@ impl Braces {
 
     /// Moves past a byte. It is not a brace if a backslash escapes it.
     pub fn pass(&mut self, is_escaped: bool, byte: u8) -> Result<(), AllocError>
-        requires room { self.old.next < 18446744073709551615 }
+        requires room { self.old.next + 1 < 2 ^ 64 }
         ensures braces { OnOk result
             (shown_braces self.new ≡ after_byte is_escaped byte (shown_braces self.old)) }
         ensures next { OnOk result (self.new.next ≤ self.old.next + 1) }
@@ -66,7 +66,7 @@ impl Braces {
 
     // Enters the next context.
     fn enter(&mut self) -> Result<(), AllocError>
-        requires room { self.old.next < 18446744073709551615 }
+        requires room { self.old.next + 1 < 2 ^ 64 }
         ensures braces { OnOk result
             (shown_braces self.new ≡ after_byte false left_brace (shown_braces self.old)) }
         ensures next { OnOk result (self.new.next ≤ self.old.next + 1) }
@@ -78,7 +78,7 @@ impl Braces {
 
     // Leaves the innermost context; the outermost one gets the next number.
     fn leave(&mut self)
-        requires room { self.old.next < 18446744073709551615 }
+        requires room { self.old.next + 1 < 2 ^ 64 }
         ensures braces { shown_braces self.new
             ≡ after_byte false right_brace (shown_braces self.old) }
         ensures next { self.new.next ≤ self.old.next + 1 }
