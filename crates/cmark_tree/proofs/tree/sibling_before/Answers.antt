@@ -1,4 +1,4 @@
-use Rattle.std.proofs.Common.{◌≡◌, suc, ◌+◌, sym, ◌∙◌, subst, arith}
+use Rattle.std.proofs.Common.{◌≡◌, suc, ◌+◌, sym, ◌∙◌, subst, arith, rules}
 use Rattle.cmark_tree.proofs.Releasing.{Passed, passed_none, passed_number, passed_all, passed_more, passed_few}
 use Rattle.cmark_tree.proofs.tree.sibling_before.Goals as goal
 
@@ -10,9 +10,7 @@ returns-then-at-last g c done p inside after h is =
     passed_all c.args.nodes.now c.args.head done p inside after h c.loop-step.before c.loop-step.at c.loop-step._step (c.if-at-last.true ∙ sym is) (c.loop-step.invariant done p inside after h is)
 
 pub next-at-requires : goal.next-at-requires
-next-at-requires g c =
-    let r = c.requires in
-    passed_number c.args.nodes.now c.args.head r.0 r.1 r.2 r.3 r.4 c.loop-step.before c.loop-step.at c.loop-step._step (c.loop-step.invariant r.0 r.1 r.2 r.3 r.4 r.5)
+next-at-requires g c = search (rules, passed_number)
 
 pub loop-step-preserved : goal.loop-step-preserved
 loop-step-preserved g c done p inside after h is =
