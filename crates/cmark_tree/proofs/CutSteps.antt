@@ -25,9 +25,7 @@ module _ {T : Type 0} (s : Spans T) (to : ℕ) where
 
   pub left-items : (done rest : Forest (Placed T)) → AllEndBefore s to done → FirstReaches s to rest → ending_before s to (items_of (join done rest)) ≡ items_of done
   left-items Nil rest before r = left-alone rest r
-  left-items (Node p inside after) rest before r =
-      ap (λ z. if z then Node p.item (items_of inside) (ending_before s to (items_of (join after rest))) else Nil) (lt-ltb (s.end p.item) to before.0)
-      ∙ ap (Node p.item (items_of inside)) (left-items after rest before.1 r)
+  left-items (Node p inside after) rest before r = cc (lt-ltb (s.end p.item) to before.0, left-items after rest before.1 r)
 
   -- the start of the first of these
   abbrev pub start_of : Forest (Placed T) → Option ℕ
@@ -40,9 +38,7 @@ module _ {T : Type 0} (s : Spans T) (to : ℕ) where
 
   pub start-items : (done rest : Forest (Placed T)) → AllEndBefore s to done → FirstReaches s to rest → reaching_start s to (items_of (join done rest)) ≡ start_of rest
   start-items Nil rest before r = start-alone rest r
-  start-items (Node p inside after) rest before r =
-      ap (λ z. if z then reaching_start s to (items_of (join after rest)) else Some (s.start p.item)) (lt-ltb (s.end p.item) to before.0)
-      ∙ start-items after rest before.1 r
+  start-items (Node p inside after) rest before r = cc (lt-ltb (s.end p.item) to before.0, start-items after rest before.1 r)
 
   last-one : (p : Placed T) (i a : Forest (Placed T)) → (q : Placed T) × (j : Forest (Placed T)) × (last_tree (Node p i a) ≡ Node q j Nil)
   last-one p i Nil = (p, i, refl)
@@ -55,14 +51,7 @@ module _ {T : Type 0} (s : Spans T) (to : ℕ) where
   -- the siblings were cut off
   pub cut-is : (old new : Tree T) (here : Forest T) (v : Opened T) (up : List (Opened T)) (is : Is old here (v ∷ up)) (done rest : Forest (Placed T)) → siblings is.z ≡ join done rest → AllEndBefore s to done → FirstReaches s to rest
       → Holds new (at_last done is.z.up) → Is new (ending_before s to here) (v ∷ up)
-  cut-is old new here v up is done rest split before reaches holds = record {
-    z = at_last done is.z.up;
-    holds = holds;
-    last = at_last-last done;
-    at_end = is.at_end;
-    here_is = ap items_of (join_last done) ∙ sym (left-items done rest before reaches) ∙ ap (ending_before s to) (sym (ap items_of split) ∙ is.here_is);
-    up_is = is.up_is;
-  }
+  cut-is old new here v up is done rest split before reaches holds = grind (arith, at_last-last, join_last, left-items)
 
   -- the start of the first sibling that was cut off
   pub cut-start : (nodes : Nodes T) (here : Forest T) (f done rest : Forest (Placed T)) → items_of f ≡ here → f ≡ join done rest → AllEndBefore s to done → FirstReaches s to rest → reaching_start s to here ≡ start_of rest

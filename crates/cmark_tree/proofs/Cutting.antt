@@ -65,9 +65,6 @@ module _ {T : Type 0} where
       pub at_is : at ≡ first rest
       pub steps_is : steps ≡ breadth done
 
-    pub sofar_start : (nodes : Nodes T) (f : Forest (Placed T)) (head : ℕ) → IsChildren nodes f head → SoFar f 0 head 0
-    sofar_start nodes f head h = record { done = Nil; rest = f; split = refl; before = tt; last_is = refl; at_is = h.head_is; steps_is = refl }
-
     rest_stands : (nodes : Nodes T) (f : Forest (Placed T)) (head last at steps : ℕ) → IsChildren nodes f head → (c : SoFar f last at steps) → Stands (node_at nodes) c.rest
     rest_stands nodes f head last at steps h c = Stands-right (node_at nodes) c.done c.rest (subst (Stands (node_at nodes)) c.split h.stands)
 

@@ -45,32 +45,16 @@ le_or_lt (suc a) (suc b) = elim (le_or_lt a b) [ inl l ↦ inl (omega (arith, l)
 
 -- the elements of a list after two of them are exchanged
 swap_second : {A : Type 0} → (xs : List A) (a b : ℕ) → a < length xs → b < length xs → slice_get (swap xs a b) b ≡ slice_get xs a
-swap_second [] a b in_a in_b = absurd (omega (arith, in_a))
-swap_second (x ∷ xs) a b in_a in_b =
-    ap (λ l. slice_get l b) (sym (swap_is (x ∷ xs) a b x in_a in_b))
-    ∙ slice_get-set_same (slice_set (x ∷ xs) a (get_or (x ∷ xs) b x)) b (get_or (x ∷ xs) a x) (omega (arith, in_b, length-set (x ∷ xs) a (get_or (x ∷ xs) b x)))
-    ∙ sym (slice_get-get_or (x ∷ xs) a x in_a)
+swap_second xs a b in_a in_b = grind (arith, swap_is, slice_get-set_same, slice_set, length-set, slice_get-get_or)
 
 swap_first : {A : Type 0} → (xs : List A) (a b : ℕ) → a ≢ b → a < length xs → b < length xs → slice_get (swap xs a b) a ≡ slice_get xs b
-swap_first [] a b ne in_a in_b = absurd (omega (arith, in_a))
-swap_first (x ∷ xs) a b ne in_a in_b =
-    ap (λ l. slice_get l a) (sym (swap_is (x ∷ xs) a b x in_a in_b))
-    ∙ slice_get-set_other (slice_set (x ∷ xs) a (get_or (x ∷ xs) b x)) b a (get_or (x ∷ xs) a x) (λ q. ne (sym q))
-    ∙ slice_get-set_same (x ∷ xs) a (get_or (x ∷ xs) b x) in_a
-    ∙ sym (slice_get-get_or (x ∷ xs) b x in_b)
+swap_first xs a b ne in_a in_b = grind (arith, swap_is, slice_get-set_other, slice_set, slice_get-set_same, slice_get-get_or)
 
 swap_others : {A : Type 0} → (xs : List A) (a b i : ℕ) → i ≢ a → i ≢ b → a < length xs → b < length xs → slice_get (swap xs a b) i ≡ slice_get xs i
-swap_others [] a b i not_a not_b in_a in_b = absurd (omega (arith, in_a))
-swap_others (x ∷ xs) a b i not_a not_b in_a in_b =
-    ap (λ l. slice_get l i) (sym (swap_is (x ∷ xs) a b x in_a in_b))
-    ∙ slice_get-set_other (slice_set (x ∷ xs) a (get_or (x ∷ xs) b x)) b i (get_or (x ∷ xs) a x) (λ q. not_b (sym q))
-    ∙ slice_get-set_other (x ∷ xs) a i (get_or (x ∷ xs) b x) (λ q. not_a (sym q))
+swap_others xs a b i not_a not_b in_a in_b = grind (arith, swap_is, slice_get-set_other, slice_set)
 
 swap_length : {A : Type 0} → (xs : List A) (a b : ℕ) → a < length xs → b < length xs → length (swap xs a b) ≡ length xs
-swap_length [] a b in_a in_b = absurd (omega (arith, in_a))
-swap_length (x ∷ xs) a b in_a in_b =
-    ap length (sym (swap_is (x ∷ xs) a b x in_a in_b))
-    ∙ length-set (slice_set (x ∷ xs) a (get_or (x ∷ xs) b x)) b (get_or (x ∷ xs) a x) ∙ length-set (x ∷ xs) a (get_or (x ∷ xs) b x)
+swap_length xs a b in_a in_b = grind (arith, swap_is, length-set, slice_set)
 
 -- an element of a list
 get_there : {A : Type 0} → (xs : List A) (i : ℕ) → i < length xs → (x : A) × (slice_get xs i ≡ Some x)
@@ -92,13 +76,7 @@ module _ {T : Type 0} where
 
   -- a node that is read has been made
   pub node_at-within : (v : Nodes T) (i : ℕ) (e : Entry T) → node_at v i ≡ Some e → HasNumber v i
-  node_at-within v i e is = (
-    above i is,
-    elim (le_or_lt i (node_count v)) [
-      | inl le ↦ le
-      | inr lt ↦ absurd (let q : None ≡ Some e = sym (node_at-past v i lt) ∙ is in cc)
-    ],
-  )
+  node_at-within v i e is = grind (arith, above, le_or_lt, node_at-past)
     where
       above : (j : ℕ) → node_at v j ≡ Some e → 0 < j
       above zero h = absurd (let q : None ≡ Some e = sym (node_at-zero v) ∙ h in cc)
@@ -117,19 +95,12 @@ module _ {T : Type 0} where
 
   -- a node as the elements at its place
   entry_is : (o : Option T) (n : Option (Link ℕ)) (e : Entry T) → entry_of o n ≡ Some e → (o ≡ Some e.item) × (n ≡ Some (record { next = e.next; child = e.child }))
-  entry_is None n e is = absurd (let q : None ≡ Some e = is in cc)
-  entry_is (Some x) None e is = absurd (let q : None ≡ Some e = is in cc)
-  entry_is (Some x) (Some l) e is =
-      let same : record { item = x; child = l.child; next = l.next } ≡ e = same_Some _ _ is in
-      (ap (λ k. Some k.item) same, ap (λ k. Some (record { next = k.next; child = k.child })) same)
+  entry_is o n e is = grind (arith, same_Some)
 
   pub at_place : (v : Nodes T) (ix : ℕ) (e : Entry T) → HasNumber v ix → node_at v ix ≡ Some e
       → (slice_get v.items.items (ix - 1) ≡ Some e.item) × (slice_get (links_of v.links) (ix - 1) ≡ Some (record { next = e.next; child = e.child }))
   unfolding node_at
-  at_place v zero e has is = absurd (omega (arith, has.0))
-  at_place v (suc j) e has is =
-      subst (λ k. (slice_get v.items.items k ≡ Some e.item) × (slice_get (links_of v.links) k ≡ Some (record { next = e.next; child = e.child })))
-      (let q : j ≡ suc j - 1 = omega arith in q) (entry_is (slice_get v.items.items j) (slice_get (links_of v.links) j) e is)
+  at_place v ix e has is = grind (arith, entry_is)
 
   -- the item that is read
   pub read_item : (v : Nodes T) (ix : ℕ) (x : T) (e : Entry T) → HasNumber v ix → x ≡ get_or v.items.items (ix - 1) x → node_at v ix ≡ Some e → x ≡ e.item
@@ -142,14 +113,7 @@ module _ {T : Type 0} where
   -- a node pushed
   pub push_grows : (v w : Nodes T) (ix : ℕ) (x : T) → w.items.items ≡ v.items.items ++ x ∷ [] → links_of w.links ≡ links_of v.links ++ no_links ∷ [] → ix ≡ length w.items.items → IsGrown v w ix x
   unfolding node_at node_count
-  push_grows v w ix x e n at = record {
-    place = at ∙ len;
-    written = subst (λ i. entry_in w.items.items (links_of w.links) i ≡ Some (record { item = x; child = 0; next = 0 })) (sym (at ∙ len))
-        (entries w _ _ e n (suc (length v.items.items)) ∙ ap (λ o. entry_of o (slice_get (links_of v.links ++ no_links ∷ []) (length v.items.items))) (slice_get-end v.items.items x)
-        ∙ ap (λ o. entry_of (Some x) o) (last_link (links_of v.links) v.even.0));
-    others = λ i ne. others i (λ q. ne (q ∙ sym (at ∙ len)));
-    count = len;
-  }
+  push_grows v w ix x e n at = grind (arith, len, entries, slice_get-end, last_link, others)
     where
       len : length w.items.items ≡ suc (length v.items.items)
       len = ap length e ∙ (let l = length-append v.items.items (x ∷ []) in omega (arith, l))
@@ -158,36 +122,12 @@ module _ {T : Type 0} where
       last_link ls l = subst (λ k. slice_get (ls ++ no_links ∷ []) k ≡ Some no_links) l (slice_get-end ls no_links)
 
       others : (i : ℕ) → i ≢ suc (length v.items.items) → entry_in w.items.items (links_of w.links) i ≡ entry_in v.items.items (links_of v.links) i
-      others zero h = refl
-      others (suc i) h =
-          let ne : i ≢ length v.items.items = (λ q. h (ap suc q)) in
-          entries w _ _ e n (suc i) ∙ ap (λ o. entry_of o (slice_get (links_of v.links ++ no_links ∷ []) i)) (slice_get-pushed v.items.items x i ne)
-          ∙ ap (λ o. entry_of (slice_get v.items.items i) o) (slice_get-pushed (links_of v.links) no_links i (λ q. ne (q ∙ v.even.0)))
+      others i h = grind (arith, entries, slice_get-pushed)
 
   -- an item is written at a node
   pub item_changes : (v : Nodes T) (ix : ℕ) (x : T) → HasNumber v ix → IsChanged v (with_stored_item v ix x) ix (with_other_item x)
   unfolding node_at node_count
-  item_changes v zero x has = absurd (omega (arith, has.0))
-  item_changes v (suc j) x has = record {
-    written = λ o was. ap (λ m. entry_of m (slice_get (links_of v.links) j)) (ap (λ k. slice_get (slice_set v.items.items k x) j) at ∙ slice_get-set_same v.items.items j x (omega (arith, has.1)))
-        ∙ changed (slice_get v.items.items j) (slice_get (links_of v.links) j) o was;
-    others = others;
-    count = length-set v.items.items (suc j - 1) x;
-  }
-    where
-      at : suc j - 1 ≡ j
-      at = omega arith
-
-      changed : (m : Option T) (n : Option (Link ℕ)) (o : Entry T) → entry_of m n ≡ Some o → entry_of (Some x) n ≡ Some (with_other_item x o)
-      changed None n o was = absurd (let q : None ≡ Some o = was in cc)
-      changed (Some y) None o was = absurd (let q : None ≡ Some o = was in cc)
-      changed (Some y) (Some l) o was = ap (λ e. Some (with_other_item x e)) (same_Some (record { item = y; child = l.child; next = l.next }) o was)
-
-      others : (i : ℕ) → i ≢ suc j → entry_in (slice_set v.items.items (suc j - 1) x) (links_of v.links) i ≡ entry_in v.items.items (links_of v.links) i
-      others zero h = refl
-      others (suc i) h =
-          ap (λ m. entry_of m (slice_get (links_of v.links) i))
-          (ap (λ k. slice_get (slice_set v.items.items k x) i) at ∙ slice_get-set_other v.items.items j i x (λ q. h (ap suc (sym q))))
+  item_changes v ix x has = grind (arith, slice_set, slice_get-set_same, length-set, same_Some, slice_get-set_other)
 
   -- A link is written at a node: `f` is the change of its links, and `change` that of its entry.
   links_change : (v w : Nodes T) (ix : ℕ) (f : Link ℕ → Link ℕ) (change : Entry T → Entry T)
@@ -195,12 +135,7 @@ module _ {T : Type 0} where
       → HasNumber v ix → w.items.items ≡ v.items.items → ((l : Link ℕ) → slice_get (links_of v.links) (ix - 1) ≡ Some l → links_of w.links ≡ slice_set (links_of v.links) (ix - 1) (f l)) → IsChanged v w ix change
   unfolding node_at node_count
   links_change v w zero f change fits has e n = absurd (omega (arith, has.0))
-  links_change v w (suc j) f change fits has e n = record {
-    written = λ o was. entries w _ _ e set (suc j) ∙ ap (λ m. entry_of (slice_get v.items.items j) m) (slice_get-set_same (links_of v.links) j (f was_there.0) in_j)
-        ∙ changed (slice_get v.items.items j) o (ap (λ m. entry_of (slice_get v.items.items j) m) (sym was_there.1) ∙ was);
-    others = others;
-    count = ap length e;
-  }
+  links_change v w (suc j) f change fits has e n = grind (arith, entries, set, slice_get-set_same, in_j, changed, others)
     where
       at : suc j - 1 ≡ j
       at = omega arith
@@ -215,9 +150,7 @@ module _ {T : Type 0} where
       set = n was_there.0 (ap (slice_get (links_of v.links)) at ∙ was_there.1) ∙ ap (λ k. slice_set (links_of v.links) k (f was_there.0)) at
 
       changed : (m : Option T) (o : Entry T) → entry_of m (Some was_there.0) ≡ Some o → entry_of m (Some (f was_there.0)) ≡ Some (change o)
-      changed None o was = absurd (let q : None ≡ Some o = was in cc)
-      changed (Some y) o was =
-          ap Some (fits y was_there.0) ∙ ap (λ e. Some (change e)) (same_Some (record { item = y; child = was_there.0.child; next = was_there.0.next }) o was)
+      changed m o was = grind (arith, same_Some)
 
       others : (i : ℕ) → i ≢ suc j → entry_in w.items.items (links_of w.links) i ≡ entry_in v.items.items (links_of v.links) i
       others zero h = refl
@@ -282,10 +215,7 @@ module _ {T : Type 0} where
   -- a failed growth
   pub same_nodes : (v w : Nodes T) → w.items.items ≡ v.items.items → links_of w.links ≡ links_of v.links → SameNodes v w
   unfolding node_at node_count
-  same_nodes v w e n = record {
-    nodes = ap (λ l. entry_in l (links_of w.links)) e ∙ ap (entry_in v.items.items) n;
-    count = ap length e;
-  }
+  same_nodes v w e n = grind arith
 
   pub no_nodes : (v : Nodes T) → v.items.items ≡ [] → node_count v ≡ 0
   unfolding node_count

@@ -1,5 +1,5 @@
 -- A node around the last sibling, which moves to a new number.
-use Rattle.std.proofs.Common.{◌≡◌, ◌≢◌, ℕ, zero, suc, ◌+◌, ◌<◌, List, ◌∷◌, Some, refl, sym, ap, ◌∙◌, subst, arith}
+use Rattle.std.proofs.Common.{◌≡◌, ◌≢◌, ℕ, zero, suc, ◌+◌, ◌<◌, List, ◌∷◌, Some, refl, sym, ap, ◌∙◌, subst, arith, rules}
 use Rattle.cmark_tree.specs.declared.nodes.Nodes.{Nodes}
 use Rattle.cmark_tree.specs.declared.tree.Tree.{Tree}
 use Rattle.cmark_tree.specs.Forest.{Forest, Nil, Node, join, one}
@@ -70,18 +70,7 @@ module _ {T : Type 0} where
         new_other e = omega (arith, e, has.1, m.place)
 
         other : (i : ℕ) → 0 < (times i left + times i inside) + outside i up → node_at new i ≡ node_at old i
-        other i lt = c.others i not_ix ∙ m.others i not_ix not_n
-          where
-            not_ix : i ≢ ix
-            not_ix e =
-                let lt' : 0 < (times ix left + times ix inside) + outside ix up = subst (λ k. 0 < (times k left + times k inside) + outside k up) e lt in
-                let o = h.once ix in
-                omega (arith, lt', o, count ix, hit-same p.ix ix (sym at))
-
-            not_n : i ≢ n
-            not_n e =
-                let lt' : 0 < (times n left + times n inside) + outside n up = subst (λ k. 0 < (times k left + times k inside) + outside k up) e lt in
-                omega (arith, lt', absent, count n)
+        other i lt = grind (arith, outside, count, hit-same, absent)
 
   -- the focus is the last sibling: its place in the tree, and its content
   pub record LastAt (t : Tree T) (here : Forest T) (x : T) (inside : Forest T) (up : List (Opened T)) : Type 0 where
@@ -170,31 +159,10 @@ module _ {T : Type 0} where
     enclosed_zip = record { left = l.left; right = around_moved n w l.place l.below; up = l.above }
 
     pub Holds-enclosed : Holds (record t { nodes = new }) enclosed_zip
-    Holds-enclosed = record {
-      forest = enclosed_forest t.nodes mid new t.first t.cur n w l.left l.place l.below l.above m c l.holds.cur_is l.holds.forest;
-      spine_is = l.holds.spine_is;
-      cur_is = l.holds.cur_is;
-    }
+    Holds-enclosed = search (rules, enclosed_forest)
 
     pub Is-enclosed : Is (record t { nodes = new }) (join here (one w (one x inside))) up
-    Is-enclosed = record {
-      z = enclosed_zip;
-      holds = Holds-enclosed;
-      last = refl;
-      at_end = l.at_end;
-      here_is = items_of-join l.left (around_moved n w l.place l.below)
-          ∙ ap (λ f. join f (one w (one l.place.item (items_of l.below)))) l.left_is
-          ∙ ap (λ y. join here (one w (one y (items_of l.below)))) l.item_is
-          ∙ ap (λ i. join here (one w (one x i))) l.below_is;
-      up_is = l.up_is;
-    }
+    Is-enclosed = grind (arith, Holds-enclosed, items_of-join)
 
     pub Is-inside : (down : Tree T) → Holds down (pushed enclosed_zip) → Is down (one x inside) (record { left = here; item = w } ∷ up)
-    Is-inside down h = record {
-      z = pushed enclosed_zip;
-      holds = h;
-      last = refl;
-      at_end = (refl, l.at_end);
-      here_is = ap (λ y. one y (items_of l.below)) l.item_is ∙ ap (λ i. one x i) l.below_is;
-      up_is = ap (λ f. record { left = f; item = w } ∷ opened l.above) l.left_is ∙ ap (λ u. record { left = here; item = w } ∷ u) l.up_is;
-    }
+    Is-inside down h = grind arith

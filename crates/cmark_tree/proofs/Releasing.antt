@@ -119,16 +119,10 @@ module _ {T : Type 0} where
         count i = omega (arith, times-plug i (v ∷ up) (join done (one p inside)), times-join i done (one p inside))
 
         apart : (i : ℕ) → In i (one p inside) → i ≢ parent
-        apart i lt e =
-            let lt' : In parent (one p inside) = subst (λ k. In k (one p inside)) e lt in
-            let o = h.once parent in
-            omega (arith, lt', o, count parent, hit-same v.place.ix parent (sym above))
+        apart i lt e = grind (arith, count, hit-same)
 
         other : (i : ℕ) → 0 < (times i v.left + times i done) + outside i up → node_at new i ≡ node_at mid i
-        other i lt = c.others i (λ e. (
-            let lt' : 0 < (times parent v.left + times parent done) + outside parent up = subst (λ k. 0 < (times k v.left + times k done) + outside k up) e lt in
-            let o = h.once parent in
-            omega (arith, lt', o, count parent, hit-same v.place.ix parent (sym above))))
+        other i lt = grind (arith, outside, count, hit-same)
 
   -- the siblings before the last are cut off from it: the parent's link, or that of the one before it, is written
   pub cut_alone : (old mid : Nodes T) (start : ℕ) (parent : TreeIndex) (done : Forest (Placed T)) (p : Placed T) (inside : Forest (Placed T)) (v : Level T) (up : List (Level T)) → IsForest (node_at old) start (plug (v ∷ up) (join done (one p inside))) → parent.ix ≡ v.place.ix → IsChanged old mid parent.ix (with_child 0) → (i : ℕ) → In i (one p inside) → node_at mid i ≡ node_at old i

@@ -1,5 +1,5 @@
 -- A node with other siblings after it, other children or another item: the links afterwards form the changed forest.
-use Rattle.std.proofs.Common.{◌≡◌, ◌≢◌, ◌⊎◌, inl, inr, ℕ, zero, suc, ◌+◌, ◌<◌, ◌≤◌, Bool, true, false, cond, nat_eq, List, [], ◌∷◌, Option, Some, refl, sym, ap, ◌∙◌, subst, arith}
+use Rattle.std.proofs.Common.{◌≡◌, ◌≢◌, ◌⊎◌, inl, inr, ℕ, zero, suc, ◌+◌, ◌<◌, ◌≤◌, cond, nat_eq, List, [], ◌∷◌, Option, Some, refl, sym, ap, ◌∙◌, subst, arith, rules}
 use Rattle.std.proofs.lemmas.Bool.{eq-eqb, eqb-true}
 use Rattle.cmark_tree.specs.Forest.{Forest, Nil, Node, join}
 use Rattle.cmark_tree.specs.Arena.{Entry, Placed, first, Stands, pick, times, In, IsOnce, IsForest, relink_next, relink_child, replace_item}
@@ -14,11 +14,7 @@ pick-same a b x y e = ap (λ t. cond t x y) (eq-eqb a b e)
 
 pub pick-other : {A : Type 0} → (a b : ℕ) (x y : A) → a ≢ b → pick a b x y ≡ y
 unfolding pick
-pick-other a b x y ne = go (nat_eq a b) refl
-  where
-    go : (t : Bool) → nat_eq a b ≡ t → cond t x y ≡ y
-    go true e = absurd (ne (eqb-true a b e))
-    go false e = refl
+pick-other a b x y ne = grind (arith, nat_eq, cond, eqb-true)
 
 pub same_or_not : (a b : ℕ) → (a ≡ b) ⊎ (a ≢ b)
 same_or_not zero zero = inl refl
@@ -46,22 +42,13 @@ module _ {T : Type 0} where
 
   -- a node's own read, with the links that it has afterwards
   read_next : (at at' : ℕ → Option (Entry T)) (ix to : ℕ) (p : Placed T) (inside after inside' g : Forest (Placed T)) → IsRewritten at at' ix (with_next to) → first g ≡ to → p.ix ≡ ix → first inside' ≡ first inside → at p.ix ≡ Some (record { item = p.item; child = first inside; next = first after }) → at' p.ix ≡ Some (record { item = p.item; child = first inside'; next = first g })
-  read_next at at' ix to p inside after inside' g r leads e c h =
-      ap at' e ∙ r.written (record { item = p.item; child = first inside; next = first after }) (sym (ap at e) ∙ h)
-      ∙ ap (λ n. Some (record { item = p.item; child = first inside; next = n })) (sym leads)
-      ∙ ap (λ n. Some (record { item = p.item; child = n; next = first g })) (sym c)
+  read_next at at' ix to p inside after inside' g r leads e c h = grind arith
 
   read_child : (at at' : ℕ → Option (Entry T)) (ix to : ℕ) (p : Placed T) (inside after after' g : Forest (Placed T)) → IsRewritten at at' ix (with_child to) → first g ≡ to → p.ix ≡ ix → first after' ≡ first after → at p.ix ≡ Some (record { item = p.item; child = first inside; next = first after }) → at' p.ix ≡ Some (record { item = p.item; child = first g; next = first after' })
-  read_child at at' ix to p inside after after' g r leads e c h =
-      ap at' e ∙ r.written (record { item = p.item; child = first inside; next = first after }) (sym (ap at e) ∙ h)
-      ∙ ap (λ n. Some (record { item = p.item; child = n; next = first after })) (sym leads)
-      ∙ ap (λ n. Some (record { item = p.item; child = first g; next = n })) (sym c)
+  read_child at at' ix to p inside after after' g r leads e c h = grind arith
 
   read_other : (at at' : ℕ → Option (Entry T)) (p : Placed T) (inside after inside' after' : Forest (Placed T)) → at' p.ix ≡ at p.ix → first inside' ≡ first inside → first after' ≡ first after → at p.ix ≡ Some (record { item = p.item; child = first inside; next = first after }) → at' p.ix ≡ Some (record { item = p.item; child = first inside'; next = first after' })
-  read_other at at' p inside after inside' after' same c n h =
-      same ∙ h
-      ∙ ap (λ k. Some (record { item = p.item; child = first inside; next = k })) (sym n)
-      ∙ ap (λ k. Some (record { item = p.item; child = k; next = first after' })) (sym c)
+  read_other at at' p inside after inside' after' same c n h = cc
 
   pub Stands-relink_next : (at at' : ℕ → Option (Entry T)) (ix to : ℕ) (g f : Forest (Placed T)) → IsRewritten at at' ix (with_next to) → first g ≡ to → Stands at' g → Stands at f → Stands at' (relink_next ix g f)
   Stands-relink_next at at' ix to g Nil r leads s h = tt
@@ -109,25 +96,15 @@ module _ {T : Type 0} where
   -- a place that is not in a forest
   pub relink_next-absent : (ix : ℕ) (g f : Forest (Placed T)) → times ix f ≡ 0 → relink_next ix g f ≡ f
   relink_next-absent ix g Nil z = refl
-  relink_next-absent ix g (Node p inside after) z =
-      let ne : p.ix ≢ ix = (λ e. omega (arith, z, hit-same p.ix ix e)) in
-      ap (λ k. Node p k (pick p.ix ix g (relink_next ix g after))) (relink_next-absent ix g inside (omega (arith, z)))
-      ∙ ap (Node p inside) (pick-other p.ix ix g (relink_next ix g after) ne ∙ relink_next-absent ix g after (omega (arith, z)))
+  relink_next-absent ix g (Node p inside after) z = search (rules, hit-same, pick-other, relink_next-absent ix g inside (omega (arith, z)), relink_next-absent ix g after (omega (arith, z)))
 
   pub relink_child-absent : (ix : ℕ) (g f : Forest (Placed T)) → times ix f ≡ 0 → relink_child ix g f ≡ f
   relink_child-absent ix g Nil z = refl
-  relink_child-absent ix g (Node p inside after) z =
-      let ne : p.ix ≢ ix = (λ e. omega (arith, z, hit-same p.ix ix e)) in
-      ap (λ k. Node p k (relink_child ix g after)) (pick-other p.ix ix g (relink_child ix g inside) ne ∙ relink_child-absent ix g inside (omega (arith, z)))
-      ∙ ap (Node p inside) (relink_child-absent ix g after (omega (arith, z)))
+  relink_child-absent ix g (Node p inside after) z = search (rules, hit-same, pick-other, relink_child-absent ix g inside (omega (arith, z)), relink_child-absent ix g after (omega (arith, z)))
 
   pub replace_item-absent : (ix : ℕ) (w : T) (f : Forest (Placed T)) → times ix f ≡ 0 → replace_item ix w f ≡ f
   replace_item-absent ix w Nil z = refl
-  replace_item-absent ix w (Node p inside after) z =
-      let ne : p.ix ≢ ix = (λ e. omega (arith, z, hit-same p.ix ix e)) in
-      ap (λ x. Node (record p { item = x }) (replace_item ix w inside) (replace_item ix w after)) (pick-other p.ix ix w p.item ne)
-      ∙ ap (λ k. Node p k (replace_item ix w after)) (replace_item-absent ix w inside (omega (arith, z)))
-      ∙ ap (Node p inside) (replace_item-absent ix w after (omega (arith, z)))
+  replace_item-absent ix w (Node p inside after) z = search (rules, hit-same, pick-other, replace_item-absent ix w inside (omega (arith, z)), replace_item-absent ix w after (omega (arith, z)))
 
   -- the written node comes before the node that it is linked to
   pub times-relink_next : (ix : ℕ) (g f : Forest (Placed T)) → In ix f → 1 + times ix g ≤ times ix (relink_next ix g f)
@@ -209,8 +186,4 @@ module _ {T : Type 0} where
   whole-item_replaced ix w z = ap (plug (replace_in_path ix w z.up)) (replace_item-join ix w z.left z.right) ∙ replace_item-plug ix w z.up (siblings z)
 
   pub replaced_item : (at at' : ℕ → Option (Entry T)) (start ix : ℕ) (w : T) (z : Zip T) → IsForest at start (whole z) → IsRewritten at at' ix (with_other_item w) → IsForest at' start (whole (item_replaced ix w z))
-  replaced_item at at' start ix w z h r = subst (IsForest at' start) (sym (whole-item_replaced ix w z)) (record {
-    stands = Stands-replace_item at at' ix w (whole z) r h.stands;
-    once = λ i. (let o = h.once i in omega (arith, o, times-replace_item i ix w (whole z)));
-    start_is = h.start_is ∙ sym (first-replace_item ix w (whole z));
-  })
+  replaced_item at at' start ix w z h r = grind (arith, whole-item_replaced, Stands-replace_item, times-replace_item, first-replace_item)

@@ -1,7 +1,7 @@
 -- The nodes at the places of a forest: frame, parts, and a part that replaces another.
-use Rattle.std.proofs.Common.{◌≡◌, ℕ, zero, suc, ◌<◌, List, [], ◌∷◌, Option, Some, None, refl, sym, ap, ◌∙◌, arith, ◌⊎◌, inl, inr}
+use Rattle.std.proofs.Common.{◌≡◌, ℕ, ◌<◌, List, [], ◌∷◌, Option, Some, None, refl, sym, ap, ◌∙◌, arith, ◌⊎◌, inl, inr}
 use Rattle.cmark_tree.specs.Forest.{Forest, Nil, Node, join}
-use Rattle.cmark_tree.specs.Arena.{Entry, Placed, first, Stands, hit, times, In}
+use Rattle.cmark_tree.specs.Arena.{Entry, Placed, first, Stands, times, In}
 use Rattle.cmark_tree.specs.Zip.{Level, plug}
 use Rattle.cmark_tree.proofs.Times.{hit-same, hit-in, outside, first-join}
 
@@ -24,12 +24,7 @@ module _ {T : Type 0} where
 
   -- a place of a forest is its first one, or inside it or after it
   pub node_cases : (p : Placed T) (inside after : Forest (Placed T)) (i : ℕ) → In i (Node p inside after) → (p.ix ≡ i) ⊎ (In i inside ⊎ In i after)
-  node_cases p inside after i lt = go (hit p.ix i) (times i inside) refl refl
-    where
-      go : (a b : ℕ) → a ≡ hit p.ix i → b ≡ times i inside → (p.ix ≡ i) ⊎ (In i inside ⊎ In i after)
-      go (suc a) b ea eb = inl (hit-in p.ix i (omega (arith, ea)))
-      go zero (suc b) ea eb = inr (inl (omega (arith, eb)))
-      go zero zero ea eb = inr (inr (omega (arith, ea, eb, lt)))
+  node_cases p inside after i lt = grind (arith, hit-in)
 
   -- a place of the forest is a node's
   pub Stands-in : (at : ℕ → Option (Entry T)) (f : Forest (Placed T)) (i : ℕ) → Stands at f → In i f → (e : Entry T) × (at i ≡ Some e)
@@ -43,11 +38,7 @@ module _ {T : Type 0} where
 
   -- no node, no place
   pub Stands-absent : (at : ℕ → Option (Entry T)) (f : Forest (Placed T)) (i : ℕ) → Stands at f → at i ≡ None → times i f ≡ 0
-  Stands-absent at f i h none = go (times i f) refl
-    where
-      go : (n : ℕ) → n ≡ times i f → times i f ≡ 0
-      go zero e = sym e
-      go (suc n) e = absurd (let r = Stands-in at f i h (omega (arith, e)) in let q : None ≡ Some r.0 = sym none ∙ r.1 in cc)
+  Stands-absent at f i h none = grind (arith, Stands-in)
 
   pub Stands-right : (at : ℕ → Option (Entry T)) (l f : Forest (Placed T)) → Stands at (join l f) → Stands at f
   Stands-right at Nil f h = h

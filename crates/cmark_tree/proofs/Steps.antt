@@ -1,5 +1,5 @@
 -- One call of a tree is one step of its forest with its path.
-use Rattle.std.proofs.Common.{◌≡◌, inl, inr, ℕ, zero, suc, ◌+◌, ◌<◌, ◌≤◌, List, [], ◌∷◌, ◌++◌, length, Option, Some, None, refl, sym, ap, ◌∙◌, subst, arith, length-append}
+use Rattle.std.proofs.Common.{◌≡◌, ℕ, zero, suc, ◌+◌, ◌<◌, ◌≤◌, List, [], ◌∷◌, ◌++◌, length, Option, Some, None, refl, sym, ap, ◌∙◌, subst, arith, length-append}
 use Rattle.cmark_tree.specs.declared.nodes.Nodes.{Nodes}
 use Rattle.cmark_tree.specs.declared.tree_index.TreeIndex.{TreeIndex}
 use Rattle.cmark_tree.specs.Forest.{Forest, Nil, Node, join, one}
@@ -55,11 +55,7 @@ module _ {T : Type 0} where
 
   -- another place, which was not there before
   pub one_more : (f f' : Forest (Placed T)) (n : ℕ) → IsOnce f → times n f ≡ 0 → ((i : ℕ) → times i f' ≡ hit n i + times i f) → IsOnce f'
-  one_more f f' n once none more i =
-      elim (same_or_not n i) [
-        | inl e ↦ (let z : times i f ≡ 0 = subst (λ k. times k f ≡ 0) e none in omega (arith, more i, hit-le n i, z))
-        | inr ne ↦ (let o = once i in omega (arith, more i, hit-other n i ne, o))
-      ]
+  one_more f f' n once none more i = grind (arith, same_or_not, hit-le, hit-other)
 
   pub append_after : (old mid new : Nodes T) (start cur n : ℕ) (x : T) (left right : Forest (Placed T)) (up : List (Level T)) → IsGrown old mid n x → IsChanged mid new cur (with_next n) → IsForest (node_at old) start (plug up (join left right)) → IsLast left right → cur ≡ first right → 0 < cur → IsForest (node_at new) start (plug up (join (join left right) (new_one n x)))
   append_after old mid new start cur n x left Nil up g c h last at lt = absurd (omega (arith, at, lt))

@@ -2,11 +2,10 @@
 use Rattle.std.proofs.Common.{◌≡◌, inl, inr, ℕ, zero, suc, ◌+◌, ◌<◌, ◌≤◌, List, refl, sym, ap, ◌∙◌, subst, arith}
 use Rattle.cmark_tree.specs.declared.nodes.Nodes.{Nodes}
 use Rattle.cmark_tree.specs.Forest.{Forest, Nil, Node, join, one, size}
-use Rattle.cmark_tree.specs.Arena.{Entry, In, Placed, first, Stands, hit, pick, times, IsOnce, IsForest, relink_next, relink_child}
+use Rattle.cmark_tree.specs.Arena.{Placed, first, Stands, hit, pick, times, IsOnce, IsForest, relink_next, relink_child}
 use Rattle.cmark_tree.specs.Nodes.{node_at, node_count, IsChanged, with_next, with_child}
 use Rattle.cmark_tree.specs.Zip.{Level, Zip, plug, whole, next_relinked, child_relinked}
-use Rattle.cmark_tree.proofs.Times.{hit-same, join_assoc, times-join, outside, times-plug}
-use Rattle.cmark_tree.proofs.StandsLemmas.{Stands-same, Stands-right, Stands-inner}
+use Rattle.cmark_tree.proofs.Times.{hit-same, times-join, outside, times-plug}
 use Rattle.cmark_tree.proofs.Relinks.{pick-same, same_or_not, relinked_next, relinked_child, relink_next-absent, relink_child-absent}
 use Rattle.cmark_tree.proofs.Steps.{rewritten, has_number}
 
@@ -101,11 +100,6 @@ module _ {T : Type 0} where
   pub size-count : (nodes : Nodes T) (f : Forest (Placed T)) → Stands (node_at nodes) f → IsOnce f → size f ≤ node_count nodes
   size-count nodes f h once = omega (arith, size-total nodes f h, total-once (node_count nodes) f once)
 
-  -- a part of the forest after a write to a node at none of its places
-  kept_part : (old new : Nodes T) (ix : ℕ) (change : Entry T → Entry T) (g : Forest (Placed T)) → IsChanged old new ix change → times ix g ≡ 0 → Stands (node_at old) g → Stands (node_at new) g
-  kept_part old new ix change g c none s =
-      Stands-same (node_at old) (node_at new) g (λ i lt. c.others i (λ e. (let lt' : In ix g = subst (λ k. In k g) e lt in omega (arith, none, lt')))) s
-
 -- A run of siblings is put into the node before it. The last of the run gets no next sibling; the node's next sibling is the one after the
 -- run, and its children are the run. The siblings between the run and that next sibling are removed, and so are the node's former children.
 module _ {T : Type 0} (a b c d : Nodes T) (start : ℕ) (left : Forest (Placed T)) (o : Placed T) (oi m : Forest (Placed T)) (y : Placed T) (yi skipped right : Forest (Placed T)) (up : List (Level T))
@@ -119,30 +113,3 @@ module _ {T : Type 0} (a b c d : Nodes T) (start : ℕ) (left : Forest (Placed T
   count i =
       let n = h.once i in
       omega (arith, n, times-at i left o oi (join m (Node y yi (join skipped right))) up, times-join i m (Node y yi (join skipped right)), times-join i skipped right)
-
-  first_cut : IsForest (node_at b) start (plug up (join left (Node o oi run)))
-  unfolding run
-  first_cut =
-      subst (λ f. IsForest (node_at b) start (plug up f)) (join_assoc left (Node o oi m) (one y yi))
-      (dropped_after a b start y.ix (join left (Node o oi m)) y yi (join skipped right) up (subst (λ f. IsForest (node_at a) start (plug up f)) (sym (join_assoc left (Node o oi m) (Node y yi (join skipped right)))) h) refl cut)
-
-  -- the siblings after the run are unchanged
-  after_stands : Stands (node_at b) right
-  after_stands =
-      kept_part a b y.ix (with_next 0) right cut (omega (arith, count y.ix, hit-same y.ix y.ix refl))
-      (Stands-right (node_at a) skipped right (Stands-right (node_at a) m (Node y yi (join skipped right)) (Stands-right (node_at a) left (Node o oi (join m (Node y yi (join skipped right)))) (Stands-inner (node_at a) up (join left (Node o oi (join m (Node y yi (join skipped right))))) h.stands)).2).2)
-
-  then_past : IsForest (node_at c) start (plug up (join left (Node o oi right)))
-  then_past =
-      linked_after b c start o.ix (first right) left o oi run right up first_cut refl after_stands refl (λ i. omega (arith, count i, times-at i left o oi right up)) past
-
-  run_stands : Stands (node_at c) run
-  unfolding run
-  run_stands =
-      kept_part b c o.ix (with_next (first right)) run past (omega (arith, count o.ix, hit-same o.ix o.ix refl, times-join o.ix m (one y yi)))
-      (Stands-right (node_at b) left (Node o oi run) (Stands-inner (node_at b) up (join left (Node o oi run)) first_cut.stands)).2
-
-  pub wrapped : IsForest (node_at d) start (plug up (join left (Node o (join m (one y yi)) right)))
-  unfolding run
-  wrapped =
-      linked_inside c d start o.ix (first run) left o oi right run up then_past refl run_stands refl (λ i. omega (arith, count i, times-at i left o run right up, times-join i m (one y yi))) into

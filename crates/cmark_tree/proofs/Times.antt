@@ -1,5 +1,5 @@
 -- The number of times that a place occurs in a forest, and the node there.
-use Rattle.std.proofs.Common.{◌≡◌, ◌≢◌, ℕ, zero, suc, ◌+◌, ◌<◌, ◌≤◌, Bool, true, false, cond, nat_eq, List, [], ◌∷◌, refl, ap, arith, ◌⊎◌, inl, inr}
+use Rattle.std.proofs.Common.{◌≡◌, ◌≢◌, ℕ, ◌+◌, ◌<◌, ◌≤◌, cond, nat_eq, List, [], ◌∷◌, refl, ap, arith}
 use Rattle.std.proofs.lemmas.Bool.{eq-eqb, eqb-true}
 use Rattle.cmark_tree.specs.Forest.{Forest, Nil, Node, join}
 use Rattle.cmark_tree.specs.Arena.{Placed, first, hit, times}
@@ -7,11 +7,7 @@ use Rattle.cmark_tree.specs.Zip.{Level, plug}
 
 pub hit-le : (a b : ℕ) → hit a b ≤ 1
 unfolding hit
-hit-le a b = go (nat_eq a b)
-  where
-    go : (t : Bool) → cond t 1 0 ≤ 1
-    go true = omega arith
-    go false = omega arith
+hit-le a b = grind (arith, nat_eq, cond)
 
 pub hit-same : (a b : ℕ) → a ≡ b → hit a b ≡ 1
 unfolding hit
@@ -19,21 +15,10 @@ hit-same a b e = ap (λ t. cond t 1 0) (eq-eqb a b e)
 
 pub hit-in : (a b : ℕ) → 0 < hit a b → a ≡ b
 unfolding hit
-hit-in a b = go (nat_eq a b) refl
-  where
-    go : (t : Bool) → nat_eq a b ≡ t → 0 < cond t 1 0 → a ≡ b
-    go true e lt = eqb-true a b e
-    go false e lt = absurd (omega (arith, lt))
+hit-in a b = grind (arith, nat_eq, cond, eqb-true)
 
 pub hit-other : (a b : ℕ) → a ≢ b → hit a b ≡ 0
-hit-other a b ne = elim cases [ inl z ↦ z | inr lt ↦ absurd (ne (hit-in a b lt)) ]
-  where
-    cases : (hit a b ≡ 0) ⊎ (0 < hit a b)
-    cases = zero_or (hit a b)
-      where
-        zero_or : (n : ℕ) → (n ≡ 0) ⊎ (0 < n)
-        zero_or zero = inl refl
-        zero_or (suc n) = inr (omega arith)
+hit-other a b ne = grind (arith, hit-in)
 
 module _ {T : Type 0} where
   pub times-join : (i : ℕ) (f g : Forest (Placed T)) → times i (join f g) ≡ times i f + times i g

@@ -1,21 +1,13 @@
 -- The rest of an item, and of siblings, at the end of their text.
-use Rattle.std.proofs.Common.{◌≡◌, ◌≢◌, ℕ, ◌-◌, ◌<◌, ◌≤◌, Bool, true, false, nat_lt, ◌==◌, Some, None, refl, arith}
+use Rattle.std.proofs.Common.{◌≡◌, ◌≢◌, ℕ, ◌-◌, ◌<◌, ◌≤◌, true, false, nat_lt, ◌==◌, Some, None, refl, arith}
 use Rattle.std.proofs.lemmas.Bool.{eq-eqb, eqb-true, lt-ltb, ltb-true}
 use Rattle.cmark_tree.specs.Truncating.{Spans, shortened}
 
 pub eq_false : (a b : ℕ) → a ≢ b → (a == b) ≡ false
-eq_false a b ne = go (a == b) refl
-  where
-    go : (t : Bool) → (a == b) ≡ t → t ≡ false
-    go true e = absurd (ne (eqb-true a b e))
-    go false e = refl
+eq_false a b ne = grind (arith, eqb-true)
 
 pub lt_false : (a b : ℕ) → b ≤ a → nat_lt a b ≡ false
-lt_false a b le = go (nat_lt a b) refl
-  where
-    go : (t : Bool) → nat_lt a b ≡ t → t ≡ false
-    go true e = absurd (omega (arith, le, ltb-true a b e))
-    go false e = refl
+lt_false a b le = grind (arith, nat_lt, ltb-true)
 
 module _ {T : Type 0} (s : Spans T) where
   pub shortened-ends : (to : ℕ) (x : T) → s.end x ≡ to → shortened s to x ≡ Some x

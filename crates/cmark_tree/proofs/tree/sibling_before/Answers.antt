@@ -13,7 +13,6 @@ returns-then-at-last g c done p inside after h is =
 
 pub next-at-requires : goal.next-at-requires
 next-at-requires g c = ∥∥₁_elim c.requires (HasNumber-prop _ _) (λ r.
-    let r = r in
     passed_number c.args.nodes.now c.args.head r.0 r.1 r.2 r.3 r.4 c.loop-step.before c.loop-step.at c.loop-step._step (c.loop-step.invariant r.0 r.1 r.2 r.3 r.4 r.5))
 
 pub loop-step-preserved : goal.loop-step-preserved

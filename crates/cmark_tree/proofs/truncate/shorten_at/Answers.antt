@@ -1,5 +1,4 @@
-use Rattle.std.proofs.Common.{sym, ap, ◌∙◌}
-use Rattle.cmark_tree.specs.Truncating.{shortened}
+use Rattle.std.proofs.Common.{sym, ap, ◌∙◌, arith}
 use Rattle.cmark_tree.proofs.Entries.{item_changes, entry_there}
 use Rattle.cmark_tree.proofs.truncate.shorten_at.Goals as goal
 
@@ -10,8 +9,4 @@ shorten-requires g c start escaped =
     c.requires.inside e.0 e.1 (ap g.T.TreeSpan.spans.start (sym is) ∙ start) (ap g.T.TreeSpan.spans.escaped (sym is) ∙ escaped)
 
 pub returns : goal.returns
-returns g c e at = record {
-  item = c.shorten.new.item;
-  changed = item_changes c.args.nodes.now c.args.at c.shorten.new.item c.requires.number;
-  is = ap (shortened g.T.TreeSpan.spans c.args.to) (sym (c.item_mut-item.ensures.value e at)) ∙ c.shorten.ensures;
-}
+returns g c e at = grind (arith, item_changes)

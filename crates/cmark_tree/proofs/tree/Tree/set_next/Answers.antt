@@ -1,4 +1,4 @@
-use Rattle.std.proofs.Common.{sym, ◌∙◌, arith}
+use Rattle.std.proofs.Common.{sym, ◌∙◌, arith, rules}
 use Rattle.cmark_tree.specs.Tree.{entry_at}
 use Rattle.cmark_tree.specs.Nodes.{with_next}
 use Rattle.cmark_tree.proofs.Relinks.{relinked_next, first-relink_next}
@@ -6,14 +6,10 @@ use Rattle.cmark_tree.proofs.Steps.{rewritten, has_number, in_right, first_withi
 use Rattle.cmark_tree.proofs.tree.Tree.set_next.Goals as goal
 
 pub set_next-requires-clause-number : goal.set_next-requires-clause-number
-set_next-requires-clause-number g c =
-    let h = c.requires.2 in
-    has_number c.args.self.now.nodes c.requires.0.right c.args.ix.ix (in_right c.args.self.now.nodes c.args.self.now.first c.requires.0 h.holds.forest) h.below
+set_next-requires-clause-number g c = search (rules, has_number, in_right)
 
 pub set_next-requires-clause-to : goal.set_next-requires-clause-to
-set_next-requires-clause-to g c =
-    let h = c.requires.2 in
-    omega (arith, first_within c.args.self.now.nodes c.requires.1 h.stands, h.leads, c.link_of.ensures)
+set_next-requires-clause-to g c = grind (arith, first_within)
 
 pub returns-clause-forest : goal.returns-clause-forest
 returns-clause-forest g c z f h = record {
