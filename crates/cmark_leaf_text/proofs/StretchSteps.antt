@@ -4,19 +4,12 @@ use Rattle.std.specs.Prelude.{if◌then◌else◌, nat_lt, slice_get}
 use Rattle.std.specs.Str.{IsCharBoundary}
 use Rattle.std.proofs.lemmas.Bool.{lt-ltb, ltb-true, ltb-false}
 use Rattle.std.proofs.lemmas.List.{append-nil, get_or-drop, get_or-take, get_or_append_left, get_or-append_right, length-take, length-drop}
-use Rattle.std.proofs.lemmas.Option.{slice_get_read, slice_get_within}
+use Rattle.std.proofs.lemmas.Option.{slice_get_within}
 use Rattle.cmark_grammar.specs.Tokens.{slice}
-use Rattle.cmark_leaf_text.specs.Stretches.{IsLine, AreLines, leaf_bytes, IsStretch, AreStretches, FindsStretch, IsOpen, joined, end_in_leaf, place_in, size_of}
+use Rattle.cmark_leaf_text.specs.Stretches.{IsLine, AreLines, leaf_bytes, IsStretch, AreStretches, IsOpen, joined, end_in_leaf, place_in, size_of}
 use Rattle.cmark_leaf_text.specs.Reads.{IsPart}
 use Rattle.cmark_leaf_text.specs.declared.stretch.LeafLine.{LeafLine}
 use Rattle.cmark_leaf_text.specs.declared.stretch.Stretch.{Stretch}
-
--- the stretch that a search for a byte has found
-pub read-stretch : (ss : List Stretch) (at i : ℕ) (s : Stretch) → FindsStretch ss at i → s ≡ get_or ss i s → (slice_get ss i ≡ Some s) × (s.at ≤ at)
-read-stretch ss at i s f e =
-    let here : slice_get ss i ≡ Some s = slice_get_read ss (length ss) i s refl (slice_get_within ss i f.stretch f.is) e in
-    let same : f.stretch ≡ s = let h : Some f.stretch ≡ Some s = sym f.is ∙ here in cc in
-    (here, subst (λ (t : Stretch). t.at ≤ at) same f.before)
 
 module _ (source : List ℕ) where
   slice-join : (a b c : ℕ) → a ≤ b → b ≤ c → slice source a b ++ slice source b c ≡ slice source a c
@@ -112,13 +105,6 @@ module _ (source : List ℕ) where
   pub size-joined : (x : Stretch) (ss : List Stretch) → x.end ≤ length source → length (joined source (x ∷ ss)) ≡ size_of x + length (joined source ss)
   size-joined x ss le = length-append (slice source x.start x.end) (joined source ss) ∙ ap (λ n. n + length (joined source ss)) (slice-length x.start x.end le)
 
-  not-less : (m n : ℕ) → n ≤ m → nat_lt m n ≡ false
-  not-less m n g = go (nat_lt m n) refl
-    where
-      go : (z : Bool) → nat_lt m n ≡ z → z ≡ false
-      go true h = let w = ltb-true m n h in absurd (omega (arith, w, g))
-      go false h = refl
-
   pub record Placed (ss : List Stretch) (at : ℕ) (s : Stretch) : Type 0 where
     pub inside : at < s.at + size_of s
     pub place : place_in ss at ≡ s.start + (at - s.at)
@@ -152,25 +138,13 @@ module _ (source : List ℕ) where
       let r = finds (a + size_of x) x.end ss at i s all.1 e le next l in
       let k : x.at + size_of x ≤ at = omega (arith, p, b, le) in
       record { inside = r.inside; place = ap (λ z. if z then x.start + (at - x.at) else place_in ss at) (not-less at (x.at + size_of x) k) ∙ r.place }
-
-  -- the offset of a byte of a stretch in the list
-  pub placed-inside : (from-at from : ℕ) (ss : List Stretch) (at i : ℕ) (s : Stretch) → AreStretches source from-at from ss → slice_get ss i ≡ Some s → s.at ≤ at → at < s.at + size_of s
-      → place_in ss at ≡ s.start + (at - s.at)
-  placed-inside a f [] at i s all e le lt = absurd (none e)
     where
-      none : None ≡ Some s → ⊥
-      none q = let z : ⊥ = cc in z
-  placed-inside a f (x ∷ ss) at zero s all e le lt = first e
-    where
-      first : Some x ≡ Some s → place_in (x ∷ ss) at ≡ s.start + (at - s.at)
-      first q =
-          let same : x ≡ s = cc in
-          subst (λ t. at < t.at + size_of t → place_in (x ∷ ss) at ≡ t.start + (at - t.at)) same (λ l. ap (λ b. if b then x.start + (at - x.at) else place_in ss at) (lt-ltb at (x.at + size_of x) l)) lt
-  placed-inside a f (x ∷ ss) at (suc i) s all e le lt =
-      let p = all.0.place in
-      let b = (stretch-there (a + size_of x) x.end ss i s all.1 e).0 in
-      let k : x.at + size_of x ≤ at = omega (arith, p, b, le) in
-      ap (λ z. if z then x.start + (at - x.at) else place_in ss at) (not-less at (x.at + size_of x) k) ∙ placed-inside (a + size_of x) x.end ss at i s all.1 e le lt
+      not-less : (m n : ℕ) → n ≤ m → nat_lt m n ≡ false
+      not-less m n g = go (nat_lt m n) refl
+        where
+          go : (z : Bool) → nat_lt m n ≡ z → z ≡ false
+          go true h = let w = ltb-true m n h in absurd (omega (arith, w, g))
+          go false h = refl
 
   -- the lines of a leaf
   pub from_start : (from : ℕ) (line : LeafLine) (lines : List LeafLine) → AreLines source from (line ∷ lines) → AreLines source line.start (line ∷ lines)
@@ -242,40 +216,6 @@ module _ (source : List ℕ) where
   pub found : (ss : List Stretch) (at i : ℕ) (s : Stretch) → AreStretches source 0 0 ss → slice_get ss i ≡ Some s → s.at ≤ at
       → ((t : Stretch) → slice_get ss (i + 1) ≡ Some t → at < t.at) → at < length (joined source ss) → Placed ss at s
   found ss at i s all e le next lt = finds 0 0 ss at i s all e le (λ t h. next t (ap (slice_get ss) (let n : i + 1 ≡ suc i = omega arith in n) ∙ h)) (let n : at < 0 + length (joined source ss) = omega (arith, lt) in n)
-
-  pub there : (ss : List Stretch) (at i : ℕ) (s : Stretch) → AreStretches source 0 0 ss → FindsStretch ss at i → s ≡ get_or ss i s → at < length (joined source ss) → Placed ss at s
-  there ss at i s all f e lt =
-      let r = read-stretch ss at i s f e in
-      found ss at i s all r.0 r.1 f.next lt
-
-  -- the first byte of a part is in the stretch that a search for it found; its last byte is too if the stretch is long enough
-  pub record Begins (ss : List Stretch) (from to : ℕ) (s : Stretch) : Type 0 where
-    pub before : s.at ≤ from
-    pub inside : from < s.at + size_of s
-    pub place : place_in ss from ≡ s.start + (from - s.at)
-    pub ordered : s.start ≤ s.end
-    pub within : s.end ≤ length source
-    pub ends : to - s.at ≤ size_of s → place_in ss (to - 1) + 1 ≡ s.start + (from - s.at) + (to - from)
-
-  pub begins : (ss : List Stretch) (from to i : ℕ) (s : Stretch) → AreStretches source 0 0 ss → IsPart (joined source ss) from to → FindsStretch ss from i → s ≡ get_or ss i s
-      → Begins ss from to s
-  begins ss from to i s all part f e =
-      let some = part.some in
-      let whole = part.within in
-      let read = read-stretch ss from i s f e in
-      let le = read.1 in
-      let r = found ss from i s all read.0 le f.next (let l : from < length (joined source ss) = omega (arith, some, whole) in l) in
-      let is = (stretch-there 0 0 ss i s all read.0).1 in
-      record {
-        before = le;
-        inside = r.inside;
-        place = r.place;
-        ordered = is.ordered;
-        within = is.within;
-        ends = λ fits.
-            let last = placed-inside 0 0 ss (to - 1) i s all read.0 (let l : s.at ≤ to - 1 = omega (arith, some, le) in l) (let l : to - 1 < s.at + size_of s = omega (arith, some, le, fits) in l) in
-            omega (arith, last, some, le);
-      }
 
   -- bytes at their offsets
   pub byte-in-slice : (a b k : ℕ) → k < b - a → b ≤ length source → get_or (slice source a b) k 0 ≡ get_or source (a + k) 0

@@ -128,12 +128,7 @@ impl<'a> LeafText<'a> {
         ensures end { result.end ≡ place_of self.now (to - 1) + 1 }
         ensures part { IsPart (source_of self.now) result.start result.end }
     {
-        let stretch = self.stretches[self.stretch_at(from)];
-        let start = stretch.place(from);
-        // Most parts are in one stretch, so that their end needs no search.
-        if to - stretch.at <= stretch.end - stretch.start {
-            return start..start + (to - from);
-        }
+        let start = self.place(from);
         let last = self.place(to - 1);
         start..last + 1
     }

@@ -1,8 +1,17 @@
-use Rattle.std.proofs.Common.{◌<◌, ◌≤◌, ◌+◌, ℕ, List, length, sym, subst, ◌∙◌, arith}
-use Rattle.cmark_leaf_text.specs.Stretches.{joined}
+use Rattle.std.proofs.Common.{◌≡◌, ◌<◌, ◌≤◌, ◌+◌, ℕ, List, length, Some, refl, sym, subst, ◌∙◌, arith, get_or}
+use Rattle.std.specs.Prelude.{slice_get}
+use Rattle.std.proofs.lemmas.Option.{slice_get_read, slice_get_within}
+use Rattle.cmark_leaf_text.specs.Stretches.{FindsStretch, AreStretches, joined}
 use Rattle.cmark_leaf_text.specs.declared.stretch.Stretch.{Stretch}
-use Rattle.cmark_leaf_text.proofs.StretchSteps.{placed, there}
+use Rattle.cmark_leaf_text.proofs.StretchSteps.{Placed, found, placed}
 use Rattle.cmark_leaf_text.proofs.leaf_text.LeafText.place.Goals as goal
+
+there : (source : List ℕ) (items : List Stretch) (at i : ℕ) (s : Stretch) → AreStretches source 0 0 items → FindsStretch items at i → s ≡ get_or items i s
+    → at < length (joined source items) → Placed source items at s
+there source items at i s all f e lt =
+    let here : slice_get items i ≡ Some s = slice_get_read items (length items) i s refl (slice_get_within items i f.stretch f.is) e in
+    let same : f.stretch ≡ s = let h : Some f.stretch ≡ Some s = sym f.is ∙ here in cc in
+    found source items at i s all here (subst (λ (t : Stretch). t.at ≤ at) same f.before) f.next lt
 
 pub place-requires-clause-following : goal.place-requires-clause-following
 place-requires-clause-following c = (there c.args.self.now.source.now c.args.self.now.stretches.items c.args.at c.stretch_at.result c.index-stretch.result.now c.requires.read.stretches c.stretch_at.ensures c.index-stretch.ensures c.requires.within).inside
