@@ -200,7 +200,11 @@ fn write_all<'a, E: EntityLookup, F: BrokenLinkCallback<'a> + Drop, T: Filter>(
 {
     loop {
         // The text of a metadata block is not written, but a soft break is. So the lines of a text are one text only outside of such a block.
-        match parser.next_short::<ForHtml>(!writer.in_metadata)? {
+        // With `?` the step would be moved once more.
+        let Ok(coming) = parser.next_short::<ForHtml>(!writer.in_metadata) else {
+            return Err(AllocError);
+        };
+        match coming {
             // Each of the two calls is inlined for its own events: other events follow a span than follow a block.
             Coming::Span(short, _, _) => write_short(out, writer, filter.short_of(short))?,
             Coming::Block(short, _, _) => write_short(out, writer, filter.short_of(short))?,
