@@ -8,7 +8,7 @@ pub tag_with_texts-requires-clause-drawn : goal.tag_with_texts-requires-clause-d
 tag_with_texts-requires-clause-drawn c = is-drawn c.args.self.now c.args.item c.args.ix c.requires.at.1 c.requires.item c.requires.at.0
 
 pub push-requires : goal.push-requires
-push-requires c = has-focus c.args.self.now c.args.item c.args.ix c.requires.at.1 c.requires.item c.requires.at.0
+push-requires c = ∣ has-focus c.args.self.now c.args.item c.args.ix c.requires.at.1 c.requires.item c.requires.at.0 ∣₁
 
 pub returns-then-is_leaf-clause-given : goal.returns-then-is_leaf-clause-given
 returns-then-is_leaf-clause-given c left r =

@@ -8,7 +8,7 @@ use Rattle.cmark_block_walk.proofs.WalkSteps.{gives-ranged, goes-after, on-err, 
 use Rattle.cmark_block_walk.proofs.walk.Walk.enter_list.Goals as goal
 
 pub push-requires : goal.push-requires
-push-requires c = here-focus c.args.self.now c.args.ix c.requires.at.1 c.requires.at.0
+push-requires c = ∣ here-focus c.args.self.now c.args.ix c.requires.at.1 c.requires.at.0 ∣₁
 
 pub returns-in-Some-clause-given : goal.returns-in-Some-clause-given
 returns-in-Some-clause-given c left r =

@@ -12,7 +12,7 @@ pub glance-requires-clause-drawn : goal.glance-requires-clause-drawn
 glance-requires-clause-drawn c = is-drawn c.args.self.now c.item-item.result.now c.args.ix c.requires.at.1 c.item-item.ensures c.requires.at.0
 
 pub push-requires : goal.push-requires
-push-requires c = has-focus c.args.self.now c.item-item.result.now c.args.ix c.requires.at.1 c.item-item.ensures c.requires.at.0
+push-requires c = ∣ has-focus c.args.self.now c.item-item.result.now c.args.ix c.requires.at.1 c.item-item.ensures c.requires.at.0 ∣₁
 
 pub returns-then-is_leaf-clause-given : goal.returns-then-is_leaf-clause-given
 returns-then-is_leaf-clause-given c = λ lines.
