@@ -5,8 +5,8 @@ use Rattle.cmark_html.specs.Writer.{writing}
 use Rattle.cmark_text.specs.declared.short.Short.{Short}
 use Rattle.cmark_event_walk.specs.declared.walk_step.WalkStep.{WalkStep}
 use Rattle.cmark_event_walk.specs.declared.walk_step.WalkStep.TheVariants as lines
-use Rattle.cmark_event_walk.specs.Walking.{are_lines}
-use Rattle.cmark_parser.specs.Parsing.{GivesWalkStep}
+use Rattle.cmark_event_walk.specs.Walking.{IfLong, are_lines}
+use Rattle.cmark_parser.specs.Parsing.{ComesLong, GivesWalkStep}
 use Rattle.cmark_parser.specs.Rendering.{WritesLong, written}
 use Rattle.cmark_parser.proofs.LineSteps.{text-written}
 use Rattle.cmark_parser.proofs.RenderSteps.{all-written, joined, long-kept, none-open, none-written, short-written}
@@ -20,8 +20,8 @@ loop-step-init g c =
     let old = written (writing c.args.writer.now) (string_bytes c.args.out.now) in
     (none-written Says replacement filtered c.args.parser.now old c.requires.goes, c.requires.closed, c.requires.ready)
 
-pub loop-step-preserved-in-Continue-branch-3 : goal.loop-step-preserved-in-Continue-branch-3
-loop-step-preserved-in-Continue-branch-3 g c =
+pub loop-step-preserved-in-Continue-1 : goal.loop-step-preserved-in-Continue-1
+loop-step-preserved-in-Continue-1 g c =
     let Says = g.F.BrokenLinkCallback.answers in
     let replacement = g.E.EntityLookup.replacement in
     let filtered = g.T.Filter.filtered c.args.filter.now in
@@ -39,8 +39,8 @@ loop-step-preserved-in-Continue-branch-3 g c =
       c.in-Ok.ensures.ready,
     )
 
-pub loop-step-preserved-in-Continue-branch-4 : goal.loop-step-preserved-in-Continue-branch-4
-loop-step-preserved-in-Continue-branch-4 g c =
+pub loop-step-preserved-in-Continue-branch-2 : goal.loop-step-preserved-in-Continue-branch-2
+loop-step-preserved-in-Continue-branch-2 g c =
     let Says = g.F.BrokenLinkCallback.answers in
     let replacement = g.E.EntityLookup.replacement in
     let filtered = g.T.Filter.filtered c.args.filter.now in
@@ -63,8 +63,8 @@ shown-lines : (in_metadata : Bool) (coming : WalkStep) (text : Short) (start end
 shown-lines false coming text start end is joins = refl
 shown-lines true coming text start end is joins = absurd (true≢false (sym (ap are_lines is) ∙ joins refl))
 
-pub loop-step-preserved-in-Continue-branch-5 : goal.loop-step-preserved-in-Continue-branch-5
-loop-step-preserved-in-Continue-branch-5 g c =
+pub loop-step-preserved-in-Continue-branch-3 : goal.loop-step-preserved-in-Continue-branch-3
+loop-step-preserved-in-Continue-branch-3 g c =
     let Says = g.F.BrokenLinkCallback.answers in
     let replacement = g.E.EntityLookup.replacement in
     let filtered = g.T.Filter.filtered c.args.filter.now in
@@ -81,6 +81,15 @@ loop-step-preserved-in-Continue-branch-5 g c =
       none-open mid.writing new.writing c.in-Lines.text e.state,
       c.in-Ok.ensures.ready,
     )
+
+pub write_long-requires : goal.write_long-requires
+write_long-requires g c κs =
+    let replacement = g.E.EntityLookup.replacement in
+    let parser = c.loop-step.parser in
+    let following = c.step.new.self in
+    let h = subst (λ n. GivesWalkStep g.F.BrokenLinkCallback.answers replacement parser n following) c.in-Long.is c.in-Ok.ensures.gives in
+    let comes = subst (λ n. IfLong n (ComesLong replacement parser following)) c.in-Long.is c.in-Ok.ensures.long in
+    ((refl, tt), (h.can, (c.in-Ok.ensures.ready, comes.long)))
 
 pub loop-step-preserved : goal.loop-step-preserved
 loop-step-preserved g c =
