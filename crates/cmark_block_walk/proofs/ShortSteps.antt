@@ -12,8 +12,8 @@ use Rattle.cmark_text.specs.declared.short.PlainTag.{PlainTag}
 use Rattle.cmark_text.specs.declared.short.Short.{Short}
 use Rattle.cmark_text.specs.declared.short.Short.TheVariants as short
 use Rattle.cmark_text.specs.Short.{IsShortZeroCopy, shown_plain, shown_short}
-use Rattle.cmark_block_walk.specs.declared.reading.Brief.{Brief}
-use Rattle.cmark_block_walk.specs.declared.reading.Brief.TheVariants as brief
+use Rattle.cmark_block_walk.specs.declared.reading.BlockStep.{BlockStep}
+use Rattle.cmark_block_walk.specs.declared.reading.BlockStep.TheVariants as brief
 use Rattle.cmark_block_walk.specs.declared.reading.Stage.TheVariants as stage
 use Rattle.cmark_block_walk.specs.declared.walk.Walk.{Walk}
 use Rattle.cmark_block_walk.specs.Walking.{GivesBrief, GivesShort, Goes, Remains, definitions_of, text_of}
@@ -36,7 +36,7 @@ pub goes-short : (old new : Walk) (s : Short) (start end : ℕ) → GivesShort o
 goes-short old new s start end g goes = let first = g.gives goes.0 goes.1 in (first.0, first.2)
 
 -- the result of a step after steps without an event is the result from before these
-pub after-lasting : (old walk new : Walk) (b : Brief) (lines : List LeafLine) → Lasts old walk → GivesBrief walk b lines new → GivesBrief old b lines new
+pub after-lasting : (old walk new : Walk) (b : BlockStep) (lines : List LeafLine) → Lasts old walk → GivesBrief walk b lines new → GivesBrief old b lines new
 after-lasting old walk new (brief.Short s start end) lines l g = record { gives = λ left r. g.gives left (l.remains left r); lent = subst (λ text. IsShortZeroCopy text s start end) l.text g.lent }
 after-lasting old walk new brief.Long lines l g = (λ left r. g.0 left (l.remains left r), g.1)
 after-lasting old walk new _ lines l g = λ left r. g left (l.remains left r)

@@ -34,8 +34,8 @@ use Rattle.cmark_items.specs.ItemNodes.{shown_item}
 use Rattle.cmark_leaf_text.specs.declared.stretch.LeafLine.{LeafLine}
 use Rattle.cmark_leaf_text.specs.Stretches.{AreLines}
 use Rattle.cmark_block_walk.specs.declared.walk.Walk.{Walk}
-use Rattle.cmark_block_walk.specs.declared.reading.Brief.{Brief}
-use Rattle.cmark_block_walk.specs.declared.reading.Brief.TheVariants as brief
+use Rattle.cmark_block_walk.specs.declared.reading.BlockStep.{BlockStep}
+use Rattle.cmark_block_walk.specs.declared.reading.BlockStep.TheVariants as brief
 use Rattle.cmark_block_walk.specs.declared.reading.Glance.{Glance}
 use Rattle.cmark_block_walk.specs.declared.reading.Glance.TheVariants as glance
 use Rattle.cmark_block_walk.specs.declared.reading.Stage.{Stage}
@@ -338,19 +338,19 @@ abbrev pub IsLong : Walk → Type 0
 IsLong walk = (ix : TreeIndex) × IsLongAt walk ix
 
 -- a call gives the first of those left, and the others remain; if that is an event of another kind, it is still the next one
-abbrev pub GivesBrief : Walk → Brief → List LeafLine → Walk → Type 0
+abbrev pub GivesBrief : Walk → BlockStep → List LeafLine → Walk → Type 0
 GivesBrief old (brief.Short short start end) lines new = GivesShort old short start end new
 GivesBrief old (brief.Leaf is_cell) lines new = (left : List Segment) → Remains old left → GivesLeaf left is_cell lines new
 GivesBrief old brief.Long lines new = ((left : List Segment) → Remains old left → Remains new left) × IsLong new
 GivesBrief old brief.Over lines new = (left : List Segment) → Remains old left → GivesNone left new
 
 -- the result of a step, which may give nothing
-abbrev pub GivesStep : Walk → Option Brief → List LeafLine → Walk → Type 0
+abbrev pub GivesStep : Walk → Option BlockStep → List LeafLine → Walk → Type 0
 GivesStep old None lines new = (left : List Segment) → Remains old left → Remains new left
 GivesStep old (Some brief) lines new = GivesBrief old brief lines new
 
 -- a step gives something, or leaves fewer steps that give nothing
-abbrev pub ComesNearer : Walk → Option Brief → Walk → Type 0
+abbrev pub ComesNearer : Walk → Option BlockStep → Walk → Type 0
 ComesNearer old None new = silent_steps new.stage < silent_steps old.stage
 ComesNearer old (Some brief) new = Unit {0}
 

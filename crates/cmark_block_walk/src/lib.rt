@@ -10,5 +10,5 @@ mod reading;
 mod short;
 mod walk;
 
-pub use reading::Brief;
+pub use reading::BlockStep;
 pub use walk::Walk;

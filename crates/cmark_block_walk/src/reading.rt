@@ -4,7 +4,7 @@ use cmark_text::{PlainTag, Short};
 
 /// The next item of a walk, without an `Event`.
 #[derive(Clone, Copy)]
-pub enum Brief<'a> {
+pub enum BlockStep<'a> {
     /// An event that owns nothing, and its range in byte offsets of the text.
     Short(Short<'a>, usize, usize),
     /// The content of a leaf, whose lines are passed separately.

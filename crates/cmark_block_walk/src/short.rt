@@ -14,7 +14,7 @@ ghost use Rattle.cmark_block_walk.specs.Walking.{GoesOn, LeavesTheSame, ComesNea
 
 use crate::item::first_number;
 use crate::kind::is_leaf;
-use crate::reading::{Brief, Glance, Stage};
+use crate::reading::{BlockStep, Glance, Stage};
 use crate::walk::Walk;
 use cmark_items::{Item, ItemBody};
 use cmark_leaf_text::LeafLine;
@@ -23,12 +23,12 @@ use cmark_tree::TreeIndex;
 use std::alloc::AllocError;
 
 impl<'a> Walk<'a> {
-    /// The next event, if it owns nothing, or the next leaf. An event of another kind is reported as `Brief::Long` and is still the next
+    /// The next event, if it owns nothing, or the next leaf. An event of another kind is reported as `BlockStep::Long` and is still the next
     /// one: [`take_long`](Walk::take_long) returns it. The lines of a leaf replace the content of `lines`: byte offsets of the text, in
     /// order, one line for each stretch of the text without a gap. After the last item the result is `Over`, also in all further calls. If
     /// memory is refused, all events and leaves remain, and the content of `lines` is unspecified.
     #[inline(always)]
-    pub fn next_short(&mut self, lines: &mut Vec<LeafLine>) -> Result<Brief<'a>, AllocError>
+    pub fn step(&mut self, lines: &mut Vec<LeafLine>) -> Result<BlockStep<'a>, AllocError>
         requires { Goes self.old }
         ensures given { IfOk result (λ brief. GivesBrief self.old brief lines.new.items self.new) }
         ensures refused { OnErr result
@@ -51,7 +51,7 @@ impl<'a> Walk<'a> {
 
     // Into the focus or past it, or up after the last sibling. `None` if a paragraph of a tight list begins or ends.
     #[inline(always)]
-    fn short_step(&mut self, lines: &mut Vec<LeafLine>) -> Result<Option<Brief<'a>>, AllocError>
+    fn short_step(&mut self, lines: &mut Vec<LeafLine>) -> Result<Option<BlockStep<'a>>, AllocError>
         requires { Goes self.old }
         ensures given { IfOk result
             (λ brief. GivesStep self.old brief lines.new.items self.new) }
@@ -66,16 +66,16 @@ impl<'a> Walk<'a> {
             Stage::Before => self.enter_short(ix),
             Stage::Lines => {
                 let is_cell = self.meet_leaf(ix, lines)?;
-                Ok(Some(Brief::Leaf { is_cell }))
+                Ok(Some(BlockStep::Leaf { is_cell }))
             }
             Stage::Following => Ok(self.leave_leaf_short(ix)),
-            Stage::Marked { .. } | Stage::Listed { .. } => Ok(Some(Brief::Long)),
+            Stage::Marked { .. } | Stage::Listed { .. } => Ok(Some(BlockStep::Long)),
         }
     }
 
     // Into the focus, or past it if it is one event.
     #[inline(always)]
-    fn enter_short(&mut self, ix: TreeIndex) -> Result<Option<Brief<'a>>, AllocError>
+    fn enter_short(&mut self, ix: TreeIndex) -> Result<Option<BlockStep<'a>>, AllocError>
         requires at { IsAt self.old ix }
         requires before { self.old.stage ≡ stage.Before }
         ensures given { IfOk result
@@ -89,26 +89,26 @@ impl<'a> Walk<'a> {
             Glance::Around(tag) => {
                 if is_leaf(item) {
                     self.stage = Stage::Lines;
-                    return Ok(Some(Brief::Short(Short::Start(tag), item.start, item.end)));
+                    return Ok(Some(BlockStep::Short(Short::Start(tag), item.start, item.end)));
                 }
                 self.tree.push()?;
-                Ok(Some(Brief::Short(Short::Start(tag), item.start, item.end)))
+                Ok(Some(BlockStep::Short(Short::Start(tag), item.start, item.end)))
             }
             Glance::Alone(short) => {
                 self.tree.next_sibling(ix);
-                Ok(Some(Brief::Short(short, item.start, item.end)))
+                Ok(Some(BlockStep::Short(short, item.start, item.end)))
             }
             Glance::Inside => {
                 self.stage = Stage::Lines;
                 Ok(None)
             }
-            Glance::Long => Ok(Some(Brief::Long)),
+            Glance::Long => Ok(Some(BlockStep::Long)),
         }
     }
 
     // Out of the leaf in the focus, and past it.
     #[inline(always)]
-    fn leave_leaf_short(&mut self, ix: TreeIndex) -> Option<Brief<'a>>
+    fn leave_leaf_short(&mut self, ix: TreeIndex) -> Option<BlockStep<'a>>
         requires at { IsAt self.old ix }
         requires following { self.old.stage ≡ stage.Following }
         ensures given { (lines : List LeafLines) → GivesStep self.old result lines self.new }
@@ -120,26 +120,26 @@ impl<'a> Walk<'a> {
         self.tree.next_sibling(ix);
         self.stage = Stage::Before;
         match end {
-            Some(end) => Some(Brief::Short(Short::End(end), item.start, item.end)),
+            Some(end) => Some(BlockStep::Short(Short::End(end), item.start, item.end)),
             None => None,
         }
     }
 
     // Up after the last sibling, and past the parent.
     #[inline(always)]
-    fn leave_short(&mut self) -> Brief<'a>
+    fn leave_short(&mut self) -> BlockStep<'a>
         requires { IsPast self.old }
         ensures given { (lines : List LeafLines) → GivesBrief self.old result lines self.new }
         ensures goes_on { GoesOn self.old self.new }
     {
         let Some(ix) = self.tree.pop() else {
-            return Brief::Over;
+            return BlockStep::Over;
         };
         let item = *self.tree.item(ix);
         let end = self.end(item);
         self.tree.next_sibling(ix);
         match end {
-            Some(end) => Brief::Short(Short::End(end), item.start, item.end),
+            Some(end) => BlockStep::Short(Short::End(end), item.start, item.end),
             None => unreachable!(),
         }
     }

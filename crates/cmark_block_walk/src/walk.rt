@@ -73,7 +73,7 @@ impl<'a> Walk<'a> {
         &self.allocations.refdefs
     }
 
-    /// The next event with its range, after [`next_short`](Walk::next_short) reported it as long. If memory is refused, all events and
+    /// The next event with its range, after [`step`](Walk::step) reported it as long. If memory is refused, all events and
     /// leaves remain.
     #[inline(never)]
     pub fn take_long(&mut self) -> Result<Ranged<'a>, AllocError>

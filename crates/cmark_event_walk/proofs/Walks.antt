@@ -19,8 +19,8 @@ use Rattle.cmark_slots.specs.Slots.{AreSlots}
 use Rattle.cmark_leaf_text.specs.declared.leaf_text.LeafText.{LeafText}
 use Rattle.cmark_leaf_text.specs.declared.stretch.LeafLine.{LeafLine}
 use Rattle.cmark_leaf_text.specs.Reads.{IsRead, text_of}
-use Rattle.cmark_text.specs.declared.short.Next.{Next}
-use Rattle.cmark_text.specs.declared.short.Next.TheVariants as next
+use Rattle.cmark_text.specs.declared.short.Step.{Step}
+use Rattle.cmark_text.specs.declared.short.Step.TheVariants as next
 use Rattle.cmark_text.specs.declared.short.Short.{Short}
 use Rattle.cmark_block_walk.specs.declared.walk.Walk.{Walk}
 use Rattle.cmark_block_walk.specs.Walking as walking
@@ -33,7 +33,7 @@ none-opened : (source : List ℕ) (opened : List Opened) → opened ≡ [] → A
 none-opened source opened e = subst (AreOpened source) (sym e) (λ k d lt. absurd (omega (arith, lt)))
 
 -- a fact of Short and of Long is a fact of any result but Over
-pub before-over : (P : Next → Type 0) (n : Next) → (n ≡ next.Over → ⊥) → ((short : Short) (start end : ℕ) → n ≡ next.Short short start end → P (next.Short short start end)) → (n ≡ next.Long → P next.Long) → P n
+pub before-over : (P : Step → Type 0) (n : Step) → (n ≡ next.Over → ⊥) → ((short : Short) (start end : ℕ) → n ≡ next.Short short start end → P (next.Short short start end)) → (n ≡ next.Long → P next.Long) → P n
 before-over P (next.Short short start end) some s l = s short start end refl
 before-over P next.Long some s l = l refl
 before-over P next.Over some s l = absurd (some refl)

@@ -46,15 +46,15 @@ use Rattle.cmark_text.specs.Ranged.{shown_ranged}
 use Rattle.cmark_text.specs.Short.{IsShortZeroCopy, ranged_short}
 use Rattle.cmark_values.specs.Shown.{shown_options}
 use Rattle.cmark_text.specs.declared.ranged.Ranged.{Ranged as Given}
-use Rattle.cmark_text.specs.declared.short.Next.{Next}
-use Rattle.cmark_text.specs.declared.short.Next.TheVariants as next
+use Rattle.cmark_text.specs.declared.short.Step.{Step}
+use Rattle.cmark_text.specs.declared.short.Step.TheVariants as next
 use Rattle.cmark_text.specs.declared.short.Short.{Short}
 use Rattle.cmark_text.specs.declared.short.Short.TheVariants as short
 use Rattle.cmark_values.specs.declared.text.CowStr.{CowStr}
 use Rattle.cmark_block_walk.specs.Walking as walking
 use Rattle.cmark_block_walk.specs.Walking.{AreLinesOf}
-use Rattle.cmark_event_walk.specs.declared.coming.Coming.{Coming}
-use Rattle.cmark_event_walk.specs.declared.coming.Coming.TheVariants as coming
+use Rattle.cmark_event_walk.specs.declared.walk_step.WalkStep.{WalkStep}
+use Rattle.cmark_event_walk.specs.declared.walk_step.WalkStep.TheVariants as coming
 use Rattle.cmark_event_walk.specs.declared.span_walk.SpanWalk.{SpanWalk}
 
 -- ## Events and leaves
@@ -204,20 +204,20 @@ module _ {E F : Type 0} where
   events_left walk = walk.budget * 73786976294838206464 + opens.events_left walk.events
 
   -- fewer events are left after an event was returned, and no more than before after Long
-  abbrev pub LeavesFewer : SpanWalk E F → Next → SpanWalk E F → Type 0
+  abbrev pub LeavesFewer : SpanWalk E F → Step → SpanWalk E F → Type 0
   LeavesFewer old (next.Short short start end) new = events_left new < events_left old
   LeavesFewer old next.Long new = events_left new ≤ events_left old
   LeavesFewer old next.Over new = Unit {0}
 
   -- and no more than before after any result. The leaf has the same slots, fewer than a `usize` can count
-  pub record CountsDown (old : SpanWalk E F) (next : Next) (new : SpanWalk E F) : Type 0 where
+  pub record CountsDown (old : SpanWalk E F) (next : Step) (new : SpanWalk E F) : Type 0 where
     pub fewer : LeavesFewer old next new
     pub most : events_left new ≤ events_left old
     pub few : old.in_leaf ≡ true → length new.events.slots.items < 18446744073709551616
     pub slots : new.events.slots ≡ old.events.slots
 
   -- fewer events are left after one or more events were returned
-  abbrev pub LeavesFewerAfter : SpanWalk E F → Coming → SpanWalk E F → Type 0
+  abbrev pub LeavesFewerAfter : SpanWalk E F → WalkStep → SpanWalk E F → Type 0
   LeavesFewerAfter old (coming.Span short start end) new = LeavesFewer old (next.Short short start end) new
   LeavesFewerAfter old (coming.Block short start end) new = LeavesFewer old (next.Short short start end) new
   LeavesFewerAfter old (coming.Lines short start end) new = events_left new < events_left old
@@ -225,7 +225,7 @@ module _ {E F : Type 0} where
   LeavesFewerAfter old coming.Over new = LeavesFewer old next.Over new
 
   -- if the leaf has no more events, the walk is in no leaf afterwards
-  abbrev pub LeavesLeaf : Next → SpanWalk E F → Type 0
+  abbrev pub LeavesLeaf : Step → SpanWalk E F → Type 0
   LeavesLeaf (next.Short short start end) new = Unit {0}
   LeavesLeaf next.Long new = Unit {0}
   LeavesLeaf next.Over new = new.in_leaf ≡ false
@@ -281,7 +281,7 @@ module _ {E F : Type 0} (replacement : E → Lookup) (reader : Reader) where
   KeepsLeft old new = (exchanges : List Exchange) (events : List Ranged) → Remains old exchanges events → Remains new exchanges events
 
   -- if the leaf has no more events, the events that were left are still left
-  abbrev pub KeepsAfterLeaf : SpanWalk E F → Next → SpanWalk E F → Type 0
+  abbrev pub KeepsAfterLeaf : SpanWalk E F → Step → SpanWalk E F → Type 0
   KeepsAfterLeaf old (next.Short short start end) new = Unit {0}
   KeepsAfterLeaf old next.Long new = Unit {0}
   KeepsAfterLeaf old next.Over new = KeepsLeft old new
@@ -296,7 +296,7 @@ module _ {E F : Type 0} (replacement : E → Lookup) where
 -- ## The result of a call
 
 -- the call returned the events of several lines at once
-abbrev pub are_lines : Coming → Bool
+abbrev pub are_lines : WalkStep → Bool
 are_lines (coming.Span short start end) = false
 are_lines (coming.Block short start end) = false
 are_lines (coming.Lines short start end) = true
@@ -304,7 +304,7 @@ are_lines coming.Long = false
 are_lines coming.Over = false
 
 -- this holds if the next event was reported as long
-abbrev pub IfLong : Coming → Type 0 → Type 0
+abbrev pub IfLong : WalkStep → Type 0 → Type 0
 IfLong (coming.Span short start end) P = Unit {0}
 IfLong (coming.Block short start end) P = Unit {0}
 IfLong (coming.Lines short start end) P = Unit {0}
@@ -358,7 +358,7 @@ module _ {E F : Type 0} (Says : F → BrokenLink → Option (CowStr × CowStr) �
     pub passes : Passes (given ∷ []) old new
 
   -- a short event is the first of the events that were left. After Long, all events are still left. After Over, no event was left
-  abbrev pub GivesNext : SpanWalk E F → Next → SpanWalk E F → Type 0
+  abbrev pub GivesNext : SpanWalk E F → Step → SpanWalk E F → Type 0
   GivesNext old (next.Short short start end) new = GivesShort old short start end new
   GivesNext old next.Long new = Passes [] old new
   GivesNext old next.Over new = Ends old new
@@ -379,15 +379,15 @@ module _ {E F : Type 0} (Says : F → BrokenLink → Option (CowStr × CowStr) �
   GivesAsText old _ new = ⊥
 
   -- what a call returns of the spans and of the blocks: one event, or the events of several lines
-  abbrev pub GivesComing : SpanWalk E F → Coming → SpanWalk E F → Type 0
-  GivesComing old (coming.Span short start end) new = GivesNext old (next.Short short start end) new
-  GivesComing old (coming.Block short start end) new = GivesNext old (next.Short short start end) new
-  GivesComing old (coming.Lines short start end) new = GivesAsText old short new
-  GivesComing old coming.Long new = GivesNext old next.Long new
-  GivesComing old coming.Over new = GivesNext old next.Over new
+  abbrev pub GivesWalkStep : SpanWalk E F → WalkStep → SpanWalk E F → Type 0
+  GivesWalkStep old (coming.Span short start end) new = GivesNext old (next.Short short start end) new
+  GivesWalkStep old (coming.Block short start end) new = GivesNext old (next.Short short start end) new
+  GivesWalkStep old (coming.Lines short start end) new = GivesAsText old short new
+  GivesWalkStep old coming.Long new = GivesNext old next.Long new
+  GivesWalkStep old coming.Over new = GivesNext old next.Over new
 
   -- the result of a call for the current leaf. After Over, all events are still left
-  abbrev pub GivesInLeaf : SpanWalk E F → Next → SpanWalk E F → Type 0
+  abbrev pub GivesInLeaf : SpanWalk E F → Step → SpanWalk E F → Type 0
   GivesInLeaf old (next.Short short start end) new = GivesShort old short start end new
   GivesInLeaf old next.Long new = Passes [] old new
   GivesInLeaf old next.Over new = Passes [] old new

@@ -2,10 +2,10 @@
 #![tactic(auto)]
 
 mod callback;
-mod coming;
 mod plain;
 mod span_walk;
+mod walk_step;
 
 pub use callback::OptionalCallback;
-pub use coming::{Coming, ForHtml, ForItems, ForShorts};
 pub use span_walk::SpanWalk;
+pub use walk_step::{ForHtml, ForItems, ForShorts, WalkStep};

@@ -20,14 +20,14 @@ ghost use Rattle.cmark_event_walk.specs.Plain.{ArePlain};
 ghost use Rattle.cmark_event_walk.specs.declared.plain.Lines.TheVariants.{One};
 ghost use Rattle.cmark_event_walk.specs.Walking.{ArePlaced, HasAsked, HasPlaces, IsOnlyLine};
 
-use crate::coming::Coming;
 use crate::plain::{Lines, plain_lines};
-use cmark_block_walk::{Brief, Walk};
+use crate::walk_step::WalkStep;
+use cmark_block_walk::{BlockStep, Walk};
 use cmark_inline::{BrokenLinkCallback, InlineState, Reader, SpecialBytes, Steps, special_bytes};
 use cmark_leaf_text::{LeafLine, LeafText};
 use cmark_references::{FootnoteDefs, Link, RefDefs};
 use cmark_slot_events::LeafEvents;
-use cmark_text::{EntityLookup, Excerpt, Next, Options, Ranged, Short};
+use cmark_text::{EntityLookup, Excerpt, Options, Ranged, Short, Step};
 use std::alloc::{AllocError, Global};
 
 /// The length in bytes of the longest text that `plain_text` searches for a special byte, if the text has to be one line. A longer line
@@ -54,7 +54,7 @@ pub struct SpanWalk<'input, 'e, E, F> {
 }
 
 impl<'input, 'e, E: EntityLookup, F: BrokenLinkCallback<'input> + Drop> SpanWalk<'input, 'e, E, F> {
-    ghost use Rattle.cmark_event_walk.specs.Walking.{BeforeLeaf, ComesLong, CountsDown, KeepsAround, EntersLeaf, Gives, GivesComing, GivesInLeaf, GivesStart, HasSettings, IfLong, IsLong, IsReadBy, KeepsAfterLeaf, KeepsText, LeavesFewerAfter, LeavesLeaf, NoEndIsNext, ReadsLeaf, ReadsSame, Refuses, Remains, Stands, are_lines, callback_of, definitions_of, events_left, expansion_left_of, footnotes_of, link_to_come, source_of, steps_of};
+    ghost use Rattle.cmark_event_walk.specs.Walking.{BeforeLeaf, ComesLong, CountsDown, KeepsAround, EntersLeaf, Gives, GivesWalkStep, GivesInLeaf, GivesStart, HasSettings, IfLong, IsLong, IsReadBy, KeepsAfterLeaf, KeepsText, LeavesFewerAfter, LeavesLeaf, NoEndIsNext, ReadsLeaf, ReadsSame, Refuses, Remains, Stands, are_lines, callback_of, definitions_of, events_left, expansion_left_of, footnotes_of, link_to_come, source_of, steps_of};
 
     /// Returns a walk over the rest of `walk`, which is a walk over the blocks of `text`. `budget` is more than the number of events and
     /// leaves that `walk` still returns. `entities` maps entity names to their characters. `footnotes` are the footnotes that the text
@@ -130,20 +130,20 @@ impl<'input, 'e, E: EntityLookup, F: BrokenLinkCallback<'input> + Drop> SpanWalk
     }
 
     /// Returns the next event with its range, without an `Event`. An event that owns nothing is consumed. Any other is reported as
-    /// `Coming::Long` and left for [`take_long`](SpanWalk::take_long). `joins` says whether the events of several plain lines may be
-    /// returned at once, as `Coming::Lines`. After an error (out of memory) the walk cannot be continued.
+    /// `WalkStep::Long` and left for [`take_long`](SpanWalk::take_long). `joins` says whether the events of several plain lines may be
+    /// returned at once, as `WalkStep::Lines`. After an error (out of memory) the walk cannot be continued.
     ///
     /// `C` names the caller and has no effect. The step is one large function, which the compiler inlines only if it is called at one place.
     /// With a type for each place, each place has a copy of its own.
     #[inline(always)]
-    pub fn next_short<C>(&mut self, joins: bool) -> Result<Coming<'input>, AllocError>
+    pub fn step<C>(&mut self, joins: bool) -> Result<WalkStep<'input>, AllocError>
         requires stands { Stands self.old }
         requires ready { F.ready (callback_of self.old) }
         ensures ready { F.ready (callback_of self.new) }
         ensures stands { OnOk result (Stands self.new) }
         ensures given { (reader : GrammarReader) → IsReadBy E.replacement reader self.old
             → IfOk result
-            (λ coming. GivesComing F.answers E.replacement reader self.old coming self.new) }
+            (λ coming. GivesWalkStep F.answers E.replacement reader self.old coming self.new) }
         ensures joins { joins ≡ false → IfOk result (λ coming. are_lines coming ≡ false) }
         ensures long { IfOk result
             (λ coming. IfLong coming (ComesLong E.replacement self.old self.new)) }
@@ -156,35 +156,35 @@ impl<'input, 'e, E: EntityLookup, F: BrokenLinkCallback<'input> + Drop> SpanWalk
                 return Err(AllocError);
             };
             match span {
-                Next::Short(short, start, end) => return Ok(Coming::Span(short, start, end)),
-                Next::Long => return Ok(Coming::Long),
-                Next::Over => {}
+                Step::Short(short, start, end) => return Ok(WalkStep::Span(short, start, end)),
+                Step::Long => return Ok(WalkStep::Long),
+                Step::Over => {}
             }
-            let Ok(met) = self.walk.next_short(&mut self.lines) else {
+            let Ok(met) = self.walk.step(&mut self.lines) else {
                 return Err(AllocError);
             };
             match met {
-                Brief::Short(short, start, end) => {
+                BlockStep::Short(short, start, end) => {
                     self.budget -= 1;
-                    return Ok(Coming::Block(short, start, end));
+                    return Ok(WalkStep::Block(short, start, end));
                 }
-                Brief::Leaf { is_cell } => {
+                BlockStep::Leaf { is_cell } => {
                     self.budget -= 1;
                     if let Some((text, start, end, lines)) = self.plain_text(joins) {
                         return match lines {
-                            Lines::One => Ok(Coming::Span(Short::Text(text), start, end)),
-                            Lines::Several => Ok(Coming::Lines(Short::Text(text), start, end)),
+                            Lines::One => Ok(WalkStep::Span(Short::Text(text), start, end)),
+                            Lines::Several => Ok(WalkStep::Lines(Short::Text(text), start, end)),
                         };
                     }
                     self.enter_leaf(is_cell)?;
                 }
-                Brief::Long => return Ok(Coming::Long),
-                Brief::Over => return Ok(Coming::Over),
+                BlockStep::Long => return Ok(WalkStep::Long),
+                BlockStep::Over => return Ok(WalkStep::Over),
             }
         }
     }
 
-    /// Returns the next event with its range, after [`next_short`](SpanWalk::next_short) reported it as long. Asks nothing. After an error
+    /// Returns the next event with its range, after [`step`](SpanWalk::step) reported it as long. Asks nothing. After an error
     /// (out of memory) the walk cannot be continued.
     #[inline(always)]
     pub fn take_long(&mut self) -> Result<Ranged<'input>, AllocError>
@@ -250,10 +250,10 @@ impl<'input, 'e, E: EntityLookup, F: BrokenLinkCallback<'input> + Drop> SpanWalk
         self.events.pass_link(&self.leaf)
     }
 
-    // Like `next_short`, but only for the current leaf. The result is `Over` if there is no current leaf or it has no more events; the walk
+    // Like `step`, but only for the current leaf. The result is `Over` if there is no current leaf or it has no more events; the walk
     // is then in no leaf.
     #[inline(always)]
-    fn next_in_leaf(&mut self) -> Result<Next<'input>, AllocError>
+    fn next_in_leaf(&mut self) -> Result<Step<'input>, AllocError>
         requires { Stands self.old }
         ensures stands { OnOk result (Stands self.new) }
         ensures outside { IfOk result (λ next. LeavesLeaf next self.new) }
@@ -270,14 +270,14 @@ impl<'input, 'e, E: EntityLookup, F: BrokenLinkCallback<'input> + Drop> SpanWalk
         ensures around { KeepsAround self.old self.new }
     {
         if !self.in_leaf {
-            return Ok(Next::Over);
+            return Ok(Step::Over);
         }
-        let Ok(next) = self.events.next_short(&self.leaf) else {
+        let Ok(next) = self.events.step(&self.leaf) else {
             return Err(AllocError);
         };
-        if let Next::Over = next {
+        if let Step::Over = next {
             self.in_leaf = false;
-            return Ok(Next::Over);
+            return Ok(Step::Over);
         }
         Ok(next)
     }

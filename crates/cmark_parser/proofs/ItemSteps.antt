@@ -8,9 +8,9 @@ use Rattle.cmark_grammar.specs.Questions.{Exchange}
 use Rattle.cmark_inline_model.specs.LeafSpans.{IsRange}
 use Rattle.cmark_inline.specs.declared.callback.BrokenLink.{BrokenLink}
 use Rattle.cmark_event_walk.specs.Walking as walking
-use Rattle.cmark_event_walk.specs.declared.coming.Coming.{Coming}
-use Rattle.cmark_event_walk.specs.declared.coming.Coming.TheVariants as coming
-use Rattle.cmark_text.specs.declared.short.Next.TheVariants as next
+use Rattle.cmark_event_walk.specs.declared.walk_step.WalkStep.{WalkStep}
+use Rattle.cmark_event_walk.specs.declared.walk_step.WalkStep.TheVariants as coming
+use Rattle.cmark_text.specs.declared.short.Step.TheVariants as next
 use Rattle.cmark_text.specs.declared.short.Short.{Short}
 use Rattle.cmark_text.specs.declared.ranged.Ranged.{Ranged as Item}
 use Rattle.cmark_text.specs.Ranged.{shown_ranged}
@@ -29,7 +29,7 @@ none-left parser over = ap (λ b. if b then 0 else suc (walking.events_left pars
 
 module _ {E F : Type 0} (replacement : E → Lookup) (old new : Parser E F) (e : old.is_over ≡ false) where
   -- the parser reports what its walk reports
-  pub comes-long : (o : Result Coming AllocError) → new.is_over ≡ is_last o → IfOk o (λ coming. walking.IfLong coming (walking.ComesLong replacement old.spans new.spans)) → IfOk o (λ coming. walking.IfLong coming (ComesLong replacement old new))
+  pub comes-long : (o : Result WalkStep AllocError) → new.is_over ≡ is_last o → IfOk o (λ coming. walking.IfLong coming (walking.ComesLong replacement old.spans new.spans)) → IfOk o (λ coming. walking.IfLong coming (ComesLong replacement old new))
   comes-long (Ok (coming.Span short start end)) n h = tt
   comes-long (Ok (coming.Block short start end)) n h = tt
   comes-long (Ok (coming.Lines short start end)) n h = tt

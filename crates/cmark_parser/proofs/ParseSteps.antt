@@ -54,16 +54,16 @@ use Rattle.cmark_values.specs.Labelled.{link_key}
 use Rattle.cmark_values.specs.Shown.{text_bytes}
 use Rattle.cmark_values.specs.declared.label.LinkLabel.{LinkLabel}
 use Rattle.cmark_text.specs.declared.short.Short.TheVariants as short
-use Rattle.cmark_text.specs.declared.short.Next.TheVariants as next
+use Rattle.cmark_text.specs.declared.short.Step.TheVariants as next
 use Rattle.cmark_text.specs.declared.short.Short.{Short}
 use Rattle.cmark_values.specs.declared.text.CowStr.{CowStr}
 use Rattle.cmark_text.specs.declared.ranged.Ranged.{Ranged as Item}
 use Rattle.cmark_text.specs.Ranged.{IsRangedZeroCopy, shown_ranged}
 use Rattle.cmark_parser.specs.declared.parse.Parser.{Parser}
 use Rattle.cmark_parser.specs.Walking.{GoesOn, SomeLeft, reader_by}
-use Rattle.cmark_event_walk.specs.declared.coming.Coming.{Coming}
-use Rattle.cmark_event_walk.specs.declared.coming.Coming.TheVariants as coming
-use Rattle.cmark_parser.specs.Parsing.{CanGo, IsOver, GivesAs, GivesComing, GivesOrErr, GivesStart, GivesStep, IsCounted, Left, Passes, ReadsWithin, Remains, definitions, footnotes, events_left, is_last, link_to_come, link_unless, lookup_of, options_of, reader_for, text_of}
+use Rattle.cmark_event_walk.specs.declared.walk_step.WalkStep.{WalkStep}
+use Rattle.cmark_event_walk.specs.declared.walk_step.WalkStep.TheVariants as coming
+use Rattle.cmark_parser.specs.Parsing.{CanGo, IsOver, GivesAs, GivesWalkStep, GivesOrErr, GivesStart, GivesStep, IsCounted, Left, Passes, ReadsWithin, Remains, definitions, footnotes, events_left, is_last, link_to_come, link_unless, lookup_of, options_of, reader_for, text_of}
 
 -- ## Questions
 
@@ -271,8 +271,8 @@ module _ {E F : Type 0} (Says : F → BrokenLink → Option (CowStr × CowStr) �
         go None h = tt
         go (Some link) h = gives-start (shown_link link) n h less
 
-    gives-coming : (coming : Coming) → new.is_over ≡ is_last (Ok coming) → walking.GivesComing (SaysIfAny Says) replacement (reader_for replacement old) old.spans coming new.spans → walking.LeavesFewerAfter old.spans coming new.spans
-        → GivesComing Says replacement old coming new
+    gives-coming : (coming : WalkStep) → new.is_over ≡ is_last (Ok coming) → walking.GivesWalkStep (SaysIfAny Says) replacement (reader_for replacement old) old.spans coming new.spans → walking.LeavesFewerAfter old.spans coming new.spans
+        → GivesWalkStep Says replacement old coming new
     gives-coming (coming.Span short start end) n h less = gives-short short start end n h less
     gives-coming (coming.Block short start end) n h less = gives-short short start end n h less
     gives-coming (coming.Lines (short.Text text_of_lines) start end) n h less = record {
@@ -319,7 +319,7 @@ module _ {E F : Type 0} (Says : F → BrokenLink → Option (CowStr × CowStr) �
       footnotes = known;
     }
 
-    pub gives-or-err : (o : Result Coming AllocError) → new.is_over ≡ is_last o → IfOk o (λ coming. walking.GivesComing (SaysIfAny Says) replacement (reader_for replacement old) old.spans coming new.spans)
+    pub gives-or-err : (o : Result WalkStep AllocError) → new.is_over ≡ is_last o → IfOk o (λ coming. walking.GivesWalkStep (SaysIfAny Says) replacement (reader_for replacement old) old.spans coming new.spans)
         → IfOk o (λ coming. walking.LeavesFewerAfter old.spans coming new.spans)
         → OnErr o ((reader : Reader) → walking.NoEndIsNext replacement reader old.spans) → OnErr o (walking.Stops (SaysIfAny Says) replacement (reader_for replacement old) old.spans new.spans) → GivesOrErr Says replacement old o new
     gives-or-err (Ok coming) n h less ends stops = gives-coming coming n h less

@@ -17,7 +17,7 @@ use Rattle.cmark_inline.specs.declared.callback.BrokenLink.{BrokenLink}
 use Rattle.cmark_inline_model.proofs.SilentReadings.{reading-silent}
 use Rattle.cmark_event_walk.specs.Callback.{AnswersIfAny}
 use Rattle.cmark_event_walk.proofs.Readings.{answered-on}
-use Rattle.cmark_text.specs.declared.short.Next.TheVariants as next
+use Rattle.cmark_text.specs.declared.short.Step.TheVariants as next
 use Rattle.cmark_text.specs.declared.short.PlainTag.{PlainTag}
 use Rattle.cmark_text.specs.declared.short.PlainTag.TheVariants as plain
 use Rattle.cmark_text.specs.declared.short.Short.{Short}

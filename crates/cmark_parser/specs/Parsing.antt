@@ -31,11 +31,11 @@ use Rattle.cmark_references.specs.declared.definitions.RefDefs.{RefDefs}
 use Rattle.cmark_references.specs.declared.footnotes.FootnoteDefs.{FootnoteDefs}
 use Rattle.cmark_event_walk.specs.Callback.{AnswersIfAny}
 use Rattle.cmark_event_walk.specs.Walking as walking
-use Rattle.cmark_event_walk.specs.declared.coming.Coming.{Coming}
-use Rattle.cmark_event_walk.specs.declared.coming.Coming.TheVariants as coming
+use Rattle.cmark_event_walk.specs.declared.walk_step.WalkStep.{WalkStep}
+use Rattle.cmark_event_walk.specs.declared.walk_step.WalkStep.TheVariants as coming
 use Rattle.cmark_text.specs.declared.event.Event.{Event}
-use Rattle.cmark_text.specs.declared.short.Next.{Next}
-use Rattle.cmark_text.specs.declared.short.Next.TheVariants as next
+use Rattle.cmark_text.specs.declared.short.Step.{Step}
+use Rattle.cmark_text.specs.declared.short.Step.TheVariants as next
 use Rattle.cmark_text.specs.declared.short.Short.{Short}
 use Rattle.cmark_text.specs.declared.short.Short.TheVariants as short
 use Rattle.cmark_text.specs.Short.{IsShortZeroCopy, ranged_short}
@@ -79,7 +79,7 @@ CutNone text [] = Unit {0}
 CutNone text (item ∷ items) = IsRange text item.1.start item.1.end × CutNone text items
 
 -- nothing is returned after this result
-abbrev pub is_last : Result Coming AllocError → Bool
+abbrev pub is_last : Result WalkStep AllocError → Bool
 is_last (Ok (coming.Span short start end)) = false
 is_last (Ok (coming.Block short start end)) = false
 is_last (Ok (coming.Lines short start end)) = false
@@ -88,7 +88,7 @@ is_last (Ok coming.Over) = true
 is_last (Err e) = true
 
 -- this holds if the next event was reported as long
-abbrev pub IfNextLong : Next → Type 0 → Type 0
+abbrev pub IfNextLong : Step → Type 0 → Type 0
 IfNextLong (next.Short short start end) P = Unit {0}
 IfNextLong next.Long P = P
 IfNextLong next.Over P = Unit {0}
@@ -296,12 +296,12 @@ module _ {E F : Type 0} (Says : F → BrokenLink → Option (CowStr × CowStr) �
     pub over : IsOver new
 
   -- a short event is the first of the events that were left. After Long, all events are still left. After Over, no event was left
-  abbrev pub Answers : Parser E F → Next → Parser E F → Type 0
+  abbrev pub Answers : Parser E F → Step → Parser E F → Type 0
   Answers old (next.Short short start end) new = GivesShort old short start end new
   Answers old next.Long new = KeepsLeft old new
   Answers old next.Over new = Ends old new
 
-  pub record GivesAs (old : Parser E F) (next : Next) (new : Parser E F) : Type 0 where
+  pub record GivesAs (old : Parser E F) (next : Step) (new : Parser E F) : Type 0 where
     pub answers : Answers old next new
     pub can : CanGo replacement new
     pub text : text_of new ≡ text_of old
@@ -329,20 +329,20 @@ module _ {E F : Type 0} (Says : F → BrokenLink → Option (CowStr × CowStr) �
   GivesAsText old _ new = ⊥
 
   -- what a call returns of the spans and of the blocks: one event, or the events of several lines
-  abbrev pub GivesComing : Parser E F → Coming → Parser E F → Type 0
-  GivesComing old (coming.Span short start end) new = GivesAs old (next.Short short start end) new
-  GivesComing old (coming.Block short start end) new = GivesAs old (next.Short short start end) new
-  GivesComing old (coming.Lines short start end) new = GivesAsText old short new
-  GivesComing old coming.Long new = GivesAs old next.Long new
-  GivesComing old coming.Over new = GivesAs old next.Over new
+  abbrev pub GivesWalkStep : Parser E F → WalkStep → Parser E F → Type 0
+  GivesWalkStep old (coming.Span short start end) new = GivesAs old (next.Short short start end) new
+  GivesWalkStep old (coming.Block short start end) new = GivesAs old (next.Short short start end) new
+  GivesWalkStep old (coming.Lines short start end) new = GivesAsText old short new
+  GivesWalkStep old coming.Long new = GivesAs old next.Long new
+  GivesWalkStep old coming.Over new = GivesAs old next.Over new
 
   -- one call returns events, Long or Over as above, or an error, after which the walk is over
-  abbrev pub GivesOrErr : Parser E F → Result Coming AllocError → Parser E F → Type 0
-  GivesOrErr old (Ok coming) new = GivesComing old coming new
+  abbrev pub GivesOrErr : Parser E F → Result WalkStep AllocError → Parser E F → Type 0
+  GivesOrErr old (Ok coming) new = GivesWalkStep old coming new
   GivesOrErr old (Err e) new = GivesStep old (Some (Err e)) new
 
   -- one call returns an event, Long or Over, or an error, after which the walk is over
-  abbrev pub GivesNextOrErr : Parser E F → Result Next AllocError → Parser E F → Type 0
+  abbrev pub GivesNextOrErr : Parser E F → Result Step AllocError → Parser E F → Type 0
   GivesNextOrErr old (Ok next) new = GivesAs old next new
   GivesNextOrErr old (Err e) new = GivesStep old (Some (Err e)) new
 

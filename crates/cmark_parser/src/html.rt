@@ -14,7 +14,7 @@ ghost use Rattle.cmark_safe.specs.SafeHtml.{IsSafe};
 
 use crate::filter::{Filter, Filtering};
 use crate::parse::Parser;
-use cmark_event_walk::{Coming, ForHtml};
+use cmark_event_walk::{ForHtml, WalkStep};
 use cmark_html::{Writer, finish, write_event, write_link, write_short};
 use cmark_inline::{BrokenLinkCallback, DefaultBrokenLinkCallback};
 use cmark_text::{EntityLookup, Options, Short};
@@ -200,18 +200,22 @@ fn write_all<'a, E: EntityLookup, F: BrokenLinkCallback<'a> + Drop, T: Filter>(
 {
     loop {
         // The text of a metadata block is not written, but a soft break is. So the lines of a text are one text only outside of such a block.
-        match parser.next_short::<ForHtml>(!writer.in_metadata)? {
+        // With `?` the step would be moved once more.
+        let Ok(step) = parser.step::<ForHtml>(!writer.in_metadata) else {
+            return Err(AllocError);
+        };
+        match step {
             // Each of the two calls is inlined for its own events: other events follow a span than follow a block.
-            Coming::Span(short, _, _) => write_short(out, writer, filter.short_of(short))?,
-            Coming::Block(short, _, _) => write_short(out, writer, filter.short_of(short))?,
-            Coming::Lines(text, _, _) => write_lines(out, writer, text)?,
-            Coming::Long => {
+            WalkStep::Span(short, _, _) => write_short(out, writer, filter.short_of(short))?,
+            WalkStep::Block(short, _, _) => write_short(out, writer, filter.short_of(short))?,
+            WalkStep::Lines(text, _, _) => write_lines(out, writer, text)?,
+            WalkStep::Long => {
                 let is_given = write_long(out, writer, parser, filter)?;
                 if !is_given {
                     return finish(out, writer);
                 }
             }
-            Coming::Over => return finish(out, writer),
+            WalkStep::Over => return finish(out, writer),
         }
     }
 }

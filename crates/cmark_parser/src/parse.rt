@@ -13,12 +13,12 @@ use crate::event::ranged_event;
 use bitflags::Flags;
 use cmark_block_walk::Walk;
 use cmark_blocks::{FirstPass, run_first_pass};
-use cmark_event_walk::{Coming, ForItems, ForShorts, OptionalCallback, SpanWalk};
+use cmark_event_walk::{ForItems, ForShorts, OptionalCallback, SpanWalk, WalkStep};
 use cmark_inline::{
     BrokenLinkCallback, DefaultBrokenLinkCallback, LEAST_REFERENCE_EXPANSION_LIMIT, Steps,
 };
 use cmark_references::{FootnoteDefs, Link, RefDefs};
-use cmark_text::{EntityLookup, Event, Next, Options, Ranged};
+use cmark_text::{EntityLookup, Event, Options, Ranged, Step};
 use std::alloc::{AllocError, Global};
 use std::mem;
 use std::ops::Range;
@@ -188,10 +188,10 @@ impl<'input, E: EntityLookup, F: BrokenLinkCallback<'input> + Drop> Parser<'inpu
     }
 
     // Returns the next event with its range, without an `Event`. An event that owns nothing is consumed. Any other is reported as
-    // `Coming::Long` and left for `take_long`. `joins` says whether the events of several plain lines may be returned at once, as
-    // `Coming::Lines`. `C` names the caller. After an error (out of memory) the walk is over.
+    // `WalkStep::Long` and left for `take_long`. `joins` says whether the events of several plain lines may be returned at once, as
+    // `WalkStep::Lines`. `C` names the caller. After an error (out of memory) the walk is over.
     #[inline(always)]
-    pub(crate) fn next_short<C>(&mut self, joins: bool) -> Result<Coming<'input>, AllocError>
+    pub(crate) fn step<C>(&mut self, joins: bool) -> Result<WalkStep<'input>, AllocError>
         requires goes { CanGo E.replacement self.old }
         requires ready { IsReady F.ready self.old }
         ensures gives { GivesOrErr F.answers E.replacement self.old result self.new }
@@ -201,13 +201,13 @@ impl<'input, E: EntityLookup, F: BrokenLinkCallback<'input> + Drop> Parser<'inpu
         ensures ready { IsReady F.ready self.new }
     {
         if !self.is_over {
-            let given = self.spans.next_short::<C>(joins);
+            let given = self.spans.step::<C>(joins);
             if is_last(&given) {
                 self.is_over = true;
             }
             return given;
         }
-        Ok(Coming::Over)
+        Ok(WalkStep::Over)
     }
 
     // Returns the link whose start is the next event, if a link is next. Consumes nothing.
@@ -238,7 +238,7 @@ impl<'input, E: EntityLookup, F: BrokenLinkCallback<'input> + Drop> Parser<'inpu
         }
     }
 
-    // Returns the next event with its range, after `next_short` reported it as long. After an error (out of memory) the walk is over.
+    // Returns the next event with its range, after `step` reported it as long. After an error (out of memory) the walk is over.
     #[inline(always)]
     pub(crate) fn take_long(&mut self) -> Result<Ranged<'input>, AllocError>
         requires goes { CanGo E.replacement self.old }
@@ -259,16 +259,16 @@ impl<'input, E: EntityLookup, F: BrokenLinkCallback<'input> + Drop> Parser<'inpu
         ensures gives { GivesStep F.answers E.replacement self.old result self.new }
         ensures ready { IsReady F.ready self.new }
     {
-        match self.next_short::<ForItems>(false) {
-            Ok(Coming::Span(short, start, end)) => {
+        match self.step::<ForItems>(false) {
+            Ok(WalkStep::Span(short, start, end)) => {
                 Some(Ok(ranged_event(self.spans.allocator(), short, start, end)))
             }
-            Ok(Coming::Block(short, start, end)) => {
+            Ok(WalkStep::Block(short, start, end)) => {
                 Some(Ok(ranged_event(self.spans.allocator(), short, start, end)))
             }
-            Ok(Coming::Lines(_, _, _)) => unreachable!(),
-            Ok(Coming::Long) => Some(self.take_long()),
-            Ok(Coming::Over) => None,
+            Ok(WalkStep::Lines(_, _, _)) => unreachable!(),
+            Ok(WalkStep::Long) => Some(self.take_long()),
+            Ok(WalkStep::Over) => None,
             Err(error) => Some(Err(error)),
         }
     }
@@ -276,14 +276,17 @@ impl<'input, E: EntityLookup, F: BrokenLinkCallback<'input> + Drop> Parser<'inpu
 
 // Whether the walk is over after this result: no event is left, or memory was refused.
 #[inline(always)]
-fn is_last(given: &Result<Coming<'_>, AllocError>) -> bool
+fn is_last(given: &Result<WalkStep<'_>, AllocError>) -> bool
     ensures { result ≡ is_last given.now }
 {
     match given {
         Ok(
-            Coming::Span(_, _, _) | Coming::Block(_, _, _) | Coming::Lines(_, _, _) | Coming::Long,
+            WalkStep::Span(_, _, _)
+            | WalkStep::Block(_, _, _)
+            | WalkStep::Lines(_, _, _)
+            | WalkStep::Long,
         ) => false,
-        Ok(Coming::Over) | Err(_) => true,
+        Ok(WalkStep::Over) | Err(_) => true,
     }
 }
 
@@ -338,9 +341,9 @@ impl<'input, E: EntityLookup, F: BrokenLinkCallback<'input> + Drop> OffsetIter<'
     }
 
     /// The next event with its range, without an `Event`. An event that owns nothing is returned and consumed. Any other is reported as
-    /// `Next::Long` and left for [`take_long`](OffsetIter::take_long). If memory is refused, nothing is returned any more.
+    /// `Step::Long` and left for [`take_long`](OffsetIter::take_long). If memory is refused, nothing is returned any more.
     #[inline(always)]
-    pub fn next_short(&mut self) -> Result<Next<'input>, AllocError>
+    pub fn step(&mut self) -> Result<Step<'input>, AllocError>
         requires goes { CanGoRanged E.replacement self.old }
         requires ready { IsRangedReady F.ready self.old }
         ensures gives { GivesNextOrErr F.answers E.replacement
@@ -348,16 +351,16 @@ impl<'input, E: EntityLookup, F: BrokenLinkCallback<'input> + Drop> OffsetIter<'
         ensures long { IfOk result (λ next. IfNextLong next (IsRangedLong self.new)) }
         ensures ready { IsRangedReady F.ready self.new }
     {
-        match self.parser.next_short::<ForShorts>(false)? {
-            Coming::Span(short, start, end) => Ok(Next::Short(short, start, end)),
-            Coming::Block(short, start, end) => Ok(Next::Short(short, start, end)),
-            Coming::Lines(_, _, _) => unreachable!(),
-            Coming::Long => Ok(Next::Long),
-            Coming::Over => Ok(Next::Over),
+        match self.parser.step::<ForShorts>(false)? {
+            WalkStep::Span(short, start, end) => Ok(Step::Short(short, start, end)),
+            WalkStep::Block(short, start, end) => Ok(Step::Short(short, start, end)),
+            WalkStep::Lines(_, _, _) => unreachable!(),
+            WalkStep::Long => Ok(Step::Long),
+            WalkStep::Over => Ok(Step::Over),
         }
     }
 
-    /// The next event with its range, after [`next_short`](OffsetIter::next_short) reported it as long. If memory is refused, nothing is
+    /// The next event with its range, after [`step`](OffsetIter::step) reported it as long. If memory is refused, nothing is
     /// returned any more.
     #[inline(always)]
     pub fn take_long(&mut self) -> Result<Ranged<'input>, AllocError>

@@ -12,8 +12,8 @@ use Rattle.cmark_inline_model.specs.SlotRows.{slot_events}
 use Rattle.cmark_leaf_text.specs.declared.leaf_text.LeafText.{LeafText}
 use Rattle.cmark_leaf_text.specs.Reads.{IsRead, IsPart, place_of, source_of, text_of}
 use Rattle.cmark_text.specs.declared.event.TagEnd.{TagEnd}
-use Rattle.cmark_text.specs.declared.short.Next.{Next}
-use Rattle.cmark_text.specs.declared.short.Next.TheVariants as next
+use Rattle.cmark_text.specs.declared.short.Step.{Step}
+use Rattle.cmark_text.specs.declared.short.Step.TheVariants as next
 use Rattle.cmark_text.specs.declared.short.PlainTag.{PlainTag}
 use Rattle.cmark_text.specs.declared.short.Short.{Short}
 use Rattle.cmark_text.specs.declared.short.Short.TheVariants as short
@@ -143,7 +143,7 @@ module _ (leaf : LeafText) (texts : List CowStr) (links : List Link) (slot : Slo
   nothing-first is = ap (λ k. from k (shown_opened opened)) is
 
   -- an element ends in the slot
-  pub ended-first : (new : List Opened) (n : Next) → slot.kind ≡ kind.End → IsNextFirst (source_of leaf) opened n new (shown_opened opened) (shown_opened new)
+  pub ended-first : (new : List Opened) (n : Step) → slot.kind ≡ kind.End → IsNextFirst (source_of leaf) opened n new (shown_opened opened) (shown_opened new)
       → PassesFirst (source_of leaf) opened n new (events_of leaf texts links (slot ∷ slots) opened) (events_of leaf texts links slots new)
   ended-first new (next.Short s start end) is h = record { given = h.given; is = h.is; follows = h.follows; lent = h.lent; first = ap (λ k. from k (shown_opened opened)) is ∙ ap (from kind.End) h.first }
   ended-first new next.Long is h = (h.0.0, following h.0.1, ap (λ k. from k (shown_opened opened)) is ∙ ap (from kind.End) h.0.2)
@@ -176,7 +176,7 @@ module _ (leaf : LeafText) (texts texts1 : List CowStr) (links links1 : List Lin
     here-first next place =
         drop-cons slots at slot lt ∙ ap (λ x. x ∷ drop (suc at) slots) (sym is) ∙ ap (λ l. slot ∷ drop (suc at) l) (sym same) ∙ ap (λ k. slot ∷ drop k slots1) (let q : suc at ≡ next = omega (arith, place) in q)
 
-    abbrev Passed : Next → Type 0
+    abbrev Passed : Step → Type 0
     Passed n = (texts : List CowStr) (links : List Link) (following : List Slot) → PassesFirst (source_of leaf) opened n opened1 (events_of leaf texts links (slot ∷ following) opened) (events_of leaf texts links following opened1)
 
     pub passed-over : Passed next.Over → at1 ≡ at + 1 → events_of leaf texts links (drop at slots) opened ≡ events_of leaf texts1 links1 (drop at1 slots1) opened1

@@ -5,8 +5,8 @@ use Rattle.cmark_grammar.specs.TagEnd.{end_of}
 use Rattle.cmark_leaf_text.specs.declared.leaf_text.LeafText.{LeafText}
 use Rattle.cmark_leaf_text.specs.Reads.{IsRead, IsPart, place_of, source_of, text_of}
 use Rattle.cmark_text.specs.declared.event.TagEnd.{TagEnd}
-use Rattle.cmark_text.specs.declared.short.Next.{Next}
-use Rattle.cmark_text.specs.declared.short.Next.TheVariants as next
+use Rattle.cmark_text.specs.declared.short.Step.{Step}
+use Rattle.cmark_text.specs.declared.short.Step.TheVariants as next
 use Rattle.cmark_text.specs.declared.short.PlainTag.{PlainTag}
 use Rattle.cmark_text.specs.declared.short.Short.{Short}
 use Rattle.cmark_text.specs.declared.short.Short.TheVariants as short
@@ -68,11 +68,11 @@ get_or-any (x ∷ xs) zero d e lt = refl
 get_or-any (x ∷ xs) (suc i) d e lt = get_or-any xs i d e (omega (arith, lt))
 
 -- an end, or nothing
-pub passes : (source : List ℕ) (old new : List Opened) (n : Next) → GivesNext source old n new → PassesShort source old n new
+pub passes : (source : List ℕ) (old new : List Opened) (n : Step) → GivesNext source old n new → PassesShort source old n new
 passes source old new next.Over h = h.1 ∙ sym h.0
 passes source old new _ h = h
 
 -- a short event that belongs to any slot
-pub any-slot : (n : Next) (leaf : LeafText) (slots : List Slot) (i : ℕ) → ((text : LeafText) (slot : Slot) → IfShort n (StandsFor text slot)) → IfShort n (λ s. (d : Slot) → StandsFor leaf (get_or slots i d) s)
+pub any-slot : (n : Step) (leaf : LeafText) (slots : List Slot) (i : ℕ) → ((text : LeafText) (slot : Slot) → IfShort n (StandsFor text slot)) → IfShort n (λ s. (d : Slot) → StandsFor leaf (get_or slots i d) s)
 any-slot (next.Short s start end) leaf slots i h = λ d. h leaf (get_or slots i d)
 any-slot _ leaf slots i h = tt

@@ -7,7 +7,7 @@ use Rattle.cmark_slots.specs.Slots.{AreSlots, IsSlot}
 use Rattle.cmark_slots.specs.declared.slot.Slot.{Slot}
 use Rattle.cmark_text.specs.Ranged.{IsRangedZeroCopy, shown_ranged}
 use Rattle.cmark_text.specs.declared.ranged.Ranged.{Ranged}
-use Rattle.cmark_text.specs.declared.short.Next.{Next}
+use Rattle.cmark_text.specs.declared.short.Step.{Step}
 use Rattle.cmark_slot_events.specs.Events.{KeepsOthers, events_to_come}
 use Rattle.cmark_slot_events.specs.Opens.{AreOpened, Follows, events_left}
 use Rattle.cmark_slot_events.specs.Shorts.{LeavesFewer}
@@ -55,7 +55,7 @@ pub record GivesLong (leaf : LeafText) (old : LeafEvents) (given : Ranged) (new 
   pub events : events_to_come leaf old ≡ shown_ranged given ∷ events_to_come leaf new
 
 -- no more events are left than before, and fewer after an event. There are fewer slots than a `usize` can count
-pub record CountsDown (old : LeafEvents) (next : Next) (new : LeafEvents) : Type 0 where
+pub record CountsDown (old : LeafEvents) (next : Step) (new : LeafEvents) : Type 0 where
   pub fewer : LeavesFewer old next new
   pub most : events_left new ≤ events_left old
   pub few : length new.slots.items < 18446744073709551616

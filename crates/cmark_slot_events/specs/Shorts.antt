@@ -6,8 +6,8 @@ use Rattle.cmark_grammar.specs.InlineTokens.{as_in}
 use Rattle.cmark_grammar.specs.Tokens.{slice}
 use Rattle.cmark_leaf_text.specs.declared.leaf_text.LeafText.{LeafText}
 use Rattle.cmark_leaf_text.specs.Reads.{is_cell_of, place_of, source_of, text_of}
-use Rattle.cmark_text.specs.declared.short.Next.{Next}
-use Rattle.cmark_text.specs.declared.short.Next.TheVariants as next
+use Rattle.cmark_text.specs.declared.short.Step.{Step}
+use Rattle.cmark_text.specs.declared.short.Step.TheVariants as next
 use Rattle.cmark_text.specs.declared.short.Short.{Short}
 use Rattle.cmark_text.specs.declared.short.Short.TheVariants as short
 use Rattle.cmark_text.specs.Excerpt.{excerpt_bytes}
@@ -44,12 +44,12 @@ StandsFor leaf slot (short.End tag) = Unit {0}
 StandsFor leaf slot (short.Html part) = ⊥
 StandsFor leaf slot short.Rule = ⊥
 
-abbrev pub IfShort : Next → (Short → Type 0) → Type 0
+abbrev pub IfShort : Step → (Short → Type 0) → Type 0
 IfShort (next.Short short start end) P = P short
 IfShort next.Long P = Unit {0}
 IfShort next.Over P = Unit {0}
 
-abbrev pub IfLong : Next → Type 0 → Type 0
+abbrev pub IfLong : Step → Type 0 → Type 0
 IfLong (next.Short short start end) P = Unit {0}
 IfLong next.Long P = P
 IfLong next.Over P = Unit {0}
@@ -62,19 +62,19 @@ pub record GivesShort (source : List ℕ) (old : List Opened) (short : Short) (s
   pub lent : IsShortZeroCopy source short given.start given.end
 
 -- this short event is given, or nothing
-abbrev pub PassesShort : (source : List ℕ) → (old : List Opened) → Next → (new : List Opened) → Type 0
+abbrev pub PassesShort : (source : List ℕ) → (old : List Opened) → Step → (new : List Opened) → Type 0
 PassesShort source old (next.Short short start end) new = GivesShort source old short start end new
 PassesShort source old next.Long new = new ≡ old
 PassesShort source old next.Over new = new ≡ old
 
 -- an event of another kind was not given; after the last event no element is open
-abbrev pub GivesNext : (source : List ℕ) → (old : List Opened) → Next → (new : List Opened) → Type 0
+abbrev pub GivesNext : (source : List ℕ) → (old : List Opened) → Step → (new : List Opened) → Type 0
 GivesNext source old (next.Short short start end) new = GivesShort source old short start end new
 GivesNext source old next.Long new = new ≡ old
 GivesNext source old next.Over new = (old ≡ []) × (new ≡ [])
 
 -- after an event was given fewer events are left
-abbrev pub LeavesFewer : LeafEvents → Next → LeafEvents → Type 0
+abbrev pub LeavesFewer : LeafEvents → Step → LeafEvents → Type 0
 LeavesFewer old (next.Short short start end) new = events_left new < events_left old
 LeavesFewer old next.Long new = Unit {0}
 LeavesFewer old next.Over new = Unit {0}
@@ -94,13 +94,13 @@ abbrev pub AreSome : List Ranged → Type 0
 AreSome events = (first : Ranged) × (others : List Ranged) × (events ≡ first ∷ others)
 
 -- this short event is the first; or the first event is of another kind, and was not given; or there are no events
-abbrev pub IsNextFirst : (source : List ℕ) → (old : List Opened) → Next → (new : List Opened) → (events following : List Ranged) → Type 0
+abbrev pub IsNextFirst : (source : List ℕ) → (old : List Opened) → Step → (new : List Opened) → (events following : List Ranged) → Type 0
 IsNextFirst source old (next.Short short start end) new events following = IsShortFirst source old short start end new events following
 IsNextFirst source old next.Long new events following = AreSome events × (following ≡ events)
 IsNextFirst source old next.Over new events following = (events ≡ []) × (following ≡ [])
 
 -- this short event is the first of the events from a slot on; or the first event is of another kind; or the slot has no event
-abbrev pub PassesFirst : (source : List ℕ) → (old : List Opened) → Next → (new : List Opened) → (events following : List Ranged) → Type 0
+abbrev pub PassesFirst : (source : List ℕ) → (old : List Opened) → Step → (new : List Opened) → (events following : List Ranged) → Type 0
 PassesFirst source old (next.Short short start end) new events following = IsShortFirst source old short start end new events following
 PassesFirst source old next.Long new events following = AreSome events
 PassesFirst source old next.Over new events following = events ≡ following

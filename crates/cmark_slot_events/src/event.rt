@@ -36,7 +36,7 @@ use std::alloc::{AllocError, Global};
 use std::ops::Range;
 
 impl<'a> LeafEvents<'a> {
-    /// The next event of the resolved leaf, with its range in the source, after [`next_short`](LeafEvents::next_short) reported it as long.
+    /// The next event of the resolved leaf, with its range in the source, after [`step`](LeafEvents::step) reported it as long.
     /// Fails if memory is refused.
     #[inline(never)]
     pub fn take_long(&mut self, leaf: &LeafText<'a>) -> Result<Ranged<'a>, AllocError>

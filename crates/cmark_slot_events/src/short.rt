@@ -31,15 +31,15 @@ use crate::leaf_events::{LeafEvents, Opened};
 use cmark_leaf_text::LeafText;
 use cmark_slots::slot::{Element, Slot, SlotKind};
 use cmark_span_scan::code_part;
-use cmark_text::{Excerpt, Next, PlainTag, Short, TagEnd};
+use cmark_text::{Excerpt, PlainTag, Short, Step, TagEnd};
 use std::alloc::AllocError;
 
 impl<'a> LeafEvents<'a> {
     /// The next event of the resolved leaf, with its range in the source, if it owns nothing. An event of another kind is reported as
-    /// `Next::Long` and is still the next one: [`take_long`](LeafEvents::take_long) returns it. The result is `Over` after the last event.
+    /// `Step::Long` and is still the next one: [`take_long`](LeafEvents::take_long) returns it. The result is `Over` after the last event.
     /// An end of an element takes no memory.
     #[inline(always)]
-    pub fn next_short(&mut self, leaf: &LeafText<'a>) -> Result<Next<'a>, AllocError>
+    pub fn step(&mut self, leaf: &LeafText<'a>) -> Result<Step<'a>, AllocError>
         requires over { IsOver leaf.now self.old }
         ensures slots { self.new.slots ≡ self.old.slots }
         ensures left { AreLeft leaf.now self.old → OnOk result (AreLeft leaf.now self.new) }
@@ -65,20 +65,20 @@ impl<'a> LeafEvents<'a> {
                 return Err(AllocError);
             };
             match next {
-                Next::Short(short, start, end) => {
+                Step::Short(short, start, end) => {
                     self.walk.next += 1;
-                    return Ok(Next::Short(short, start, end));
+                    return Ok(Step::Short(short, start, end));
                 }
-                Next::Long => return Ok(Next::Long),
-                Next::Over => self.walk.next += 1,
+                Step::Long => return Ok(Step::Long),
+                Step::Over => self.walk.next += 1,
             }
         }
         Ok(self.end_short())
     }
 
-    // Like `next_short` for one slot; `Over` says that the slot has no event.
+    // Like `step` for one slot; `Over` says that the slot has no event.
     #[inline(always)]
-    fn give_short(&mut self, leaf: &LeafText<'a>, slot: Slot) -> Result<Next<'a>, AllocError>
+    fn give_short(&mut self, leaf: &LeafText<'a>, slot: Slot) -> Result<Step<'a>, AllocError>
         requires slot { IsSlotIn leaf.now slot }
         requires opened { AreOpened (source_of leaf.now) self.old.walk.opened.items }
         ensures keeps { KeepsSlots self.old self.new }
@@ -103,7 +103,7 @@ impl<'a> LeafEvents<'a> {
             // The start of a link or an image is an event of another kind.
             SlotKind::Begin(element) => {
                 let Some((tag, end)) = plain_element(element) else {
-                    return Ok(Next::Long);
+                    return Ok(Step::Long);
                 };
                 let range = leaf.range(slot.start, slot.end);
                 self.walk.opened.push(Opened {
@@ -111,17 +111,17 @@ impl<'a> LeafEvents<'a> {
                     start: range.start,
                     end: range.end,
                 })?;
-                Ok(Next::Short(Short::Start(tag), range.start, range.end))
+                Ok(Step::Short(Short::Start(tag), range.start, range.end))
             }
             SlotKind::End => Ok(self.end_short()),
-            SlotKind::Nothing => Ok(Next::Over),
+            SlotKind::Nothing => Ok(Step::Over),
             _ => Ok(single_short(leaf, slot)),
         }
     }
 
     // The end of the element that began last, if one is open.
     #[inline(always)]
-    fn end_short(&mut self) -> Next<'a>
+    fn end_short(&mut self) -> Step<'a>
         ensures keeps { KeepsSlots self.old self.new }
         ensures opened { (source : List ℕ) → AreOpened source self.old.walk.opened.items
             → AreOpened source self.new.walk.opened.items }
@@ -137,8 +137,8 @@ impl<'a> LeafEvents<'a> {
             (shown_opened self.old.walk.opened.items) (shown_opened self.new.walk.opened.items) }
     {
         match self.walk.opened.pop() {
-            Some(opened) => Next::Short(Short::End(opened.tag), opened.start, opened.end),
-            None => Next::Over,
+            Some(opened) => Step::Short(Short::End(opened.tag), opened.start, opened.end),
+            None => Step::Over,
         }
     }
 }
@@ -165,7 +165,7 @@ fn plain_element(element: Element) -> Option<(PlainTag, TagEnd)>
 
 // The event of a slot that is not an element, if it owns nothing.
 #[inline(always)]
-fn single_short<'a>(leaf: &LeafText<'a>, slot: Slot) -> Next<'a>
+fn single_short<'a>(leaf: &LeafText<'a>, slot: Slot) -> Step<'a>
     requires read { IsRead leaf.now }
     requires slot { IsSlot (text_of leaf.now) (length (text_of leaf.now)) slot }
     requires alone { IsAlone slot.kind }
@@ -182,9 +182,9 @@ fn single_short<'a>(leaf: &LeafText<'a>, slot: Slot) -> Next<'a>
     match part_of(leaf, slot) {
         Some(short) => {
             let range = leaf.range(slot.start, slot.end);
-            Next::Short(short, range.start, range.end)
+            Step::Short(short, range.start, range.end)
         }
-        None => Next::Long,
+        None => Step::Long,
     }
 }
 

@@ -18,4 +18,4 @@ pub use escape::{escape_href, escape_html, escape_html_body_text};
 pub use event::{Event, Tag, TagEnd};
 pub use excerpt::Excerpt;
 pub use ranged::Ranged;
-pub use short::{Next, PlainTag, Short};
+pub use short::{PlainTag, Short, Step};

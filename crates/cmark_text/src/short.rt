@@ -171,7 +171,7 @@ impl<'a> Short<'a> {
 
 /// The next step of a walk that builds no `Event`.
 #[derive(Clone, Copy, Debug)]
-pub enum Next<'a> {
+pub enum Step<'a> {
     /// An event that owns nothing, and its range in byte offsets of the text.
     Short(Short<'a>, usize, usize),
     /// An event of another kind, which has not been given yet.

@@ -21,7 +21,7 @@ use Rattle.cmark_parser.proofs.RenderSteps.{asks-on, passes-on}
 use Rattle.cmark_event_walk.specs.Callback.{AnswersIfAny}
 use Rattle.cmark_text.specs.Ranged.{shown_ranged}
 use Rattle.cmark_text.specs.declared.ranged.Ranged.{Ranged as Item}
-use Rattle.cmark_text.specs.declared.short.Next.TheVariants as next
+use Rattle.cmark_text.specs.declared.short.Step.TheVariants as next
 use Rattle.cmark_text.specs.declared.short.Short.{Short}
 use Rattle.cmark_text.specs.Short.{ranged_short}
 use Rattle.cmark_values.specs.declared.text.CowStr.{CowStr}

@@ -11,7 +11,7 @@ use crate::options::{Entities, are_known, refuse_unknown};
 use bitflags::Flags;
 use cmark_flat::{DecodeError, append_given, append_short, render};
 use cmark_parser::{OffsetIter, Parser};
-use cmark_text::Next;
+use cmark_text::Step;
 use cmark_values::{EntityLookup, Options};
 use program_io::{NO_MEMORY, NOT_UTF8, hand_over};
 use std::alloc::{AllocError, Global};
@@ -98,10 +98,10 @@ fn flat_of_rest<'a, E: EntityLookup>(
 {
     let mut output = Vec::with_capacity(alloc, ROOM)?;
     loop {
-        match iter.next_short()? {
-            Next::Short(short, start, end) => append_short(&mut output, short, start, end)?,
-            Next::Over => return Ok(output),
-            Next::Long => {
+        match iter.step()? {
+            Step::Short(short, start, end) => append_short(&mut output, short, start, end)?,
+            Step::Over => return Ok(output),
+            Step::Long => {
                 let given = iter.take_long()?;
                 append_given(&mut output, given.event, given.range)?;
             }

@@ -4,7 +4,7 @@ use cmark_items::{Allocations, Item, ItemBody, ListFlags};
 use cmark_leaf_text::LeafLine;
 use cmark_text::{PlainTag, Short, TagEnd};
 use cmark_tree::Tree;
-use cmark_block_walk::{Brief, Walk};
+use cmark_block_walk::{BlockStep, Walk};
 use std::alloc::{AllocError, Global};
 use std::test::Fail;
 
@@ -44,8 +44,8 @@ fn next_over_all(
     walk: &mut Walk<'static>,
     lines: &mut Vec<LeafLine>,
 ) -> Result<Option<Short<'static>>, AllocError> {
-    match walk.next_short(lines)? {
-        Brief::Short(short, 0, 1) => Ok(Some(short)),
+    match walk.step(lines)? {
+        BlockStep::Short(short, 0, 1) => Ok(Some(short)),
         _ => Ok(None),
     }
 }
@@ -58,7 +58,7 @@ fn a_tight_paragraph_is_met_as_its_lines(rt: HostRuntime) -> Result<(), Fail> {
     assert!(rt; matches!(list, Some(Short::Start(PlainTag::List(None)))));
     let item = next_over_all(&mut walk, &mut lines)?;
     assert!(rt; matches!(item, Some(Short::Start(PlainTag::Item))));
-    assert!(rt; matches!(walk.next_short(&mut lines)?, Brief::Leaf { is_cell: false }));
+    assert!(rt; matches!(walk.step(&mut lines)?, BlockStep::Leaf { is_cell: false }));
     assert_eq!(rt; lines.len(), 1);
     let line = lines[0];
     assert_eq!(rt; (line.start, line.content_end, line.line_end), (0, 1, 1));
@@ -66,7 +66,7 @@ fn a_tight_paragraph_is_met_as_its_lines(rt: HostRuntime) -> Result<(), Fail> {
     assert!(rt; matches!(item, Some(Short::End(TagEnd::Item))));
     let list = next_over_all(&mut walk, &mut lines)?;
     assert!(rt; matches!(list, Some(Short::End(TagEnd::List(false)))));
-    assert!(rt; matches!(walk.next_short(&mut lines)?, Brief::Over));
+    assert!(rt; matches!(walk.step(&mut lines)?, BlockStep::Over));
     assert!(rt; walk.definitions().get("a")?.is_none());
     Ok(())
 }

@@ -8,7 +8,7 @@ use cmark_inline::{
 use cmark_items::{FootnoteDefs, LinkDef, RefDefs};
 use cmark_slot_events::LeafEvents;
 use cmark_leaf_text::{LeafLine, LeafText};
-use cmark_text::{BasicEntities, CowStr, Event, LinkLabel, LinkType, Next, Options, Tag, TagEnd};
+use cmark_text::{BasicEntities, CowStr, Event, LinkLabel, LinkType, Step, Options, Tag, TagEnd};
 use std::alloc::{AllocError, Global};
 use std::fmt::Write;
 use std::test::Fail;
@@ -101,11 +101,11 @@ pub fn events_with<'a, F: BrokenLinkCallback<'a>>(
     let mut events: LeafEvents<'a> = LeafEvents::new(alloc);
     events.begin_leaf(&mut state.slots, &mut state.texts, &mut state.links);
     for _ in 0..500 {
-        match events.next_short(&leaf)? {
-            Next::Short(short, start, end) => {
+        match events.step(&leaf)? {
+            Step::Short(short, start, end) => {
                 write!(out, "{}..{} {:?}\n", start, end, short.event(alloc))?;
             }
-            Next::Long => {
+            Step::Long => {
                 let given = events.take_long(&leaf)?;
                 write!(
                     out,
@@ -113,7 +113,7 @@ pub fn events_with<'a, F: BrokenLinkCallback<'a>>(
                     given.range.start, given.range.end, given.event
                 )?;
             }
-            Next::Over => break,
+            Step::Over => break,
         }
     }
     Ok(out)

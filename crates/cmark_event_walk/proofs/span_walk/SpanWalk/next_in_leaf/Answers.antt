@@ -4,15 +4,15 @@ use Rattle.cmark_slot_events.proofs.NoEnds.{long-begins}
 use Rattle.cmark_slot_events.specs.Events.{events_to_come}
 use Rattle.cmark_slot_events.specs.Longs.{IsLong as IsLongSlot}
 use Rattle.cmark_slot_events.specs.Shorts.{IfLong as IfNextLong, IsNextFirst, LeavesFewer as LeavesFewerSpans}
-use Rattle.cmark_text.specs.declared.short.Next.{Next}
+use Rattle.cmark_text.specs.declared.short.Step.{Step}
 use Rattle.cmark_event_walk.specs.Walking.{ComesLong, GivesInLeaf, IsLongIn, KeepsAfterLeaf, LeavesFewer, LeavesLeaf, opened_of, source_of}
 use Rattle.cmark_event_walk.proofs.EndSteps.{closed-keeps, spans-begin}
 use Rattle.cmark_event_walk.proofs.Readings.{closed-passes, passes-none, spanned}
 use Rattle.cmark_event_walk.proofs.Walks.{before-over, closed-at, given-left, over-leaf, spanned-at}
 use Rattle.cmark_event_walk.proofs.span_walk.SpanWalk.next_in_leaf.Goals as goal
 
-pub next_short-requires : goal.next_short-requires
-next_short-requires g c = record { over = over-leaf c.args.self.now c.requires.0 c.requires.1 c.if-not-self.false }
+pub step-requires : goal.step-requires
+step-requires g c = record { over = over-leaf c.args.self.now c.requires.0 c.requires.1 c.if-not-self.false }
 
 pub returns-then-not-self-clause-given : goal.returns-then-not-self-clause-given
 returns-then-not-self-clause-given g c = λ reader r. passes-none g.F.BrokenLinkCallback.answers g.E.EntityLookup.replacement reader c.args.self.now r
@@ -22,21 +22,21 @@ returns-in_default-clause-ends g c = λ reader. spans-begin g.E.EntityLookup.rep
 
 -- nothing is left in the leaf
 pub returns-in-Over-clause-stands : goal.returns-in-Over-clause-stands
-returns-in-Over-clause-stands g c = (c.requires.0, closed-at c.args.self.now c.next_short.new.self c.requires.0 c.requires.1)
+returns-in-Over-clause-stands g c = (c.requires.0, closed-at c.args.self.now c.step.new.self c.requires.0 c.requires.1)
 
 pub returns-in-Over-clause-given : goal.returns-in-Over-clause-given
 returns-in-Over-clause-given g c = λ reader r.
     let walk = c.args.self.now in
     let e = c.in-Ok.ensures in
-    let h = subst (λ (n : Next). IsNextFirst (source_of walk) (opened_of walk) n c.next_short.new.self.walk.opened.items (events_to_come walk.leaf walk.events) (events_to_come walk.leaf c.next_short.new.self)) c.in-Over.is e.events in
-    closed-passes g.F.BrokenLinkCallback.answers g.E.EntityLookup.replacement reader walk c.next_short.new.self r c.if-not-self.false h.0
+    let h = subst (λ (n : Step). IsNextFirst (source_of walk) (opened_of walk) n c.step.new.self.walk.opened.items (events_to_come walk.leaf walk.events) (events_to_come walk.leaf c.step.new.self)) c.in-Over.is e.events in
+    closed-passes g.F.BrokenLinkCallback.answers g.E.EntityLookup.replacement reader walk c.step.new.self r c.if-not-self.false h.0
 
 pub returns-in-Over-clause-kept : goal.returns-in-Over-clause-kept
 returns-in-Over-clause-kept g c = λ reader.
     let walk = c.args.self.now in
     let e = c.in-Ok.ensures in
-    let h = subst (λ (n : Next). IsNextFirst (source_of walk) (opened_of walk) n c.next_short.new.self.walk.opened.items (events_to_come walk.leaf walk.events) (events_to_come walk.leaf c.next_short.new.self)) c.in-Over.is e.events in
-    closed-keeps g.E.EntityLookup.replacement reader walk c.next_short.new.self c.if-not-self.false h.0
+    let h = subst (λ (n : Step). IsNextFirst (source_of walk) (opened_of walk) n c.step.new.self.walk.opened.items (events_to_come walk.leaf walk.events) (events_to_come walk.leaf c.step.new.self)) c.in-Over.is e.events in
+    closed-keeps g.E.EntityLookup.replacement reader walk c.step.new.self c.if-not-self.false h.0
 
 pub returns-in-Over-clause-fewer : goal.returns-in-Over-clause-fewer
 returns-in-Over-clause-fewer g c =
@@ -48,23 +48,23 @@ pub returns-clause-stands : goal.returns-clause-stands
 returns-clause-stands g c =
     let walk = c.args.self.now in
     let e = c.in-Ok.ensures in
-    (c.requires.0, spanned-at walk c.next_short.new.self c.requires.0 c.requires.1 c.if-not-self.false e.slots e.opened (e.left (given-left walk c.requires.0 c.requires.1 c.if-not-self.false)))
+    (c.requires.0, spanned-at walk c.step.new.self c.requires.0 c.requires.1 c.if-not-self.false e.slots e.opened (e.left (given-left walk c.requires.0 c.requires.1 c.if-not-self.false)))
 
 pub returns-clause-outside : goal.returns-clause-outside
-returns-clause-outside g c = before-over (λ n. LeavesLeaf n (record c.args.self.now { events = c.next_short.new.self })) c.in-Ok.next c.in_default-next.not-Over (λ short start end is. tt) (λ is. tt)
+returns-clause-outside g c = before-over (λ n. LeavesLeaf n (record c.args.self.now { events = c.step.new.self })) c.in-Ok.next c.in_default-next.not-Over (λ short start end is. tt) (λ is. tt)
 
 pub returns-clause-long : goal.returns-clause-long
 returns-clause-long g c =
     let replacement = g.E.EntityLookup.replacement in
     let walk = c.args.self.now in
-    let events = c.next_short.new.self in
+    let events = c.step.new.self in
     let new = record walk { events = events } in
     let inside = c.if-not-self.false in
     let e = c.in-Ok.ensures in
     before-over (λ n. IfNextLong n (ComesLong replacement walk new)) c.in-Ok.next c.in_default-next.not-Over (λ short start end is. tt)
     (λ is.
-    let long = subst (λ (n : Next). IfNextLong n (IsLongSlot events)) is e.long in
-    let h = subst (λ (n : Next). IsNextFirst (source_of walk) (opened_of walk) n events.walk.opened.items (events_to_come walk.leaf walk.events) (events_to_come walk.leaf events)) is e.events in
+    let long = subst (λ (n : Step). IfNextLong n (IsLongSlot events)) is e.long in
+    let h = subst (λ (n : Step). IsNextFirst (source_of walk) (opened_of walk) n events.walk.opened.items (events_to_come walk.leaf walk.events) (events_to_come walk.leaf events)) is e.events in
     record {
       long = subst (λ b. IsLongIn b new) (sym inside) long;
       no_end = λ reader. spans-begin replacement reader walk inside (subst BeginWithoutEnd h.1 (long-begins walk.leaf events long));
@@ -75,23 +75,23 @@ returns-clause-given g c = λ reader r.
     let walk = c.args.self.now in
     let inside = c.if-not-self.false in
     let e = c.in-Ok.ensures in
-    let at = spanned-at walk c.next_short.new.self r.left r.stands inside e.slots e.opened (e.left (given-left walk r.left r.stands inside)) in
-    before-over (λ n. GivesInLeaf g.F.BrokenLinkCallback.answers g.E.EntityLookup.replacement reader walk n (record walk { events = c.next_short.new.self })) c.in-Ok.next c.in_default-next.not-Over
+    let at = spanned-at walk c.step.new.self r.left r.stands inside e.slots e.opened (e.left (given-left walk r.left r.stands inside)) in
+    before-over (λ n. GivesInLeaf g.F.BrokenLinkCallback.answers g.E.EntityLookup.replacement reader walk n (record walk { events = c.step.new.self })) c.in-Ok.next c.in_default-next.not-Over
     (λ short start end is.
-    let h = subst (λ (n : Next). IsNextFirst (source_of walk) (opened_of walk) n c.next_short.new.self.walk.opened.items (events_to_come walk.leaf walk.events) (events_to_come walk.leaf c.next_short.new.self)) is e.events in
+    let h = subst (λ (n : Step). IsNextFirst (source_of walk) (opened_of walk) n c.step.new.self.walk.opened.items (events_to_come walk.leaf walk.events) (events_to_come walk.leaf c.step.new.self)) is e.events in
     record {
       given = h.given;
       is = h.is;
       range = h.follows.range;
       lent = h.lent;
-      passes = spanned g.F.BrokenLinkCallback.answers g.E.EntityLookup.replacement reader walk c.next_short.new.self (h.given ∷ []) r inside at h.first;
+      passes = spanned g.F.BrokenLinkCallback.answers g.E.EntityLookup.replacement reader walk c.step.new.self (h.given ∷ []) r inside at h.first;
     })
     (λ is.
-    let h = subst (λ (n : Next). IsNextFirst (source_of walk) (opened_of walk) n c.next_short.new.self.walk.opened.items (events_to_come walk.leaf walk.events) (events_to_come walk.leaf c.next_short.new.self)) is e.events in
-    spanned g.F.BrokenLinkCallback.answers g.E.EntityLookup.replacement reader walk c.next_short.new.self [] r inside at (sym h.1))
+    let h = subst (λ (n : Step). IsNextFirst (source_of walk) (opened_of walk) n c.step.new.self.walk.opened.items (events_to_come walk.leaf walk.events) (events_to_come walk.leaf c.step.new.self)) is e.events in
+    spanned g.F.BrokenLinkCallback.answers g.E.EntityLookup.replacement reader walk c.step.new.self [] r inside at (sym h.1))
 
 pub returns-clause-kept : goal.returns-clause-kept
-returns-clause-kept g c = λ reader. before-over (λ n. KeepsAfterLeaf g.E.EntityLookup.replacement reader c.args.self.now n (record c.args.self.now { events = c.next_short.new.self })) c.in-Ok.next c.in_default-next.not-Over (λ short start end is. tt) (λ is. tt)
+returns-clause-kept g c = λ reader. before-over (λ n. KeepsAfterLeaf g.E.EntityLookup.replacement reader c.args.self.now n (record c.args.self.now { events = c.step.new.self })) c.in-Ok.next c.in_default-next.not-Over (λ short start end is. tt) (λ is. tt)
 
 pub returns-clause-fewer : goal.returns-clause-fewer
 returns-clause-fewer g c =
@@ -99,8 +99,8 @@ returns-clause-fewer g c =
     let most = e.fewer.most in
     record {
       fewer =
-          before-over (λ n. LeavesFewer c.args.self.now n (record c.args.self.now { events = c.next_short.new.self })) c.in-Ok.next c.in_default-next.not-Over
-          (λ short start end is. let fewer = subst (λ n. LeavesFewerSpans c.args.self.now.events n c.next_short.new.self) is e.fewer.fewer in omega (arith, fewer))
+          before-over (λ n. LeavesFewer c.args.self.now n (record c.args.self.now { events = c.step.new.self })) c.in-Ok.next c.in_default-next.not-Over
+          (λ short start end is. let fewer = subst (λ n. LeavesFewerSpans c.args.self.now.events n c.step.new.self) is e.fewer.fewer in omega (arith, fewer))
           (λ is. omega (arith, most));
       most = omega (arith, most);
       few = λ inside. e.fewer.few;

@@ -11,7 +11,7 @@ use Rattle.cmark_slot_events.proofs.ShortFirst.{stands-at}
 use Rattle.cmark_slot_events.proofs.ShortSteps.{any-slot}
 use Rattle.cmark_inline_model.specs.FirstEvents.{BeginWithoutEnd}
 use Rattle.cmark_slot_events.proofs.NoEnds.{at-err, here-no-end}
-use Rattle.cmark_slot_events.proofs.leaf_events.LeafEvents.next_short.Goals as goal
+use Rattle.cmark_slot_events.proofs.leaf_events.LeafEvents.step.Goals as goal
 
 pub returns-clause-opened : goal.returns-clause-opened
 returns-clause-opened c = c.end_short.ensures.opened (source_of c.args.leaf.now) (subst (AreOpened (source_of c.args.leaf.now)) (sym c.loop-self.invariant.1) c.requires.over.opened)

@@ -4,11 +4,11 @@ use Rattle.cmark_grammar.specs.Event.{Ranged}
 use Rattle.cmark_grammar.specs.SpanDocuments.{Content, Given as GivenOf}
 use Rattle.cmark_inline_model.specs.SpecialBytes.{is_special}
 use Rattle.cmark_references.specs.Footnotes.{footnote}
-use Rattle.cmark_text.specs.declared.short.Next.{Next}
+use Rattle.cmark_text.specs.declared.short.Step.{Step}
 use Rattle.cmark_text.specs.Excerpt.{excerpt_bytes}
 use Rattle.cmark_text.specs.Short.{IsShortZeroCopy, ranged_short}
 use Rattle.cmark_text.specs.declared.short.Short.TheVariants as short
-use Rattle.cmark_block_walk.specs.declared.reading.Brief.{Brief}
+use Rattle.cmark_block_walk.specs.declared.reading.BlockStep.{BlockStep}
 use Rattle.cmark_slot_events.specs.Shorts.{IfLong as IfNextLong}
 use Rattle.cmark_block_walk.specs.Walking as walking
 use Rattle.cmark_block_walk.specs.Walking.{lines_of}
@@ -22,7 +22,7 @@ use Rattle.cmark_event_walk.proofs.EndSteps.{blocks-begin, leaf-keeps, text-begi
 use Rattle.cmark_event_walk.proofs.Readings.{asked-on, asked-same, ends-on, event-passes, leaf-passes, lines-given, long-passes, met-same, over-ends, passes-none, passes-on, plain-passes, plain-range}
 use Rattle.cmark_event_walk.proofs.StopSteps.{stops-here, stops-leaf}
 use Rattle.cmark_event_walk.proofs.Walks.{before-leaf, following-at, lasts-leaf, lasts-none, less-since, met-by, met-fewer, most-since, over-at, same-at}
-use Rattle.cmark_event_walk.proofs.span_walk.SpanWalk.next_short.Goals as goal
+use Rattle.cmark_event_walk.proofs.span_walk.SpanWalk.step.Goals as goal
 
 pub loop-span-init : goal.loop-span-init
 loop-span-init g c =
@@ -34,7 +34,7 @@ returns-in-Short-clause-given g c = λ reader r.
     let head = c.loop-span.self in
     let new = c.next_in_leaf.new.self in
     let p = c.loop-span.invariant.reads reader r in
-    let h = subst (λ (n : Next). GivesInLeaf g.F.BrokenLinkCallback.answers g.E.EntityLookup.replacement reader head n new) c.in-Short.is (c.in-Ok.ensures.given reader p.read_by) in
+    let h = subst (λ (n : Step). GivesInLeaf g.F.BrokenLinkCallback.answers g.E.EntityLookup.replacement reader head n new) c.in-Short.is (c.in-Ok.ensures.given reader p.read_by) in
     let source = c.loop-span.invariant.lasts.source in
     record {
       given = h.given;
@@ -50,7 +50,7 @@ returns-in-Long-clause-given g c = λ reader r.
     let head = c.loop-span.self in
     let new = c.next_in_leaf.new.self in
     let p = c.loop-span.invariant.reads reader r in
-    let h = subst (λ (n : Next). GivesInLeaf g.F.BrokenLinkCallback.answers g.E.EntityLookup.replacement reader head n new) c.in-Long.is (c.in-Ok.ensures.given reader p.read_by) in
+    let h = subst (λ (n : Step). GivesInLeaf g.F.BrokenLinkCallback.answers g.E.EntityLookup.replacement reader head n new) c.in-Long.is (c.in-Ok.ensures.given reader p.read_by) in
     passes-on g.F.BrokenLinkCallback.answers g.E.EntityLookup.replacement reader old head new [] p h
 
 pub returns-in-Short-clause-fewer : goal.returns-in-Short-clause-fewer
@@ -58,7 +58,7 @@ returns-in-Short-clause-fewer g c =
     let head = c.loop-span.self in
     let new = c.next_in_leaf.new.self in
     let e = c.in-Ok.ensures in
-    less-since c.args.self.now head new c.loop-span.invariant.lasts (subst (λ (n : Next). LeavesFewer head n new) c.in-Short.is e.fewer.fewer) e.fewer.few e.fewer.slots e.around.budget
+    less-since c.args.self.now head new c.loop-span.invariant.lasts (subst (λ (n : Step). LeavesFewer head n new) c.in-Short.is e.fewer.fewer) e.fewer.few e.fewer.slots e.around.budget
 
 pub returns-in-Long-clause-fewer : goal.returns-in-Long-clause-fewer
 returns-in-Long-clause-fewer g c =
@@ -75,13 +75,13 @@ returns-in-Short-met-clause-stands g c =
     let old = c.args.self.now in
     let head = c.loop-span.self in
     let mid = c.next_in_leaf.new.self in
-    let walk = c.next_short.new.self in
-    let lines = c.next_short.new.lines in
+    let walk = c.step.new.self in
+    let lines = c.step.new.lines in
     let e = c.in-Ok.ensures in
-    let m = c.in-Ok-next_short.ensures in
-    let out = subst (λ (n : Next). LeavesLeaf n mid) c.in-Over.is e.outside in
+    let m = c.in-Ok-step.ensures in
+    let out = subst (λ (n : Step). LeavesLeaf n mid) c.in-Over.is e.outside in
     let s = e.stands in
-    let given = subst (λ (b : Brief). walking.GivesBrief mid.walk b lines.items walk) c.in-Short-met.is m.given in
+    let given = subst (λ (b : BlockStep). walking.GivesBrief mid.walk b lines.items walk) c.in-Short-met.is m.given in
     let one : Ranged = ranged_short c.in-Short-met.short c.in-Short-met.start c.in-Short-met.end in
     let first = given.gives s.0 s.1.blocks.remains in
     (first.0, following-at mid walk lines out m.text _ s.0 (GivenOf one) first.0 s.1 first.1 first.2 refl)
@@ -91,14 +91,14 @@ returns-in-Short-met-clause-given g c = λ reader r.
     let old = c.args.self.now in
     let head = c.loop-span.self in
     let mid = c.next_in_leaf.new.self in
-    let walk = c.next_short.new.self in
-    let lines = c.next_short.new.lines in
+    let walk = c.step.new.self in
+    let lines = c.step.new.lines in
     let e = c.in-Ok.ensures in
-    let m = c.in-Ok-next_short.ensures in
-    let out = subst (λ (n : Next). LeavesLeaf n mid) c.in-Over.is e.outside in
-    let given = subst (λ (b : Brief). walking.GivesBrief mid.walk b lines.items walk) c.in-Short-met.is m.given in
+    let m = c.in-Ok-step.ensures in
+    let out = subst (λ (n : Step). LeavesLeaf n mid) c.in-Over.is e.outside in
+    let given = subst (λ (b : BlockStep). walking.GivesBrief mid.walk b lines.items walk) c.in-Short-met.is m.given in
     let p = c.loop-span.invariant.reads reader r in
-    let none = subst (λ (n : Next). GivesInLeaf g.F.BrokenLinkCallback.answers g.E.EntityLookup.replacement reader head n mid) c.in-Over.is (e.given reader p.read_by) in
+    let none = subst (λ (n : Step). GivesInLeaf g.F.BrokenLinkCallback.answers g.E.EntityLookup.replacement reader head n mid) c.in-Over.is (e.given reader p.read_by) in
     let q = passes-on g.F.BrokenLinkCallback.answers g.E.EntityLookup.replacement reader old head mid [] p none in
     let by = q.read_by in
     let one : Ranged = ranged_short c.in-Short-met.short c.in-Short-met.start c.in-Short-met.end in
@@ -118,13 +118,13 @@ returns-in-Short-met-clause-fewer g c =
     let old = c.args.self.now in
     let head = c.loop-span.self in
     let mid = c.next_in_leaf.new.self in
-    let walk = c.next_short.new.self in
-    let lines = c.next_short.new.lines in
+    let walk = c.step.new.self in
+    let lines = c.step.new.lines in
     let e = c.in-Ok.ensures in
-    let m = c.in-Ok-next_short.ensures in
-    let out = subst (λ (n : Next). LeavesLeaf n mid) c.in-Over.is e.outside in
+    let m = c.in-Ok-step.ensures in
+    let out = subst (λ (n : Step). LeavesLeaf n mid) c.in-Over.is e.outside in
     let s = e.stands in
-    let given = subst (λ (b : Brief). walking.GivesBrief mid.walk b lines.items walk) c.in-Short-met.is m.given in
+    let given = subst (λ (b : BlockStep). walking.GivesBrief mid.walk b lines.items walk) c.in-Short-met.is m.given in
     let one : Ranged = ranged_short c.in-Short-met.short c.in-Short-met.start c.in-Short-met.end in
     let first = given.gives s.0 s.1.blocks.remains in
     met-fewer mid walk lines out m.text old head _ s.0 (GivenOf one) first.0 s.1 first.1 c.loop-span.invariant.lasts e.fewer.most e.fewer.few e.fewer.slots e.around.budget refl
@@ -134,13 +134,13 @@ plain_text-requires g c κs =
     let old = c.args.self.now in
     let head = c.loop-span.self in
     let mid = c.next_in_leaf.new.self in
-    let walk = c.next_short.new.self in
-    let lines = c.next_short.new.lines in
+    let walk = c.step.new.self in
+    let lines = c.step.new.lines in
     let e = c.in-Ok.ensures in
-    let m = c.in-Ok-next_short.ensures in
-    let out = subst (λ (n : Next). LeavesLeaf n mid) c.in-Over.is e.outside in
+    let m = c.in-Ok-step.ensures in
+    let out = subst (λ (n : Step). LeavesLeaf n mid) c.in-Over.is e.outside in
     let s = e.stands in
-    let given = subst (λ (b : Brief). walking.GivesBrief mid.walk b lines.items walk) c.in-Leaf.is m.given in
+    let given = subst (λ (b : BlockStep). walking.GivesBrief mid.walk b lines.items walk) c.in-Leaf.is m.given in
     let gives = given s.0 s.1.blocks.remains in
     let before = before-leaf mid walk lines out m.text c.in-Leaf.is_cell _ s.0 gives.0 gives.1 s.1 gives.2 gives.3 gives.4 gives.5 refl in
     ((refl, tt), before.lines.in_turn)
@@ -150,13 +150,13 @@ returns-in-One-clause-stands g c =
     let old = c.args.self.now in
     let head = c.loop-span.self in
     let mid = c.next_in_leaf.new.self in
-    let walk = c.next_short.new.self in
-    let lines = c.next_short.new.lines in
+    let walk = c.step.new.self in
+    let lines = c.step.new.lines in
     let e = c.in-Ok.ensures in
-    let m = c.in-Ok-next_short.ensures in
-    let out = subst (λ (n : Next). LeavesLeaf n mid) c.in-Over.is e.outside in
+    let m = c.in-Ok-step.ensures in
+    let out = subst (λ (n : Step). LeavesLeaf n mid) c.in-Over.is e.outside in
     let s = e.stands in
-    let given = subst (λ (b : Brief). walking.GivesBrief mid.walk b lines.items walk) c.in-Leaf.is m.given in
+    let given = subst (λ (b : BlockStep). walking.GivesBrief mid.walk b lines.items walk) c.in-Leaf.is m.given in
     let gives = given s.0 s.1.blocks.remains in
     (gives.1, following-at mid walk lines out m.text _ s.0 (Content gives.0) gives.1 s.1 gives.2 gives.4 refl)
 
@@ -165,14 +165,14 @@ returns-in-One-clause-given g c = λ reader r.
     let old = c.args.self.now in
     let head = c.loop-span.self in
     let mid = c.next_in_leaf.new.self in
-    let walk = c.next_short.new.self in
-    let lines = c.next_short.new.lines in
+    let walk = c.step.new.self in
+    let lines = c.step.new.lines in
     let e = c.in-Ok.ensures in
-    let m = c.in-Ok-next_short.ensures in
-    let out = subst (λ (n : Next). LeavesLeaf n mid) c.in-Over.is e.outside in
-    let given = subst (λ (b : Brief). walking.GivesBrief mid.walk b lines.items walk) c.in-Leaf.is m.given in
+    let m = c.in-Ok-step.ensures in
+    let out = subst (λ (n : Step). LeavesLeaf n mid) c.in-Over.is e.outside in
+    let given = subst (λ (b : BlockStep). walking.GivesBrief mid.walk b lines.items walk) c.in-Leaf.is m.given in
     let p = c.loop-span.invariant.reads reader r in
-    let none = subst (λ (n : Next). GivesInLeaf g.F.BrokenLinkCallback.answers g.E.EntityLookup.replacement reader head n mid) c.in-Over.is (e.given reader p.read_by) in
+    let none = subst (λ (n : Step). GivesInLeaf g.F.BrokenLinkCallback.answers g.E.EntityLookup.replacement reader head n mid) c.in-Over.is (e.given reader p.read_by) in
     let q = passes-on g.F.BrokenLinkCallback.answers g.E.EntityLookup.replacement reader old head mid [] p none in
     let by = q.read_by in
     let gives = given by.left by.stands.blocks.remains in
@@ -193,13 +193,13 @@ returns-in-One-clause-fewer g c =
     let old = c.args.self.now in
     let head = c.loop-span.self in
     let mid = c.next_in_leaf.new.self in
-    let walk = c.next_short.new.self in
-    let lines = c.next_short.new.lines in
+    let walk = c.step.new.self in
+    let lines = c.step.new.lines in
     let e = c.in-Ok.ensures in
-    let m = c.in-Ok-next_short.ensures in
-    let out = subst (λ (n : Next). LeavesLeaf n mid) c.in-Over.is e.outside in
+    let m = c.in-Ok-step.ensures in
+    let out = subst (λ (n : Step). LeavesLeaf n mid) c.in-Over.is e.outside in
     let s = e.stands in
-    let given = subst (λ (b : Brief). walking.GivesBrief mid.walk b lines.items walk) c.in-Leaf.is m.given in
+    let given = subst (λ (b : BlockStep). walking.GivesBrief mid.walk b lines.items walk) c.in-Leaf.is m.given in
     let gives = given s.0 s.1.blocks.remains in
     met-fewer mid walk lines out m.text old head _ s.0 (Content gives.0) gives.1 s.1 gives.2 c.loop-span.invariant.lasts e.fewer.most e.fewer.few e.fewer.slots e.around.budget refl
 
@@ -208,13 +208,13 @@ returns-in-Several-clause-stands g c =
     let old = c.args.self.now in
     let head = c.loop-span.self in
     let mid = c.next_in_leaf.new.self in
-    let walk = c.next_short.new.self in
-    let lines = c.next_short.new.lines in
+    let walk = c.step.new.self in
+    let lines = c.step.new.lines in
     let e = c.in-Ok.ensures in
-    let m = c.in-Ok-next_short.ensures in
-    let out = subst (λ (n : Next). LeavesLeaf n mid) c.in-Over.is e.outside in
+    let m = c.in-Ok-step.ensures in
+    let out = subst (λ (n : Step). LeavesLeaf n mid) c.in-Over.is e.outside in
     let s = e.stands in
-    let given = subst (λ (b : Brief). walking.GivesBrief mid.walk b lines.items walk) c.in-Leaf.is m.given in
+    let given = subst (λ (b : BlockStep). walking.GivesBrief mid.walk b lines.items walk) c.in-Leaf.is m.given in
     let gives = given s.0 s.1.blocks.remains in
     (gives.1, following-at mid walk lines out m.text _ s.0 (Content gives.0) gives.1 s.1 gives.2 gives.4 refl)
 
@@ -223,14 +223,14 @@ returns-in-Several-clause-given g c = λ reader r.
     let old = c.args.self.now in
     let head = c.loop-span.self in
     let mid = c.next_in_leaf.new.self in
-    let walk = c.next_short.new.self in
-    let lines = c.next_short.new.lines in
+    let walk = c.step.new.self in
+    let lines = c.step.new.lines in
     let e = c.in-Ok.ensures in
-    let m = c.in-Ok-next_short.ensures in
-    let out = subst (λ (n : Next). LeavesLeaf n mid) c.in-Over.is e.outside in
-    let given = subst (λ (b : Brief). walking.GivesBrief mid.walk b lines.items walk) c.in-Leaf.is m.given in
+    let m = c.in-Ok-step.ensures in
+    let out = subst (λ (n : Step). LeavesLeaf n mid) c.in-Over.is e.outside in
+    let given = subst (λ (b : BlockStep). walking.GivesBrief mid.walk b lines.items walk) c.in-Leaf.is m.given in
     let p = c.loop-span.invariant.reads reader r in
-    let none = subst (λ (n : Next). GivesInLeaf g.F.BrokenLinkCallback.answers g.E.EntityLookup.replacement reader head n mid) c.in-Over.is (e.given reader p.read_by) in
+    let none = subst (λ (n : Step). GivesInLeaf g.F.BrokenLinkCallback.answers g.E.EntityLookup.replacement reader head n mid) c.in-Over.is (e.given reader p.read_by) in
     let q = passes-on g.F.BrokenLinkCallback.answers g.E.EntityLookup.replacement reader old head mid [] p none in
     let by = q.read_by in
     let gives = given by.left by.stands.blocks.remains in
@@ -253,13 +253,13 @@ returns-in-Several-clause-fewer g c =
     let old = c.args.self.now in
     let head = c.loop-span.self in
     let mid = c.next_in_leaf.new.self in
-    let walk = c.next_short.new.self in
-    let lines = c.next_short.new.lines in
+    let walk = c.step.new.self in
+    let lines = c.step.new.lines in
     let e = c.in-Ok.ensures in
-    let m = c.in-Ok-next_short.ensures in
-    let out = subst (λ (n : Next). LeavesLeaf n mid) c.in-Over.is e.outside in
+    let m = c.in-Ok-step.ensures in
+    let out = subst (λ (n : Step). LeavesLeaf n mid) c.in-Over.is e.outside in
     let s = e.stands in
-    let given = subst (λ (b : Brief). walking.GivesBrief mid.walk b lines.items walk) c.in-Leaf.is m.given in
+    let given = subst (λ (b : BlockStep). walking.GivesBrief mid.walk b lines.items walk) c.in-Leaf.is m.given in
     let gives = given s.0 s.1.blocks.remains in
     met-fewer mid walk lines out m.text old head _ s.0 (Content gives.0) gives.1 s.1 gives.2 c.loop-span.invariant.lasts e.fewer.most e.fewer.few e.fewer.slots e.around.budget refl
 
@@ -278,13 +278,13 @@ enter_leaf-requires g c κs =
     let old = c.args.self.now in
     let head = c.loop-span.self in
     let mid = c.next_in_leaf.new.self in
-    let walk = c.next_short.new.self in
-    let lines = c.next_short.new.lines in
+    let walk = c.step.new.self in
+    let lines = c.step.new.lines in
     let e = c.in-Ok.ensures in
-    let m = c.in-Ok-next_short.ensures in
-    let out = subst (λ (n : Next). LeavesLeaf n mid) c.in-Over.is e.outside in
+    let m = c.in-Ok-step.ensures in
+    let out = subst (λ (n : Step). LeavesLeaf n mid) c.in-Over.is e.outside in
     let s = e.stands in
-    let given = subst (λ (b : Brief). walking.GivesBrief mid.walk b lines.items walk) c.in-Leaf.is m.given in
+    let given = subst (λ (b : BlockStep). walking.GivesBrief mid.walk b lines.items walk) c.in-Leaf.is m.given in
     let gives = given s.0 s.1.blocks.remains in
     let ready = subst g.F.BrokenLinkCallback.ready (sym c.in-Ok.ensures.around.callback) c.loop-span.invariant.ready in
     ((refl, tt), ((gives.0, gives.1, before-leaf mid walk lines out m.text c.in-Leaf.is_cell _ s.0 gives.0 gives.1 s.1 gives.2 gives.3 gives.4 gives.5 refl), ready))
@@ -294,13 +294,13 @@ loop-span-preserved g c =
     let old = c.args.self.now in
     let head = c.loop-span.self in
     let mid = c.next_in_leaf.new.self in
-    let walk = c.next_short.new.self in
-    let lines = c.next_short.new.lines in
+    let walk = c.step.new.self in
+    let lines = c.step.new.lines in
     let e = c.in-Ok.ensures in
-    let m = c.in-Ok-next_short.ensures in
-    let out = subst (λ (n : Next). LeavesLeaf n mid) c.in-Over.is e.outside in
+    let m = c.in-Ok-step.ensures in
+    let out = subst (λ (n : Step). LeavesLeaf n mid) c.in-Over.is e.outside in
     let s = e.stands in
-    let given = subst (λ (b : Brief). walking.GivesBrief mid.walk b lines.items walk) c.in-Leaf.is m.given in
+    let given = subst (λ (b : BlockStep). walking.GivesBrief mid.walk b lines.items walk) c.in-Leaf.is m.given in
     let gives = given s.0 s.1.blocks.remains in
     let entered = c.in_ok-enter_leaf-in-Leaf.ensures in
     let new = c.enter_leaf.new.self in
@@ -311,7 +311,7 @@ loop-span-preserved g c =
           (λ folded. entered.keeps.footnotes folded ∙ ap (λ t. is_some (footnote t folded)) e.around.footnotes) e.around.source gives.2 (entered.enters gives.0 gives.1 before) entered.keeps.source entered.budget;
       reads = λ reader r.
           let p = c.loop-span.invariant.reads reader r in
-          let none = subst (λ (n : Next). GivesInLeaf g.F.BrokenLinkCallback.answers g.E.EntityLookup.replacement reader head n mid) c.in-Over.is (e.given reader p.read_by) in
+          let none = subst (λ (n : Step). GivesInLeaf g.F.BrokenLinkCallback.answers g.E.EntityLookup.replacement reader head n mid) c.in-Over.is (e.given reader p.read_by) in
           let q = passes-on g.F.BrokenLinkCallback.answers g.E.EntityLookup.replacement reader old head mid [] p none in
           let by = q.read_by in
           let met = given by.left by.stands.blocks.remains in
@@ -321,7 +321,7 @@ loop-span-preserved g c =
           (leaf-passes g.F.BrokenLinkCallback.answers g.E.EntityLookup.replacement reader mid walk lines out m.text m.definitions _ met.0 met.1 new by met.2 (entered.enters met.0 met.1 here)
           (entered.reads reader met.0 met.1 here placed.0 (met-same g.F.BrokenLinkCallback.answers g.E.EntityLookup.replacement reader mid walk lines out m.text m.definitions _ by.same)));
       ends = λ reader exchanges events n b.
-          let keeps = subst (λ (x : Next). KeepsAfterLeaf g.E.EntityLookup.replacement reader head x mid) c.in-Over.is (e.kept reader) in
+          let keeps = subst (λ (x : Step). KeepsAfterLeaf g.E.EntityLookup.replacement reader head x mid) c.in-Over.is (e.kept reader) in
           let kept = keeps exchanges events (c.loop-span.invariant.ends reader exchanges events n b) in
           let by = kept.read_by in
           let met = given by.left by.stands.blocks.remains in
@@ -337,13 +337,13 @@ returns-in-Long-met-clause-stands g c =
     let old = c.args.self.now in
     let head = c.loop-span.self in
     let mid = c.next_in_leaf.new.self in
-    let walk = c.next_short.new.self in
-    let lines = c.next_short.new.lines in
+    let walk = c.step.new.self in
+    let lines = c.step.new.lines in
     let e = c.in-Ok.ensures in
-    let m = c.in-Ok-next_short.ensures in
-    let out = subst (λ (n : Next). LeavesLeaf n mid) c.in-Over.is e.outside in
+    let m = c.in-Ok-step.ensures in
+    let out = subst (λ (n : Step). LeavesLeaf n mid) c.in-Over.is e.outside in
     let s = e.stands in
-    let given = subst (λ (b : Brief). walking.GivesBrief mid.walk b lines.items walk) c.in-Long-met.is m.given in
+    let given = subst (λ (b : BlockStep). walking.GivesBrief mid.walk b lines.items walk) c.in-Long-met.is m.given in
     (s.0, same-at mid walk lines out m.text s.0 s.1 (given.0 s.0 s.1.blocks.remains))
 
 pub returns-in-Long-met-clause-given : goal.returns-in-Long-met-clause-given
@@ -351,14 +351,14 @@ returns-in-Long-met-clause-given g c = λ reader r.
     let old = c.args.self.now in
     let head = c.loop-span.self in
     let mid = c.next_in_leaf.new.self in
-    let walk = c.next_short.new.self in
-    let lines = c.next_short.new.lines in
+    let walk = c.step.new.self in
+    let lines = c.step.new.lines in
     let e = c.in-Ok.ensures in
-    let m = c.in-Ok-next_short.ensures in
-    let out = subst (λ (n : Next). LeavesLeaf n mid) c.in-Over.is e.outside in
-    let given = subst (λ (b : Brief). walking.GivesBrief mid.walk b lines.items walk) c.in-Long-met.is m.given in
+    let m = c.in-Ok-step.ensures in
+    let out = subst (λ (n : Step). LeavesLeaf n mid) c.in-Over.is e.outside in
+    let given = subst (λ (b : BlockStep). walking.GivesBrief mid.walk b lines.items walk) c.in-Long-met.is m.given in
     let p = c.loop-span.invariant.reads reader r in
-    let none = subst (λ (n : Next). GivesInLeaf g.F.BrokenLinkCallback.answers g.E.EntityLookup.replacement reader head n mid) c.in-Over.is (e.given reader p.read_by) in
+    let none = subst (λ (n : Step). GivesInLeaf g.F.BrokenLinkCallback.answers g.E.EntityLookup.replacement reader head n mid) c.in-Over.is (e.given reader p.read_by) in
     let q = passes-on g.F.BrokenLinkCallback.answers g.E.EntityLookup.replacement reader old head mid [] p none in
     let by = q.read_by in
     passes-on g.F.BrokenLinkCallback.answers g.E.EntityLookup.replacement reader old mid _ [] q (long-passes g.F.BrokenLinkCallback.answers g.E.EntityLookup.replacement reader mid walk lines out m.text m.definitions by (given.0 by.left by.stands.blocks.remains))
@@ -368,13 +368,13 @@ returns-in-Over-met-clause-stands g c =
     let old = c.args.self.now in
     let head = c.loop-span.self in
     let mid = c.next_in_leaf.new.self in
-    let walk = c.next_short.new.self in
-    let lines = c.next_short.new.lines in
+    let walk = c.step.new.self in
+    let lines = c.step.new.lines in
     let e = c.in-Ok.ensures in
-    let m = c.in-Ok-next_short.ensures in
-    let out = subst (λ (n : Next). LeavesLeaf n mid) c.in-Over.is e.outside in
+    let m = c.in-Ok-step.ensures in
+    let out = subst (λ (n : Step). LeavesLeaf n mid) c.in-Over.is e.outside in
     let s = e.stands in
-    let given = subst (λ (b : Brief). walking.GivesBrief mid.walk b lines.items walk) c.in-Over-met.is m.given in
+    let given = subst (λ (b : BlockStep). walking.GivesBrief mid.walk b lines.items walk) c.in-Over-met.is m.given in
     let gives = given s.0 s.1.blocks.remains in
     ([], over-at mid walk lines out m.text s.0 s.1 gives.0 gives.1)
 
@@ -383,14 +383,14 @@ returns-in-Over-met-clause-given g c = λ reader r.
     let old = c.args.self.now in
     let head = c.loop-span.self in
     let mid = c.next_in_leaf.new.self in
-    let walk = c.next_short.new.self in
-    let lines = c.next_short.new.lines in
+    let walk = c.step.new.self in
+    let lines = c.step.new.lines in
     let e = c.in-Ok.ensures in
-    let m = c.in-Ok-next_short.ensures in
-    let out = subst (λ (n : Next). LeavesLeaf n mid) c.in-Over.is e.outside in
-    let given = subst (λ (b : Brief). walking.GivesBrief mid.walk b lines.items walk) c.in-Over-met.is m.given in
+    let m = c.in-Ok-step.ensures in
+    let out = subst (λ (n : Step). LeavesLeaf n mid) c.in-Over.is e.outside in
+    let given = subst (λ (b : BlockStep). walking.GivesBrief mid.walk b lines.items walk) c.in-Over-met.is m.given in
     let p = c.loop-span.invariant.reads reader r in
-    let none = subst (λ (n : Next). GivesInLeaf g.F.BrokenLinkCallback.answers g.E.EntityLookup.replacement reader head n mid) c.in-Over.is (e.given reader p.read_by) in
+    let none = subst (λ (n : Step). GivesInLeaf g.F.BrokenLinkCallback.answers g.E.EntityLookup.replacement reader head n mid) c.in-Over.is (e.given reader p.read_by) in
     let q = passes-on g.F.BrokenLinkCallback.answers g.E.EntityLookup.replacement reader old head mid [] p none in
     let by = q.read_by in
     let gives = given by.left by.stands.blocks.remains in
@@ -405,16 +405,16 @@ returns-in_default-clause-refused g c =
           stops-here g.F.BrokenLinkCallback.answers g.E.EntityLookup.replacement reader c.args.self.now c.loop-span.self c.next_in_leaf.new.self (c.loop-span.invariant.reads reader r) c.in_default.ensures.around.callback;
     }
 
-pub returns-in_default-next_short-clause-refused : goal.returns-in_default-next_short-clause-refused
-returns-in_default-next_short-clause-refused g c =
+pub returns-in_default-step-clause-refused : goal.returns-in_default-step-clause-refused
+returns-in_default-step-clause-refused g c =
     record {
       ends = (λ reader exchanges events m b.
           let head = c.loop-span.self in
           let mid = c.next_in_leaf.new.self in
           let e = c.in-Ok.ensures in
-          let out = subst (λ (n : Next). LeavesLeaf n mid) c.in-Over.is e.outside in
-          let keeps = subst (λ (x : Next). KeepsAfterLeaf g.E.EntityLookup.replacement reader head x mid) c.in-Over.is (e.kept reader) in
-          blocks-begin g.E.EntityLookup.replacement reader mid out c.in_default-next_short.ensures.ends exchanges events (keeps exchanges events (c.loop-span.invariant.ends reader exchanges events m b)) b);
+          let out = subst (λ (n : Step). LeavesLeaf n mid) c.in-Over.is e.outside in
+          let keeps = subst (λ (x : Step). KeepsAfterLeaf g.E.EntityLookup.replacement reader head x mid) c.in-Over.is (e.kept reader) in
+          blocks-begin g.E.EntityLookup.replacement reader mid out c.in_default-step.ensures.ends exchanges events (keeps exchanges events (c.loop-span.invariant.ends reader exchanges events m b)) b);
       asked = (asked-same g.F.BrokenLinkCallback.answers c.args.self.now.callback c.loop-span.self.callback c.next_in_leaf.new.self.callback c.loop-span.invariant.asked c.in-Ok.ensures.around.callback);
       stops = λ reader r.
           stops-here g.F.BrokenLinkCallback.answers g.E.EntityLookup.replacement reader c.args.self.now c.loop-span.self _ (c.loop-span.invariant.reads reader r) c.in-Ok.ensures.around.callback;
@@ -427,26 +427,26 @@ returns-in_err-enter_leaf-in-Leaf-clause-refused g c =
           let head = c.loop-span.self in
           let mid = c.next_in_leaf.new.self in
           let e = c.in-Ok.ensures in
-          let out = subst (λ (n : Next). LeavesLeaf n mid) c.in-Over.is e.outside in
-          let keeps = subst (λ (x : Next). KeepsAfterLeaf g.E.EntityLookup.replacement reader head x mid) c.in-Over.is (e.kept reader) in
+          let out = subst (λ (n : Step). LeavesLeaf n mid) c.in-Over.is e.outside in
+          let keeps = subst (λ (x : Step). KeepsAfterLeaf g.E.EntityLookup.replacement reader head x mid) c.in-Over.is (e.kept reader) in
           let kept = keeps exchanges events (c.loop-span.invariant.ends reader exchanges events n b) in
           let by = kept.read_by in
-          let given = subst (λ (b : Brief). walking.GivesBrief mid.walk b c.next_short.new.lines.items c.next_short.new.self) c.in-Leaf.is c.in-Ok-next_short.ensures.given in
+          let given = subst (λ (b : BlockStep). walking.GivesBrief mid.walk b c.step.new.lines.items c.step.new.self) c.in-Leaf.is c.in-Ok-step.ensures.given in
           let met = given by.left by.stands.blocks.remains in
           text-begins g.E.EntityLookup.replacement reader mid out by met.0 met.1 met.2 (λ empty. c.in_err-enter_leaf-in-Leaf.ensures.lines (met.3.are ∙ ap lines_of empty)) exchanges events kept b);
       asked = (asked-on g.F.BrokenLinkCallback.answers c.args.self.now.callback c.loop-span.self.callback c.next_in_leaf.new.self.callback c.enter_leaf.new.self.callback c.loop-span.invariant.asked c.in-Ok.ensures.around.callback c.in_err-enter_leaf-in-Leaf.ensures.asked);
       stops = (λ reader r. (let head = c.loop-span.self in
           let mid = c.next_in_leaf.new.self in
-          let walk = c.next_short.new.self in
-          let lines = c.next_short.new.lines in
+          let walk = c.step.new.self in
+          let lines = c.step.new.lines in
           let e = c.in-Ok.ensures in
-          let m = c.in-Ok-next_short.ensures in
-          let out = subst (λ (n : Next). LeavesLeaf n mid) c.in-Over.is e.outside in
+          let m = c.in-Ok-step.ensures in
+          let out = subst (λ (n : Step). LeavesLeaf n mid) c.in-Over.is e.outside in
           let p = c.loop-span.invariant.reads reader r in
-          let none = subst (λ (n : Next). GivesInLeaf g.F.BrokenLinkCallback.answers g.E.EntityLookup.replacement reader head n mid) c.in-Over.is (e.given reader p.read_by) in
+          let none = subst (λ (n : Step). GivesInLeaf g.F.BrokenLinkCallback.answers g.E.EntityLookup.replacement reader head n mid) c.in-Over.is (e.given reader p.read_by) in
           let q = passes-on g.F.BrokenLinkCallback.answers g.E.EntityLookup.replacement reader c.args.self.now head mid [] p none in
           let by = q.read_by in
-          let given = subst (λ (b : Brief). walking.GivesBrief mid.walk b lines.items walk) c.in-Leaf.is m.given in
+          let given = subst (λ (b : BlockStep). walking.GivesBrief mid.walk b lines.items walk) c.in-Leaf.is m.given in
           let met = given by.left by.stands.blocks.remains in
           let here = before-leaf mid walk lines out m.text c.in-Leaf.is_cell _ by.left met.0 met.1 by.stands met.2 met.3 met.4 met.5 refl in
           let placed : ArePlaced reader (Content met.0 ∷ met.1) = subst (ArePlaced reader) met.2 by.placed in
@@ -457,7 +457,7 @@ returns-in_err-enter_leaf-in-Leaf-clause-refused g c =
 pub returns-in-Long-clause-long : goal.returns-in-Long-clause-long
 returns-in-Long-clause-long g c =
     let replacement = g.E.EntityLookup.replacement in
-    let comes = subst (λ (n : Next). IfNextLong n (ComesLong replacement c.loop-span.self c.next_in_leaf.new.self)) c.in-Long.is c.in-Ok.ensures.long in
+    let comes = subst (λ (n : Step). IfNextLong n (ComesLong replacement c.loop-span.self c.next_in_leaf.new.self)) c.in-Long.is c.in-Ok.ensures.long in
     record {
       long = comes.long;
       no_end = λ reader exchanges events m b. comes.no_end reader exchanges events (c.loop-span.invariant.ends reader exchanges events m b) b;
@@ -468,14 +468,14 @@ returns-in-Long-met-clause-long g c =
     let replacement = g.E.EntityLookup.replacement in
     let head = c.loop-span.self in
     let mid = c.next_in_leaf.new.self in
-    let walk = c.next_short.new.self in
-    let lines = c.next_short.new.lines in
+    let walk = c.step.new.self in
+    let lines = c.step.new.lines in
     let e = c.in-Ok.ensures in
-    let out = subst (λ (n : Next). LeavesLeaf n mid) c.in-Over.is e.outside in
-    let given = subst (λ (b : Brief). walking.GivesBrief mid.walk b lines.items walk) c.in-Long-met.is c.in-Ok-next_short.ensures.given in
+    let out = subst (λ (n : Step). LeavesLeaf n mid) c.in-Over.is e.outside in
+    let given = subst (λ (b : BlockStep). walking.GivesBrief mid.walk b lines.items walk) c.in-Long-met.is c.in-Ok-step.ensures.given in
     record {
       long = subst (λ b. IsLongIn b (record mid { walk = walk; lines = lines })) (sym out) given.1;
       no_end = λ reader exchanges events m b.
-          let keeps = subst (λ (x : Next). KeepsAfterLeaf replacement reader head x mid) c.in-Over.is (e.kept reader) in
+          let keeps = subst (λ (x : Step). KeepsAfterLeaf replacement reader head x mid) c.in-Over.is (e.kept reader) in
           blocks-begin replacement reader mid out (λ left r. long-no-end walk given.1 left (given.0 left r)) exchanges events (keeps exchanges events (c.loop-span.invariant.ends reader exchanges events m b)) b;
     }

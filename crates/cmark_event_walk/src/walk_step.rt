@@ -5,7 +5,7 @@ use cmark_text::Short;
 /// The next event of a walk, without an `Event`. Spans and blocks have variants of their own, because different elements begin and end
 /// there. A writer is faster with separate code for each.
 #[derive(Clone, Copy)]
-pub enum Coming<'a> {
+pub enum WalkStep<'a> {
     /// An event of a leaf's spans that owns nothing, and its range in byte offsets of the text.
     Span(Short<'a>, usize, usize),
     /// An event of a block that owns nothing, and its range in byte offsets of the text.
@@ -20,11 +20,11 @@ pub enum Coming<'a> {
     Over,
 }
 
-/// The loop that writes HTML, as a caller of [`next_short`](crate::SpanWalk::next_short).
+/// The loop that writes HTML, as a caller of [`step`](crate::SpanWalk::step).
 pub struct ForHtml;
 
-/// An iterator of events, as a caller of [`next_short`](crate::SpanWalk::next_short).
+/// An iterator of events, as a caller of [`step`](crate::SpanWalk::step).
 pub struct ForItems;
 
-/// A caller that takes short events without an `Event`, as a caller of [`next_short`](crate::SpanWalk::next_short).
+/// A caller that takes short events without an `Event`, as a caller of [`step`](crate::SpanWalk::step).
 pub struct ForShorts;

@@ -1,6 +1,6 @@
 use Rattle.std.proofs.Common.{◌≡◌, ◌≤◌, ◌-◌, length}
 use Rattle.cmark_slot_events.specs.Events.{events_to_come}
-use Rattle.cmark_slot_events.proofs.leaf_events.LeafEvents.next_short.Given as goal
+use Rattle.cmark_slot_events.proofs.leaf_events.LeafEvents.step.Given as goal
 
 abbrev pub invariant-loop-self : goal.invariant-loop-self
 invariant-loop-self l =

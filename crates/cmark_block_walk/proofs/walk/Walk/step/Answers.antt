@@ -1,7 +1,7 @@
 use Rattle.std.proofs.Common.{subst}
 use Rattle.cmark_block_walk.specs.Walking.{GivesStep}
 use Rattle.cmark_block_walk.proofs.ShortSteps.{after-lasting, lasts-on}
-use Rattle.cmark_block_walk.proofs.walk.Walk.next_short.Goals as goal
+use Rattle.cmark_block_walk.proofs.walk.Walk.step.Goals as goal
 
 pub returns-in_default-clause-refused : goal.returns-in_default-clause-refused
 returns-in_default-clause-refused c = λ left r. c.in_default.ensures.refused.remains left (c.loop-step.invariant.remains left r)

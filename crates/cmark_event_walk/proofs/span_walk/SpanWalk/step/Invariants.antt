@@ -1,5 +1,5 @@
 use Rattle.cmark_event_walk.proofs.Readings.{Turns}
-use Rattle.cmark_event_walk.proofs.span_walk.SpanWalk.next_short.Given as goal
+use Rattle.cmark_event_walk.proofs.span_walk.SpanWalk.step.Given as goal
 
 abbrev pub invariant-loop-span : goal.invariant-loop-span
 invariant-loop-span g l = Turns g.F.BrokenLinkCallback.answers g.E.EntityLookup.replacement g.F.BrokenLinkCallback.ready l.initial.self l.self
