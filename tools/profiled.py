@@ -1,9 +1,10 @@
 """Compiles the proved code a second time, with a profile of its own runs, for `make dist`.
 
-The toolchain's clang compiles the same LLVM module with the same arguments as for `make`. It first adds counters; the counted programs and
-the counted library read the Markdown files of this repository and the texts of tests/texts/rows.json; then it compiles once more, and places
-and inlines code by the counts. So the compiler makes other choices, and nothing else changes. The counts depend only on the code and on
-these texts, so the object code is the same each time. docs/PERFORMANCE.md has the gain.
+The toolchain's clang compiles the same LLVM module as for `make`, with the same arguments and those for profiles. It first adds counters; the
+counted programs and the counted library read the Markdown files of this repository and the texts of tests/texts/rows.json. Then it inlines
+code by the counts, adds counters once more, and the runs are repeated: a function that is inlined at several places is now counted at each.
+At last it compiles with both profiles. So the compiler makes other choices, and nothing else changes. The counts depend only on the code and
+on these texts, so the object code is the same each time. docs/PERFORMANCE.md has the gain.
 
 This needs llvm-profdata and the runtime of the counters in the version of the toolchain's clang (Debian: llvm-22 and libclang-rt-22-dev), and
 a C compiler.
@@ -23,6 +24,9 @@ MADE = ROOT / "bin" / "profiled"
 RUNTIME = "lib/clang/{major}/lib/linux/libclang_rt.profile-x86_64.a"
 # The profile covers only what the runs reach.
 WITH_PROFILE = ("-Wno-profile-instr-unprofiled", "-Wno-profile-instr-missing", "-Wno-backend-plugin")
+# Code is hot if it is among that with the greatest counts, which together have this part of all counts (in millionths). With LLVM's own part,
+# 990,000, the rarer forms of Markdown are not hot.
+HOT = ("-mllvm", "-profile-summary-cutoff-hot=999990")
 # How often a text of the table of tests is in its file. Each is short, and a profile counts how often code runs.
 REPEATED = 20
 # The runs of each program on each text, by their arguments.
@@ -73,19 +77,33 @@ def runs_of_library(program, files):
     return [([program, *files], pathlib.Path(os.devnull))]
 
 
-def compiled(tools, code, parts, calls, room):
-    """The object code of a crate, compiled with a profile of these runs of it. `parts` are the other objects of the counted program, in the
-    order of the linker, and `calls` gives the runs of the program."""
-    counted, program, profile = code.compiled(room / "counted.o", "-fprofile-generate"), room / "counted", room / "profile"
-    files = texts(room)
-    how = [tools.compiler, "-static-pie", "-Wl,--gc-sections,-u,__llvm_profile_runtime", "-o", program]
-    subprocess.run([*how, *(counted if it is None else it for it in parts), tools.runtime], check=True)
-    for number, (words, file) in enumerate(calls(program, files)):
+def counts(tools, code, parts, calls, room, *how):
+    """Compiles the code of a crate with counters, runs it in the folder `room`, and returns the files with the counts. `parts` are the other
+    objects of the counted program, in the order of the linker, and `calls` gives the runs of the program. `how` are further arguments."""
+    room.mkdir()
+    counted, program = code.compiled(room / "counted.o", *how), room / "counted"
+    linked = [tools.compiler, "-static-pie", "-Wl,--gc-sections,-u,__llvm_profile_runtime", "-o", program]
+    subprocess.run([*linked, *(counted if it is None else it for it in parts), tools.runtime], check=True)
+    for number, (words, file) in enumerate(calls(program, texts(room))):
         with open(file, "rb") as given:
-            counts = room / f"{number}.profraw"
-            subprocess.run(words, stdin=given, stdout=subprocess.DEVNULL, check=True, env={**os.environ, "LLVM_PROFILE_FILE": str(counts)})
-    subprocess.run([tools.merger, "merge", "-o", profile, *sorted(room.glob("*.profraw"))], check=True)
-    return code.compiled(room / "profiled.o", f"-fprofile-use={profile}", *WITH_PROFILE)
+            profile = room / f"{number}.profraw"
+            subprocess.run(words, stdin=given, stdout=subprocess.DEVNULL, check=True, env={**os.environ, "LLVM_PROFILE_FILE": str(profile)})
+    return sorted(room.glob("*.profraw"))
+
+
+def merged(tools, found, profile):
+    """Adds up these files with counts, in the file `profile`."""
+    subprocess.run([tools.merger, "merge", "-o", profile, *found], check=True)
+    return f"-fprofile-use={profile}"
+
+
+def compiled(tools, code, parts, calls, room):
+    """The object code of a crate, compiled with a profile of its runs, which `calls` gives. `parts` are as for `counts`."""
+    first = counts(tools, code, parts, calls, room / "first", "-fprofile-generate")
+    with_first = merged(tools, first, room / "first.profile")
+    second = counts(tools, code, parts, calls, room / "second", with_first, "-fcs-profile-generate", *HOT, *WITH_PROFILE)
+    with_both = merged(tools, [*first, *second], room / "both.profile")
+    return code.compiled(room / "profiled.o", with_both, *HOT, *WITH_PROFILE)
 
 
 def caller(tools, room):

@@ -102,10 +102,40 @@ var pulldownCmark = ((records) => {
 
   /** A limit as the module takes it. A limit that does not fit is replaced by the greatest one, which no text reaches. */
   const limitOf = (limit) => {
-    const bytes = BigInt(limit), most = (1n << 64n) - 1n;
-    if (bytes < 0n) throw new RangeError("a limit is at least 0");
-    return bytes < most ? bytes : most;
+    const most = (1n << 64n) - 1n;
+    if (typeof limit !== "bigint" && !Number.isInteger(limit) && limit !== Infinity) throw new TypeError("a limit is a whole number");
+    if (limit < 0) throw new RangeError("a limit is at least 0");
+    return limit < most ? BigInt(limit) : most;
   };
+
+  /**
+   * The settings of a call: those that are given, and otherwise these defaults. Any other name is an error, since a mistyped `safe` would give
+   * HTML that is not safe.
+   */
+  const settingsOf = (given, defaults) => {
+    if (given === null || typeof given !== "object") throw new TypeError(`settings are an object, not ${records.typeOf(given)}`);
+    const names = Object.keys(defaults), settings = { ...defaults };
+    for (const [name, value] of Object.entries(given)) {
+      if (!names.includes(name)) throw new TypeError(`there is no setting ${name}, only ${names.join(", ")}`);
+      if (value !== undefined) settings[name] = value;
+    }
+    return settings;
+  };
+
+  /**
+   * The schemes for safe HTML as the module takes them, or null if the HTML is not to be safe. A caller who lists schemes wants safe HTML. So a
+   * list without `safe` is an error.
+   */
+  const schemesOf = ({ safe, schemes }) => {
+    if (typeof schemes === "string" || typeof schemes?.[Symbol.iterator] !== "function") throw new TypeError(`schemes are a list of names, not ${records.typeOf(schemes)}`);
+    const names = [...schemes], bytes = encoded(names.join(" "));
+    for (const name of names) if (!SCHEME.test(name)) throw new RangeError(`${JSON.stringify(name)} is no scheme`);
+    if (!safe && names.length) throw new RangeError("schemes are for safe HTML: set safe too");
+    return safe ? bytes : null;
+  };
+
+  /** A scheme (RFC 3986, section 3.1). */
+  const SCHEME = /^[a-z][a-z0-9+.-]*$/i;
 
   /**
    * The sizes of the first buffers for HTML and for records, for a text of this length. Of 861 Markdown files of one machine, none needs a
@@ -315,7 +345,7 @@ var pulldownCmark = ((records) => {
 
     /** The safe HTML of the events that some records stand for. */
     renderedSafely(bytes, schemes) {
-      return this.answer("pcm_safe_render", bytes, [encoded(schemes.join(" "))], bytes.length + 256, stringOf);
+      return this.answer("pcm_safe_render", bytes, [schemes], bytes.length + 256, stringOf);
     }
   }
 
@@ -441,10 +471,11 @@ var pulldownCmark = ((records) => {
       #added = "";
       #tail = "";
 
-      constructor(options = 0, { safe = false, schemes = [], expansionLimit = 100_000 } = {}) {
+      constructor(options = 0, given = {}) {
+        const settings = settingsOf(given, { safe: false, schemes: [], expansionLimit: 100_000 });
         this.#bits = bitsOf(options);
-        this.#limit = limitOf(expansionLimit);
-        this.#schemes = safe ? encoded(schemes.join(" ")) : null;
+        this.#limit = limitOf(settings.expansionLimit);
+        this.#schemes = schemesOf(settings);
       }
 
       /** The text so far: all chunks, joined. The beginning of a character is not in it until the rest of it is pushed. */
@@ -525,11 +556,11 @@ var pulldownCmark = ((records) => {
      * 100,000 bytes, or the length of the text if that is more. `brokenLink` is asked about links without a definition, as by `events`. Of
      * `safe`, `expansionLimit` and `brokenLink` a call takes one.
      */
-    const html = (text, options = 0, { safe = false, schemes = [], expansionLimit = null, brokenLink = null } = {}) => {
-      const data = encoded(text), bits = bitsOf(options);
-      if ([safe, expansionLimit !== null, brokenLink !== null].filter(Boolean).length > 1) throw new RangeError("a call takes one of safe, expansionLimit and brokenLink");
-      if (safe && schemes.length) return instance.html("pcm_safe_html_with", data, [bits, encoded(schemes.join(" "))]);
-      if (safe) return instance.html("pcm_safe_html", data, [bits]);
+    const html = (text, options = 0, given = {}) => {
+      const settings = settingsOf(given, { safe: false, schemes: [], expansionLimit: null, brokenLink: null });
+      const data = encoded(text), bits = bitsOf(options), schemes = schemesOf(settings), { expansionLimit, brokenLink } = settings;
+      if ([schemes, expansionLimit, brokenLink].filter((it) => it !== null).length > 1) throw new RangeError("a call takes one of safe, expansionLimit and brokenLink");
+      if (schemes !== null) return instance.html("pcm_safe_html_with", data, [bits, schemes]);
       if (expansionLimit !== null) return instance.html("pcm_html_within", data, [bits, limitOf(expansionLimit)]);
       if (brokenLink !== null) return instance.rendered(recordsIn(instance, text, data, bits, brokenLink));
       return instance.html("pcm_html", data, [bits]);
@@ -540,8 +571,8 @@ var pulldownCmark = ((records) => {
      * a string, and in bytes for bytes. `brokenLink` is a function that is asked once about each link without a definition. It gets
      * `{ linkType, reference, start, end }` and returns `{ destUrl, title }`, or null.
      */
-    const events = (text, options = 0, { brokenLink = null } = {}) => {
-      const data = encoded(text);
+    const events = (text, options = 0, given = {}) => {
+      const data = encoded(text), { brokenLink } = settingsOf(given, { brokenLink: null });
       return new Events(recordsIn(instance, text, data, bitsOf(options), brokenLink), text, placedIn(text, data.length));
     };
 
@@ -563,9 +594,9 @@ var pulldownCmark = ((records) => {
      * The HTML of some events, as `events` returns them or changed, or of the bytes of their records. It is not safe to show if a stranger
      * has a part in the events, except with `safe`: then it is safe as that of `html`, whoever made the events.
      */
-    const render = (events, { safe = false, schemes = [] } = {}) => {
-      const bytes = bytesOfEvents(events);
-      return safe ? instance.renderedSafely(bytes, schemes) : instance.rendered(bytes);
+    const render = (events, given = {}) => {
+      const bytes = bytesOfEvents(events), schemes = schemesOf(settingsOf(given, { safe: false, schemes: [] }));
+      return schemes === null ? instance.rendered(bytes) : instance.renderedSafely(bytes, schemes);
     };
 
     const version = () => {

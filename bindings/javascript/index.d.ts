@@ -88,13 +88,13 @@ export interface BrokenLink extends Range {
 export type BrokenLinkCallback = (link: BrokenLink) => { destUrl: string; title?: string } | null | undefined;
 
 /** Further settings of the events of a text. */
-export interface EventsWishes {
+export interface EventsSettings {
   /** Answers for links without a definition. */
   brokenLink?: BrokenLinkCallback | null;
 }
 
 /** Whether HTML is to be safe. */
-export interface SafeWishes {
+export interface SafeSettings {
   /** Whether the HTML is to be safe to show, also if the text or the events come from a stranger. */
   safe?: boolean;
   /** For safe HTML: schemes that addresses may have, besides `http`, `https` and `mailto`. */
@@ -102,7 +102,7 @@ export interface SafeWishes {
 }
 
 /** Further settings of the HTML of a text. At most one of `safe`, `expansionLimit` and `brokenLink` may be set. */
-export interface HtmlWishes extends EventsWishes, SafeWishes {
+export interface HtmlSettings extends EventsSettings, SafeSettings {
   /** For plain HTML: once the destinations and titles of references have this number of bytes in all, further references stay text. */
   expansionLimit?: number | bigint | null;
 }
@@ -116,7 +116,7 @@ export interface LinkDef extends Range {
 }
 
 /** Settings of a text that grows. */
-export interface StreamWishes extends SafeWishes {
+export interface StreamSettings extends SafeSettings {
   /** Once the destinations and titles of references have this number of bytes in all, further references stay text. It is 100,000 by default. */
   expansionLimit?: number | bigint;
 }
@@ -134,7 +134,7 @@ export declare const Change: Readonly<{ GROWN: "grown"; ANEW: "anew" }>;
  * comes from a stranger, except with `{ safe: true }`.
  */
 export declare class Stream {
-  constructor(options?: number, wishes?: StreamWishes);
+  constructor(options?: number, settings?: StreamSettings);
   /** The text so far: all chunks, joined. The beginning of a character is not in it until the rest of it is pushed. */
   readonly text: string;
   /** The HTML of blocks that no further text changes, as long as the text defines neither a link nor a footnote. */
@@ -172,16 +172,16 @@ export declare class OutOfMemoryError extends RangeError {}
 export declare class MalformedError extends TypeError {}
 
 /** The HTML of a text. It is not safe to show if the text comes from a stranger, except with `{ safe: true }`. */
-export declare function html(text: string | Uint8Array, options?: number, wishes?: HtmlWishes): string;
+export declare function html(text: string | Uint8Array, options?: number, settings?: HtmlSettings): string;
 /** The events of a text, in order. */
-export declare function events(text: string | Uint8Array, options?: number, wishes?: EventsWishes): Events;
+export declare function events(text: string | Uint8Array, options?: number, settings?: EventsSettings): Events;
 /** The link reference definitions of a text, in order. Of definitions with the same label the first one counts. */
 export declare function references(text: string | Uint8Array, options?: number): LinkDef[];
 /** The events, with adjacent texts joined. */
 export declare function merged(events: Iterable<Event>): IterableIterator<Event>;
 /** The HTML of events, which need not be balanced and need no ranges. It is not safe to show for a stranger, except with `{ safe: true }`. */
-export declare function render(events: Iterable<EventValue & Partial<Range>>, wishes?: SafeWishes): string;
+export declare function render(events: Iterable<EventValue & Partial<Range>>, settings?: SafeSettings): string;
 /** The HTML of the flat records of events. It is not safe to show for a stranger, except with `{ safe: true }`. */
-export declare function render(records: Uint8Array, wishes?: SafeWishes): string;
+export declare function render(records: Uint8Array, settings?: SafeSettings): string;
 /** The version of the library. */
 export declare function version(): string;

@@ -283,6 +283,8 @@ def try_changed(judge, flat, draw):
         judge(f"the HTML of {given!r} by an iterator", render(iter(given)), render(given))
     lifted = [it._replace(value=it.value._replace(level=it.value.level + 1)) if isinstance(it.value, (Heading, HeadingEnd)) else it for it in events("# a\n\nb\n===\n\n## c")]
     judge("a stranger's events", render([Start(Link("Inline", "javascript:a", "", "")), InlineHtml("<b>")], safe=True), '<a href="">&lt;b&gt;')
+    for error, wrong in ((ValueError, {"schemes": ["tel"]}), (ValueError, {"safe": True, "schemes": ["tel:"]}), (ValueError, {"safe": True, "schemes": ["tel sms"]}), (TypeError, {"safe": True, "schemes": "tel"})):
+        judge(f"wrong schemes {wrong}", [raised(render, [], **wrong), raised(html, "a", **wrong)], [error] * 2)
     judge("a scheme that is named", [render([Start(Link("Inline", "tel:1", "", ""))], safe=True, schemes=it) for it in ((), ["sms", "tel"])], ['<a href="">', '<a href="tel:1">'])
     judge("lifted headings", render(lifted), "<h2>a</h2>\n<h2>b</h2>\n<h3>c</h3>\n")
 

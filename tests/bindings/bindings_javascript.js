@@ -123,6 +123,23 @@ const WRONG = [
   [() => new Stream(1), "RangeError: there is no such set of options: 1"],
   [() => new Stream(0, { expansionLimit: -1 }), "RangeError: a limit is at least 0"],
   [() => new Stream(0, { safe: true, schemes: ["\ud800"] }), "NotUtf8Error: the text has half of a pair of surrogates"],
+  [() => new Stream(0, { Safe: true }), "TypeError: there is no setting Safe, only safe, schemes, expansionLimit"],
+  [() => new Stream(0, { schemes: ["tel"] }), "RangeError: schemes are for safe HTML: set safe too"],
+  [() => new Stream(0, { expansionLimit: "5" }), "TypeError: a limit is a whole number"],
+  [() => html("a", 0, { saef: true }), "TypeError: there is no setting saef, only safe, schemes, expansionLimit, brokenLink"],
+  [() => html("a", 0, "safe"), "TypeError: settings are an object, not string"],
+  [() => html("a", 0, null), "TypeError: settings are an object, not null"],
+  [() => html("a", 0, { schemes: ["tel"] }), "RangeError: schemes are for safe HTML: set safe too"],
+  [() => html("a", 0, { safe: true, schemes: "tel" }), "TypeError: schemes are a list of names, not string"],
+  [() => html("a", 0, { safe: true, schemes: ["tel", "sms:"] }), 'RangeError: "sms:" is no scheme'],
+  [() => html("a", 0, { safe: true, schemes: ["tel sms"] }), 'RangeError: "tel sms" is no scheme'],
+  [() => html("a", 0, { expansionLimit: "5" }), "TypeError: a limit is a whole number"],
+  [() => html("a", 0, { expansionLimit: 0.5 }), "TypeError: a limit is a whole number"],
+  [() => html("a", 0, { expansionLimit: NaN }), "TypeError: a limit is a whole number"],
+  [() => html("a", 0, { expansionLimit: true }), "TypeError: a limit is a whole number"],
+  [() => events("a", 0, { safe: true }), "TypeError: there is no setting safe, only brokenLink"],
+  [() => render([], { schemes: ["tel"] }), "RangeError: schemes are for safe HTML: set safe too"],
+  [() => render([], { brokenLink: null }), "TypeError: there is no setting brokenLink, only safe, schemes"],
   [() => new Stream().push(null), "TypeError: Markdown is a string or a Uint8Array, not null"],
   [() => new Stream().push(3), "TypeError: Markdown is a string or a Uint8Array, not number"],
   [() => new Stream().push(Uint8Array.of(97, 255)), "NotUtf8Error: the text is not UTF-8"],
@@ -133,6 +150,10 @@ const WRONG = [
 const tryErrors = () => {
   for (const [call, wanted] of WRONG) judge(String(call).slice(6), thrown(call), wanted);
   judge("a call after the errors", html("*a*"), "<p><em>a</em></p>\n");
+  const link = "[a](tel:1)", set = new Set(["sms", "tel"]);
+  judge("schemes of a set", html(link, 0, { safe: true, schemes: set }), html(link, 0, { safe: true, schemes: [...set] }));
+  judge("settings that are undefined", html("<b>", 0, { safe: undefined, schemes: undefined, expansionLimit: undefined }), html("<b>"));
+  judge("limits that no text reaches", [Infinity, 2n ** 70n].map((it) => html("[b]\n\n[b]: c", 0, { expansionLimit: it })), Array(2).fill(html("[b]\n\n[b]: c")));
   for (const [error, base] of [["NotUtf8Error", TypeError], ["MalformedError", TypeError], ["OutOfMemoryError", RangeError]]) {
     judge(`the class ${error}`, [typeof calls[error], calls[error].prototype instanceof base], ["function", true]);
   }

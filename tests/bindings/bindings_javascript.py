@@ -5,7 +5,7 @@ records of pcm_events. tests/bindings/bindings_javascript.js has what needs no o
 HTML of changed and unbalanced events, and of damaged records, is compared with that of pcm_render. All kinds of events, tags and links occur.
 
 The package is put together as tools/dist does it: the examples of its README run over it, `require` and `import` give what index.d.ts
-declares, and TypeScript checks index.d.ts, if it is there. Memory is refused to both modules.
+declares, and TypeScript, if it is there, checks index.d.ts and index.d.mts. Memory is refused to both modules.
 """
 import base64
 import hashlib
@@ -225,6 +225,11 @@ stream.tail = "a";
 // @ts-expect-error
 new Stream(0, { brokenLink: () => null });
 """
+# The same for `import`, for which the package has no default export.
+TYPED_IMPORT = """
+// @ts-expect-error
+import whole from "pulldown-cmark-proved";
+"""
 
 
 def types(node):
@@ -232,11 +237,16 @@ def types(node):
     tsc = shutil.which("tsc")
     if not tsc:
         return None
-    (node.room / "typed.ts").write_text(TYPED)
-    words = [tsc, "--noEmit", "--strict", "--target", "es2022", "--module", "es2022", "--moduleResolution", "node", "typed.ts"]
-    ended = subprocess.run(words, cwd=node.room, capture_output=True, text=True, check=False)
+    found = []
+    for kind, file, text in (("node", "typed.ts", TYPED), ("nodenext", "typed.mts", TYPED + TYPED_IMPORT)):
+        (node.room / file).write_text(text)
+        module = "es2022" if kind == "node" else kind
+        words = [tsc, "--noEmit", "--strict", "--target", "es2022", "--module", module, "--moduleResolution", kind, file]
+        ended = subprocess.run(words, cwd=node.room, capture_output=True, text=True, check=False)
+        if ended.returncode:
+            found.append(f"tsc, {kind}: {ended.stdout[:1500]}")
     print("bindings: the package for JavaScript: its types checked by tsc")
-    return [f"tsc: {ended.stdout[:1500]}"] if ended.returncode else []
+    return found
 
 
 def page_examples(node):

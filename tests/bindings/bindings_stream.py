@@ -7,6 +7,7 @@ After each refresh of a random text, the HTML is that of html for the whole text
 dropped. Then wrong chunks, which change nothing, and a push during a refresh in another thread. tests/bindings/run calls this with the
 installed package, for some thousand pushes. With --quick the library is that of make quick.
 """
+import copy
 import functools
 import operator
 import os
@@ -121,20 +122,33 @@ def raised(call, *words, **options):
 def wrong_calls(package):
     """Wrong chunks and settings, as an object to compare: the exception of each, and whether the stream is as before."""
     found = []
-    for before, chunk in ((b"# a\n\n\xc3", b"!"), (b"# a\n\n\xc3", "b"), (b"# a\n\n\xc3", b"\xa9\xff"), ("# a\n\nb", b"\xa9"), ("# a\n\nb", "\ud800"), ("# a\n\nb", 3), ("# a\n\nb", None)):
+    for before, chunk in ((b"# a\n\n\xc3", b"!"), (b"# a\n\n\xc3", "b"), (b"# a\n\n\xc3", b"\xa9\xff"), ("# a\n\nb", b"\xa9"), ("# a\n\nb", b"\xed\xa0"), (b"# a\n\n\xed", b"\xbf"), ("# a\n\nb", "\ud800"), ("# a\n\nb", 3), ("# a\n\nb", None)):
         stream = package.Stream()
         stream.push(before)
         stream.refresh()
         state = stream.text, stream.html, stream.ends_inside_character
         found.append((raised(stream.push, chunk), (stream.text, stream.html, stream.ends_inside_character) == state))
-    made = [raised(package.Stream, **it) for it in ({"options": 1}, {"options": -1}, {"options": "2"}, {"expansion_limit": -1}, {"expansion_limit": "2"}, {"schemes": [1], "safe": True})]
+    made = [raised(package.Stream, **it) for it in ({"options": 1}, {"options": -1}, {"options": "2"}, {"expansion_limit": -1}, {"expansion_limit": "2"}, {"schemes": [1], "safe": True}, {"schemes": ["tel"]}, {"schemes": ["tel:"], "safe": True}, {"schemes": "tel", "safe": True})]
     return found, [*made, raised(package.Stream, 2)]
 
 
 WRONG = (
-    [(UnicodeDecodeError, True)] * 4 + [(UnicodeEncodeError, True)] + [(TypeError, True)] * 2,
-    [ValueError, ValueError, TypeError, ValueError, TypeError, TypeError, TypeError],
+    [(UnicodeDecodeError, True)] * 6 + [(UnicodeEncodeError, True)] + [(TypeError, True)] * 2,
+    [ValueError, ValueError, TypeError, ValueError, TypeError, TypeError, ValueError, ValueError, TypeError, TypeError],
 )
+
+
+def copies(package):
+    """Whether a push to a copy of a stream changes the copy alone, and a push to the stream the stream alone."""
+    stream = package.Stream()
+    stream.push(b"# a\n\nb\n\nc \xc3")
+    stream.refresh()
+    copied = copy.copy(stream)
+    copied.push(b"\xa9\n\nd\n\ne")
+    stream.push(b"\xbc\n\nf\n\ng")
+    changes = [it.refresh() for it in (copied, stream)]
+    texts = ["# a\n\nb\n\nc é\n\nd\n\ne", "# a\n\nb\n\nc ü\n\nf\n\ng"]
+    return changes == [package.Change.GROWN] * 2 and [(it.text, it.html) for it in (copied, stream)] == [(it, package.html(it)) for it in texts]
 
 
 def push_in_thread(package):
@@ -184,6 +198,7 @@ def faults(package, pushes=PUSHES, seed=1):
         trial.one_text()
     trial.judge("settled HTML was seen, and was dropped", (trial.settled > pushes // 20, trial.anew > pushes // 1000), (True, True))
     trial.judge("wrong calls", wrong_calls(package), WRONG)
+    trial.judge("a copy", copies(package), True)
     trial.judge("pushes during a refresh", pushes_in_thread(package), True)
     stream = package.Stream()
     trial.judge("refreshes that are due", due_refreshes(package), (True, True, True))

@@ -53,6 +53,11 @@ def calls(text: str) -> None:
     reveal_type(references(text)[0].title)  #: "Union[builtins.str, None]"
     reveal_type(Text("a")._replace(value="b"))  #: "pulldown_cmark._events.Text"
     reveal_type(Event("Text", "a"))  #: "pulldown_cmark._events.Event"
+    reveal_type(found[0][0])  #: "Any"
+    reveal_type(found[0][2:])  #: "builtins.tuple[Any, ...]"
+    reveal_type(len(found[0]))  #: "builtins.int"
+    reveal_type(found[0]._asdict())  #: "builtins.dict[builtins.str, Any]"
+    reveal_type(Text._fields)  #: "builtins.tuple[builtins.str, ...]"
     Link("Inlin", "/")  #: Argument 1 to "Link" has incompatible type
     Table(("left",))  #: Argument 1 to "Table" has incompatible type
     Text(3)  #: Argument 1 to "Text" has incompatible type "int"

@@ -3,7 +3,7 @@ from typing import Callable, Iterable, List, NamedTuple, Optional, Set, Tuple
 
 from ._events import Event
 from ._kinds import LinkType
-from ._library import Options, answer, bits_of, bytes_of, library, limit_of, list_of
+from ._library import Options, answer, bits_of, bytes_of, library, limit_of, schemes_of
 from ._lines import Text, continuations, in_characters
 from ._records import LABEL, LINK_TYPES, QUESTION, TITLE, Events, offsets_of, records_from, whole_records
 from ._writing import answer_of, records_of
@@ -60,7 +60,7 @@ def html(
     It is not safe to show if the text comes from a stranger: raw HTML is kept as it is, links may lead to ``javascript:``, and headings may
     have attributes such as ``onclick``. With ``safe=True`` it is safe: HTML is shown as text, a heading has no attribute but its anchor, and
     anchors and names of footnotes begin with ``user-content-``. Addresses are relative or begin with ``http:``, ``https:``, ``mailto:`` or
-    one of ``schemes``; ``javascript``, ``vbscript``, ``data`` and ``file`` are never taken from ``schemes``.
+    one of ``schemes``; ``javascript``, ``vbscript``, ``data`` and ``file`` are never taken from ``schemes``. A scheme has no colon.
 
     Once the destinations and titles of references have ``expansion_limit`` bytes in all, further references stay text. The default limit is
     100,000 bytes, or the length of the text if that is more.
@@ -68,17 +68,19 @@ def html(
     ``broken_link`` is asked about each link whose label has no definition, as by ``events``. A call takes at most one of ``safe``,
     ``expansion_limit`` and ``broken_link``.
 
-    Raises ``ValueError`` if it is given more of these, or bits that are no options; ``UnicodeError`` if the text is not UTF-8 or cannot be
-    encoded as UTF-8, and ``MemoryError`` if memory is refused.
+    Raises ``ValueError`` if it is given more of these, ``schemes`` without ``safe``, a name that is no scheme, or bits that are no options;
+    ``TypeError`` if an argument has a wrong type; ``UnicodeError`` if the text is not UTF-8 or cannot be encoded as UTF-8, and
+    ``MemoryError`` if memory is refused.
     """
+    listed = schemes_of(schemes, safe)
     if (bool(safe), expansion_limit is not None, broken_link is not None).count(True) > 1:
         raise ValueError("a call takes at most one of safe, expansion_limit and broken_link")
     if broken_link is not None:
         return render(events(text, options=options, broken_link=broken_link))
     data, bits = bytes_of(text), bits_of(options)
     room_len = 2 * len(data) + 256
-    if safe:
-        return answer(library.pcm_safe_html_with, room_len, data, bits, *list_of(schemes)).decode("utf-8")
+    if listed is not None:
+        return answer(library.pcm_safe_html_with, room_len, data, bits, *listed).decode("utf-8")
     if expansion_limit is not None:
         return answer(library.pcm_html_within, room_len, data, bits, limit_of(expansion_limit)).decode("utf-8")
     return answer(library.pcm_html, room_len, data, bits).decode("utf-8")
@@ -148,11 +150,13 @@ def render(events: Iterable[Event], *, safe: bool = False, schemes: Iterable[str
     in the events; with ``safe=True`` it is safe, as that of ``html``, whoever made the events. ``schemes`` is as for ``html``.
 
     Raises ``TypeError`` if a value does not have the type that its field has, ``ValueError`` if it is outside of the values that the field
-    takes, ``UnicodeError`` if a text cannot be encoded as UTF-8, and ``MemoryError`` if memory is refused.
+    takes, ``UnicodeError`` if a text cannot be encoded as UTF-8, and ``MemoryError`` if memory is refused. For ``schemes`` it raises what
+    ``html`` raises.
     """
+    listed = schemes_of(schemes, safe)
     records = whole_records(events) if isinstance(events, Events) else None
     if records is None:
         records = records_of(events)
-    if safe:
-        return answer(library.pcm_safe_render, len(records) + 256, records, *list_of(schemes)).decode("utf-8")
+    if listed is not None:
+        return answer(library.pcm_safe_render, len(records) + 256, records, *listed).decode("utf-8")
     return answer(library.pcm_render, len(records) + 256, records).decode("utf-8")

@@ -1,5 +1,5 @@
 """Events as values of Python."""
-from typing import TYPE_CHECKING, Any, Callable, Dict, Iterable, Iterator, List, NamedTuple, Tuple, Type, TypeVar, Union
+from typing import TYPE_CHECKING, Any, Callable, ClassVar, Dict, Iterable, Iterator, List, NamedTuple, Tuple, Type, TypeVar, Union, overload
 
 from ._ends import TagEnd
 from ._tags import Tag
@@ -14,6 +14,7 @@ if TYPE_CHECKING:
         tuple with patterns."""
 
         __match_args__ = ("name", "value", "start", "end")
+        _fields: ClassVar[Tuple[str, ...]]
 
         @property
         def name(self) -> str:
@@ -37,7 +38,18 @@ if TYPE_CHECKING:
         def __iter__(self) -> Iterator[Any]:
             ...
 
+        def __len__(self) -> int:
+            ...
+
+        @overload
+        def __getitem__(self, index: int) -> Any:
+            ...
+
+        @overload
         def __getitem__(self, index: slice) -> Tuple[Any, ...]:
+            ...
+
+        def _asdict(self) -> Dict[str, Any]:
             ...
 
 else:

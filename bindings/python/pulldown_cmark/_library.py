@@ -5,7 +5,8 @@ import functools
 import operator
 import os
 import pathlib
-from typing import Any, Callable, Dict, Iterable, List, NamedTuple, Tuple, Union
+import re
+from typing import Any, Callable, Dict, Iterable, List, NamedTuple, Optional, Tuple, Union
 
 from ._lines import Text
 
@@ -114,10 +115,27 @@ def limit_of(limit: int) -> int:
     return min(bytes_left, ctypes.c_size_t(-1).value)
 
 
-def list_of(schemes: Iterable[str]) -> Tuple[bytes, int]:
-    """A list of schemes as the library takes it, and its length."""
-    names = " ".join(schemes).encode("utf-8")
-    return names, len(names)
+# A scheme (RFC 3986, section 3.1).
+_SCHEME = re.compile(r"[a-z][a-z0-9+.-]*", re.ASCII | re.IGNORECASE)
+
+
+def schemes_of(schemes: Iterable[str], safe: bool) -> Optional[Tuple[bytes, int]]:
+    """The schemes for safe HTML as the library takes them, and their length in bytes; ``None`` if the HTML is not to be safe.
+
+    A caller who lists schemes wants safe HTML. So a list without ``safe`` is an error.
+    """
+    if isinstance(schemes, (str, bytes)):
+        raise TypeError(f"schemes are a list of names, not {type(schemes).__name__}")
+    listed = list(schemes)
+    names = " ".join(listed).encode("utf-8")
+    for name in listed:
+        if not _SCHEME.fullmatch(name):
+            raise ValueError(f"{name!r} is no scheme")
+    if safe:
+        return names, len(names)
+    if listed:
+        raise ValueError("schemes are for safe HTML: set safe=True too")
+    return None
 
 
 def _failure(status: int) -> Exception:

@@ -1,10 +1,16 @@
 """A text that grows at its end, with its HTML."""
 import codecs
+import copy
 import enum
 from typing import Iterable, List
 
-from ._library import Options, bits_of, bytes_of, library, limit_of, list_of, part_from
+from ._library import Options, bits_of, bytes_of, library, limit_of, part_from, schemes_of
 from ._lines import Text
+
+
+# Python's decoder keeps two bytes that only a surrogate begins with, and refuses them at the third one. These are their first byte, and the
+# least second one.
+_BEFORE_SURROGATES, _FIRST_SURROGATE = b"\xed", b"\xa0"
 
 
 class Change(enum.Enum):
@@ -36,7 +42,8 @@ class Stream:
     >>> stream.settled, stream.tail
     ('<h1>Soup</h1>\\n', '<p>Onions,\\nand *carr</p>\\n')
 
-    A stream is for one thread at a time. Raises ``ValueError`` for bits that are no options and for a limit below 0.
+    A stream is for one thread at a time. A copy is a stream of its own. Raises ``ValueError`` for bits that are no options, a limit below 0,
+    ``schemes`` without ``safe``, and a name that is no scheme; ``TypeError`` for an argument of a wrong type.
     """
 
     __slots__ = ("_bits", "_schemes", "_limit", "_text", "_decoder", "_cut", "_read", "_pieces", "_added", "_tail")
@@ -44,7 +51,7 @@ class Stream:
     def __init__(self, *, options: int = Options.NONE, safe: bool = False, schemes: Iterable[str] = (), expansion_limit: int = 100_000) -> None:
         self._bits = bits_of(options)
         self._limit = limit_of(expansion_limit)
-        self._schemes = list_of(schemes) if safe else None
+        self._schemes = schemes_of(schemes, safe)
         # The text in UTF-8, to which a push appends.
         self._text = bytearray()
         self._decoder = codecs.getincrementaldecoder("utf-8")()
@@ -56,6 +63,10 @@ class Stream:
         self._pieces: List[str] = []
         self._added = ""
         self._tail = ""
+
+    def __copy__(self) -> "Stream":
+        """A stream with the same text. A push to one of the two does not change the other."""
+        return copy.deepcopy(self)
 
     @property
     def text(self) -> str:
@@ -107,7 +118,11 @@ class Stream:
         """
         data, state = bytes_of(chunk), self._decoder.getstate()
         try:
-            self._text += self._decoder.decode(data).encode("utf-8")
+            added = self._decoder.decode(data).encode("utf-8")
+            begun = self._decoder.getstate()[0]
+            if begun[:1] == _BEFORE_SURROGATES and begun[1:] >= _FIRST_SURROGATE:
+                raise UnicodeDecodeError("utf-8", begun, 0, len(begun), "surrogates are no characters")
+            self._text += added
         except Exception:
             self._decoder.setstate(state)
             raise

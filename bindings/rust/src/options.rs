@@ -55,7 +55,7 @@ bitflags::bitflags! {
 const ALWAYS: u32 = (1 << 17) | (1 << 30);
 
 impl Options {
-    /// The rules that GitHub reads: tables, footnotes, strikethrough, task lists and alerts.
+    /// The rules that GitHub reads: tables, footnotes, strikethrough, task lists and alerts. Links by email address are always read.
     pub const GITHUB: Options = Options::ENABLE_TABLES
         .union(Options::ENABLE_FOOTNOTES)
         .union(Options::ENABLE_STRIKETHROUGH)
