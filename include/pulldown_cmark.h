@@ -70,7 +70,7 @@ enum pcm_options {
     PCM_ALL_ENTITIES = 1073741824 /* all names of the HTML Standard's list, in place of eleven */
 };
 
-/* The rules that GitHub reads, as the flag --github of the programs. */
+/* The rules that GitHub reads, as the flag --github of the programs. An address without < and > is no link, and no tag is filtered. */
 #define PCM_GITHUB (PCM_TABLES | PCM_FOOTNOTES | PCM_STRIKETHROUGH | PCM_TASKLISTS | PCM_GFM | PCM_EMAIL_AUTOLINKS)
 
 /* Writes the HTML of the text into room, and returns a status. *size is always written: the length of the HTML in bytes, or 0 if there
