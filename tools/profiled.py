@@ -24,10 +24,8 @@ MADE = ROOT / "bin" / "profiled"
 RUNTIME = "lib/clang/{major}/lib/linux/libclang_rt.profile-x86_64.a"
 # The profile covers only what the runs reach.
 WITH_PROFILE = ("-Wno-profile-instr-unprofiled", "-Wno-profile-instr-missing", "-Wno-backend-plugin")
-# Code is hot if it is among that with the greatest counts, which together have this part of all counts (in millionths). With LLVM's own part,
-# 990,000, the rarer forms of Markdown are not hot.
-HOT = ("-mllvm", "-profile-summary-cutoff-hot=999990")
-# How often a text of the table of tests is in its file. Each is short, and a profile counts how often code runs.
+# How often a text of the table of tests is in its file, and how often the library reads it alone. Each is short, and a profile counts how
+# often code runs. A call on a short text shows what each call does once.
 REPEATED = 20
 # The runs of each program on each text, by their arguments.
 RUNS = {"mdhtml": ([], ["--github"], ["--safe"]), "mdevents": ([], ["--github"])}
@@ -59,11 +57,23 @@ def texts(room):
     """The files that are read: the Markdown files of the repository, and a new file for each text of the table of tests."""
     listed = subprocess.run(["git", "ls-files", "-z", "*.md"], cwd=ROOT, capture_output=True, check=True).stdout.decode().split("\0")
     found = sorted(ROOT / it for it in listed if it)
-    rows = json.loads((ROOT / "tests" / "texts" / "rows.json").read_text())
-    for number, text in enumerate(dict.fromkeys(row["text"] for row in rows if "text" in row)):
+    for number, text in enumerate(rows()):
         file = room / f"{number}.md"
         file.write_text(f"{text}\n\n" * REPEATED, newline="")
         found.append(file)
+    return found
+
+
+def rows():
+    """The texts of the table of tests."""
+    return list(dict.fromkeys(row["text"] for row in json.loads((ROOT / "tests" / "texts" / "rows.json").read_text()) if "text" in row))
+
+
+def alone(room):
+    """A file for each text of the table of tests, which has the text once."""
+    found = [room / f"{number}.alone.md" for number, _ in enumerate(rows())]
+    for file, text in zip(found, rows()):
+        file.write_text(text, newline="")
     return found
 
 
@@ -73,8 +83,8 @@ def runs_of_program(name, program, files):
 
 
 def runs_of_library(program, files):
-    """The one call of the program that calls the counted library on all files."""
-    return [([program, *files], pathlib.Path(os.devnull))]
+    """The one call of the program that calls the counted library on all files, and on each text of the table of tests alone."""
+    return [([program, *files, *(it for it in alone(program.parent) for _ in range(REPEATED))], pathlib.Path(os.devnull))]
 
 
 def counts(tools, code, parts, calls, room, *how):
@@ -101,9 +111,9 @@ def compiled(tools, code, parts, calls, room):
     """The object code of a crate, compiled with a profile of its runs, which `calls` gives. `parts` are as for `counts`."""
     first = counts(tools, code, parts, calls, room / "first", "-fprofile-generate")
     with_first = merged(tools, first, room / "first.profile")
-    second = counts(tools, code, parts, calls, room / "second", with_first, "-fcs-profile-generate", *HOT, *WITH_PROFILE)
+    second = counts(tools, code, parts, calls, room / "second", with_first, "-fcs-profile-generate", *WITH_PROFILE)
     with_both = merged(tools, [*first, *second], room / "both.profile")
-    return code.compiled(room / "profiled.o", with_both, *HOT, *WITH_PROFILE)
+    return code.compiled(room / "profiled.o", with_both, *WITH_PROFILE)
 
 
 def caller(tools, room):
