@@ -3,7 +3,8 @@ use Rattle.std.specs.Prelude.{Option, Some, None, is_some, option_map, if◌then
 use Rattle.std.proofs.Common.{◌≡◌, ◌⊎◌, inl, inr, ℕ, suc, ◌+◌, ◌-◌, ◌<◌, ◌≤◌, ◌==◌, ◌&&◌, Bool, true, false, List, [], ◌∷◌, ◌++◌, length, drop, get_or, refl, sym, ap, subst, ◌∙◌, arith, length-drop, append_assoc, zero, true≢false}
 use Rattle.std.specs.List.{prefix_len}
 use Rattle.std.proofs.lemmas.Bool.{eq-eqb}
-use Rattle.std.proofs.lemmas.List.{append-nil, length_push, get_or_push}
+use Rattle.std.proofs.lemmas.List.{append-nil, get_or-drop, length_push, get_or_push}
+use Rattle.std.proofs.lemmas.List.Sums.{prefix_len_passes}
 use Rattle.std.proofs.lemmas.Option.{slice_get-get_or}
 use Rattle.cmark_grammar.specs.Answers.{Lookup}
 use Rattle.cmark_grammar.specs.CodeSpans.{is_backtick, backticks, code_in, code_text}
@@ -18,17 +19,18 @@ use Rattle.cmark_grammar.specs.Options.{Options}
 use Rattle.cmark_grammar.specs.Tokens.{slice, Entity, entity_in, is_punctuation}
 use Rattle.cmark_values.specs.Shown.{text_bytes}
 use Rattle.cmark_values.specs.declared.text.CowStr.{CowStr}
-use Rattle.cmark_span_scan.specs.Shown.{shown_code, IsCodeAt}
+use Rattle.cmark_span_scan.specs.Shown.{shown_code, ClosesFirst, IsCodeAt}
 use Rattle.cmark_span_scan.specs.declared.code.CodeSpan.{CodeSpan}
 use Rattle.cmark_link_scan.specs.Shown.{shown_break, IsBreakAt}
 use Rattle.cmark_link_scan.specs.declared.breaks.LineBreak as find
 use Rattle.cmark_inline.specs.Tokens.{whole, reading, begins_at, read_on, Says, IsItem, Puts, BeginsThere, Appends, Escapes, EscapesPipe, TakesEscaped}
-use Rattle.cmark_slots.specs.Slots.{byte_slots, PushesText}
+use Rattle.cmark_slots.specs.Slots.{before_backticks, byte_slots, PushesText}
 use Rattle.cmark_slots.specs.declared.slot.Slot.{Slot}
 use Rattle.cmark_slots.specs.declared.slot.SlotKind.{SlotKind}
 use Rattle.cmark_slots.specs.declared.slot.SlotKind.TheVariants as kind
 use Rattle.cmark_inline.specs.declared.state.InlineState.{InlineState}
 use Rattle.cmark_inline.specs.declared.step.Cursor.{Cursor}
+use Rattle.cmark_slots.proofs.Backticks.{before-run}
 use Rattle.cmark_inline.proofs.TokenSteps.{line-token, found-at-ending, slash-begins, slash-break-following, break-stands, code-begins, entity-begins, front, line-at-slash, slash-escapes, slash-pipe, slash-run, some-ticks}
 
 -- the other parts of a state stay
@@ -42,6 +44,13 @@ slots-alone old new e = kept old new (record old { slots = new.slots }) e refl
 pub at-byte : (text : List ℕ) (here : Cursor) (b : ℕ) → get_or text here.at 0 ≡ b → is_content b ≡ true → (b == 60) ≡ false → (b == 96) ≡ false → BeginsThere text here here.at
 at-byte text here b is content less tick =
     inl (refl, ap is_content is ∙ content, (λ e. absurd (true≢false (sym (eq-eqb b 60 (sym is ∙ e)) ∙ less))), λ e one two. absurd (true≢false (sym (eq-eqb b 96 (sym is ∙ e)) ∙ tick)))
+
+-- the content of a code span ends before the backticks at the span's end
+pub code-stops : (text : List ℕ) (at : ℕ) (span : CodeSpan) → IsCodeAt text at span → ClosesFirst text at span → before_backticks text span.end ≡ span.content_end
+code-stops text at span places first =
+    ap (before_backticks text) places.closes
+    ∙ before-run text span.content_end (backticks (drop at text)) first.begins (λ i lt.
+    ap is_backtick (sym (get_or-drop span.content_end text i 0)) ∙ prefix_len_passes is_backtick (drop span.content_end text) i 0 (subst (λ n. i < n) (sym first.whole) lt))
 
 module _ (o : Options) (l : Lookup) (cell : Bool) (text : List ℕ) (here : Cursor) (old new : InlineState) (next : Cursor) where
   -- only slots were appended
@@ -168,15 +177,15 @@ module _ (o : Options) (l : Lookup) (cell : Bool) (text : List ℕ) (here : Curs
 
   pub code-appends : (span : CodeSpan)
       → here.pending ≤ here.at → here.at < length text → get_or text here.at 0 ≡ 96
-      → option_map (shown_code text) (Some span) ≡ code_in (drop here.at text) → IsCodeAt text here.at span → next.at ≡ span.end → next.pending ≡ next.at
-      → Puts here.pending here.at (record { kind = kind.Code span.content_start span.content_end; start = here.at; end = span.end }) old.slots.items new.slots.items → new ≡ record old { slots = new.slots }
+      → option_map (shown_code text) (Some span) ≡ code_in (drop here.at text) → IsCodeAt text here.at span → ClosesFirst text here.at span → next.at ≡ span.end → next.pending ≡ next.at
+      → Puts here.pending here.at (record { kind = kind.Code span.content_start; start = here.at; end = span.end }) old.slots.items new.slots.items → new ≡ record old { slots = new.slots }
       → Appends o l cell text here old new next
-  code-appends span following lt byte value places at pending slots others =
+  code-appends span following lt byte value places first at pending slots others =
       let bytes : List ℕ = code_text (as_in cell (slice text span.content_start span.content_end)) in
       record {
         from = here.at;
         item = record { kind = Code bytes; start = here.at; end = span.end };
-        slot = record { kind = kind.Code span.content_start span.content_end; start = here.at; end = span.end };
+        slot = record { kind = kind.Code span.content_start; start = here.at; end = span.end };
         following = following;
         before = omega arith;
         blanks = λ k le high. absurd (omega (arith, le, high));
@@ -191,7 +200,7 @@ module _ (o : Options) (l : Lookup) (cell : Bool) (text : List ℕ) (here : Curs
         slots = slots;
         owned = [];
         texts = no-texts others;
-        is = record { start = refl; end = refl; says = refl };
+        is = record { start = refl; end = refl; says = ap (λ n. code_text (as_in cell (slice text span.content_start n))) (code-stops text here.at span places first) };
         others = slots-alone old new others;
       }
 

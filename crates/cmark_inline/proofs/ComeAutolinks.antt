@@ -36,7 +36,7 @@ use Rattle.cmark_inline.specs.Tokens.{AppendsAutolink, begins_at}
 use Rattle.cmark_inline.specs.declared.callback.BrokenLink.{BrokenLink}
 use Rattle.cmark_references.specs.declared.link.Link.{Link}
 use Rattle.cmark_slots.specs.declared.quote.PlacedQuote.{PlacedQuote}
-use Rattle.cmark_slots.specs.declared.slot.Element.TheVariants as element
+use Rattle.cmark_slots.specs.declared.slot.LinkElement.TheVariants as element
 use Rattle.cmark_slots.specs.declared.slot.Slot.{Slot}
 use Rattle.cmark_slots.specs.declared.slot.SlotKind.TheVariants as kind
 use Rattle.cmark_inline.specs.declared.state.InlineState.{InlineState}
@@ -94,7 +94,7 @@ module _ (leaf : LeafText) (reader : Reader) (read : Leaf) (place : ℕ → ℕ)
         let further = w.further in
         let within = w.within in
         let front : List Slot = a.slots.before in
-        let first : Slot = record { kind = kind.Begin (element.Autolink (length old.links.items)); start = here.at; end = next.at } in
+        let first : Slot = record { kind = kind.BeginLink element.Autolink (length old.links.items); start = here.at; end = next.at } in
         let middle : Slot = record { kind = kind.Text; start = here.at + 1; end = next.at - 1 } in
         let last : Slot = record { kind = kind.End; start = next.at - 1; end = next.at } in
         let more : List Slot = first ∷ (middle ∷ (last ∷ [])) in

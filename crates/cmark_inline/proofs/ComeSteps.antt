@@ -7,7 +7,7 @@ use Rattle.cmark_emphasis.specs.Shown.{shown_quote, shown_run}
 use Rattle.cmark_grammar.specs.CodeSpans.{backticks, code_in}
 use Rattle.cmark_grammar.specs.Columns.{is_blank_byte}
 use Rattle.cmark_grammar.specs.InlineTokens.{bracket, code_or, item_at}
-use Rattle.cmark_grammar.specs.Items.{ItemKind, Plain, Own, Code, Autolink, Delimiters, Quoted, Item, Token, Stands, Opens, Closes}
+use Rattle.cmark_grammar.specs.Items.{ItemKind, Plain, Own, Code, Autolink, Delimiters, Quoted, Item, Token, Stands, Opens}
 use Rattle.cmark_grammar.specs.LeafReading.{Between}
 use Rattle.cmark_grammar.specs.LeafText.{Leaf}
 use Rattle.cmark_grammar.specs.LinkDefinitions.{Parsed, after_leading_blanks}
@@ -38,7 +38,7 @@ use Rattle.cmark_inline.specs.Stands.{Flushes, Moves}
 use Rattle.cmark_slots.specs.Slots.{IsSlot}
 use Rattle.cmark_inline.specs.Tokens.{Appends, AppendsAutolink, AppendsQuote, AppendsRun, BeginsThere, Escapes, EscapesPipe, Passes, PassesOver, TakesEscaped, begins_at, reading, whole}
 use Rattle.cmark_inline.specs.declared.callback.BrokenLink.{BrokenLink}
-use Rattle.cmark_slots.specs.declared.slot.Element.TheVariants as element
+use Rattle.cmark_slots.specs.declared.slot.LinkElement.TheVariants as element
 use Rattle.cmark_slots.specs.declared.slot.Slot.{Slot}
 use Rattle.cmark_slots.specs.declared.slot.SlotKind.TheVariants as kind
 use Rattle.cmark_inline.specs.declared.state.InlineState.{InlineState}
@@ -278,7 +278,7 @@ module _ (leaf : LeafText) (reader : Reader) (read : Leaf) (place : ℕ → ℕ)
         where
           inside : at + 1 < next.at - 1
           inside =
-              let one : List Slot = a.slots.before ++ (record { kind = kind.Begin (element.Autolink (length old.links.items)); start = at; end = next.at } ∷ []) in
+              let one : List Slot = a.slots.before ++ (record { kind = kind.BeginLink element.Autolink (length old.links.items); start = at; end = next.at } ∷ []) in
               let uri : Slot = record { kind = kind.Text; start = at + 1; end = next.at - 1 } in
               let last : Slot = record { kind = kind.End; start = next.at - 1; end = next.at } in
               let n = length_push one uri in

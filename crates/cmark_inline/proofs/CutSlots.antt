@@ -26,7 +26,7 @@ use Rattle.cmark_inline_model.specs.Displays.{CutFacts, CutKind, OwnedFacts}
 use Rattle.cmark_inline_model.specs.LikeSlots.{IsLike, is_html}
 use Rattle.cmark_inline_model.specs.SlotRows as row
 use Rattle.cmark_inline.specs.Reached.{ReadsPlaces}
-use Rattle.cmark_slots.specs.SlotViews.{shown_slot, slot_as, text_at, written}
+use Rattle.cmark_slots.specs.SlotViews.{shown_slot, slot_as, text_at, written, written_code}
 use Rattle.cmark_slots.specs.Cuts.{cut_kind, cut_slot}
 use Rattle.cmark_references.specs.declared.link.Link.{Link}
 use Rattle.cmark_slots.specs.declared.slot.Slot.{Slot}
@@ -329,9 +329,9 @@ module _ (leaf : LeafText) (reader : Reader) (read : Leaf) (place : ℕ → ℕ)
       omega (arith, a, b, c, d, further))
   cut-as kind.SoftBreak h = as-other items.SoftBreak refl h.end event.SoftBreak tt (λ z. refl) h.event
   cut-as kind.HardBreak h = as-other items.HardBreak refl h.end event.HardBreak tt (λ z. refl) h.event
-  cut-as (kind.Code from to) h = as-other (items.Code (code_text (as_in (is_cell_of leaf) (written leaf from to)))) refl h.end _ tt (λ z. refl) h.event
-  cut-as (kind.InlineMath from to) h = as-other (items.InlineMath (as_in (is_cell_of leaf) (written leaf from to))) refl h.end _ tt (λ z. refl) h.event
-  cut-as (kind.DisplayMath from to) h = as-other (items.DisplayMath (as_in (is_cell_of leaf) (written leaf from to))) refl h.end _ tt (λ z. refl) h.event
+  cut-as (kind.Code from) h = as-other (items.Code (code_text (as_in (is_cell_of leaf) (written_code leaf from e)))) refl h.end _ tt (λ z. refl) h.event
+  cut-as (kind.InlineMath from) h = as-other (items.InlineMath (as_in (is_cell_of leaf) (written leaf from (e - 1)))) refl h.end _ tt (λ z. refl) h.event
+  cut-as (kind.DisplayMath from) h = as-other (items.DisplayMath (as_in (is_cell_of leaf) (written leaf from (e - 2)))) refl h.end _ tt (λ z. refl) h.event
   cut-as (kind.FootnoteReference index) h = as-other (items.FootnoteReference (text_at texts index)) refl h.end _ tt (λ z. refl) h.event
   cut-as kind.InlineHtml h = go (takes_lines (slice txt s e)) refl (html-kind src (written leaf s e) x x.kind h.event)
     where
@@ -365,7 +365,8 @@ module _ (leaf : LeafText) (reader : Reader) (read : Leaf) (place : ℕ → ℕ)
           let o = owned-lines (slice src (place_of leaf s) end) is in
           let same : slice src x.start x.end ≡ slice src (place_of leaf s) end = ap (λ n. slice src n x.end) (sym h.start) ∙ ap (slice src (place_of leaf s)) (sym h.end) in
           absurd (true≢false (line-kinds _ _ true h.start h.end h.lines (ap takes_lines same ∙ o) ∙ ap is_html is))
-  cut-as (kind.Begin element) h = absurd (let z : ⊥ = cc in z)
+  cut-as (kind.Begin mark) h = absurd (let z : ⊥ = cc in z)
+  cut-as (kind.BeginLink element index) h = absurd (let z : ⊥ = cc in z)
   cut-as kind.End h = absurd (let z : ⊥ = cc in z)
   cut-as kind.Nothing h = absurd (let z : ⊥ = cc in z)
 

@@ -6,10 +6,10 @@ use Rattle.cmark_references.specs.Links.{shown_link}
 use Rattle.cmark_references.specs.declared.link.Link.{Link}
 use Rattle.cmark_inline.specs.Closers.{Deactivates, DeactivatesAfter, Drops, LeavesElement}
 use Rattle.cmark_inline.specs.declared.state.InlineState.{InlineState}
-use Rattle.cmark_slots.specs.SlotViews.{shown_element}
+use Rattle.cmark_slots.specs.SlotViews.{link_tag, linked_at}
 use Rattle.cmark_slots.specs.Slots.{AreBrackets, AreFree}
 use Rattle.cmark_slots.specs.declared.bracket.Brackets.{Brackets}
-use Rattle.cmark_slots.specs.declared.slot.Element.TheVariants as element
+use Rattle.cmark_slots.specs.declared.slot.LinkElement.TheVariants as element
 use Rattle.cmark_slots.specs.declared.slot.Slot.{Slot}
 use Rattle.cmark_inline.proofs.ElementWrites.{image-shown, link-shown}
 
@@ -38,6 +38,6 @@ leaves-element false start old mid new same drops brackets doubled = record {
 }
 
 -- the tag of a link or an image whose parts are the last of the table
-pub linked-shown : (is_image : Bool) (links : List Link) (parts : Link) (index : ℕ) → index ≡ length links → shown_element (links ++ (parts ∷ [])) (if is_image then element.Image index else element.Link index) ≡ tag_by is_image (shown_link parts)
+pub linked-shown : (is_image : Bool) (links : List Link) (parts : Link) (index : ℕ) → index ≡ length links → link_tag (if is_image then element.Image else element.Link) (linked_at (links ++ (parts ∷ [])) index) ≡ tag_by is_image (shown_link parts)
 linked-shown true links parts index e = image-shown links parts index e
 linked-shown false links parts index e = link-shown links parts index e

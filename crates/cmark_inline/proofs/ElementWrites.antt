@@ -16,7 +16,7 @@ use Rattle.cmark_inline_model.specs.SlotRows.{marks_by}
 use Rattle.cmark_slots.specs.MarkedSlots.{begun_as, places_of, siblings_from}
 use Rattle.cmark_slots.specs.QuoteSlots.{characters_of}
 use Rattle.cmark_references.specs.Links.{shown_link}
-use Rattle.cmark_slots.specs.SlotViews.{first_of, linked_or_none, shown_element, shown_slot, shown_slots}
+use Rattle.cmark_slots.specs.SlotViews.{first_of, link_tag, linked_at, linked_or_none, shown_slot, shown_slots}
 use Rattle.cmark_slots.specs.Standing.{AreNamed, CanSettle}
 use Rattle.cmark_slots.specs.Slots.{AreSlots}
 use Rattle.cmark_inline.specs.FormedSlots.{WritesElement, dressed_after, end_slot, wrapped}
@@ -25,9 +25,10 @@ use Rattle.cmark_emphasis.specs.declared.run.PlacedRun.{PlacedRun}
 use Rattle.cmark_references.specs.declared.link.Link.{Link}
 use Rattle.cmark_inline.specs.declared.link.Target.{Target}
 use Rattle.cmark_slots.specs.declared.quote.PlacedQuote.{PlacedQuote}
-use Rattle.cmark_slots.specs.declared.slot.Element.{Element}
-use Rattle.cmark_slots.specs.declared.slot.Element.TheVariants as element
+use Rattle.cmark_slots.specs.declared.slot.LinkElement.{LinkElement}
+use Rattle.cmark_slots.specs.declared.slot.LinkElement.TheVariants as element
 use Rattle.cmark_slots.specs.declared.slot.Slot.{Slot}
+use Rattle.cmark_slots.specs.declared.slot.SlotKind.TheVariants as kind
 use Rattle.cmark_inline.specs.declared.state.InlineState.{InlineState}
 use Rattle.cmark_slots.proofs.Marks.{no-slot}
 use Rattle.cmark_slots.proofs.Longer.{get-last, shown-longer}
@@ -35,17 +36,17 @@ use Rattle.cmark_slots.proofs.RunPlaces.{all-ahead}
 use Rattle.cmark_inline.proofs.Wrapping.{AreInside, ahead-inside, dressed-wrapped, texts-inside}
 
 -- the tag of a link or an image whose parts are the last of the table
-pub link-shown : (links : List Link) (parts : Link) (index : ℕ) → index ≡ length links → shown_element (links ++ (parts ∷ [])) (element.Link index) ≡ tag_by false (shown_link parts)
-link-shown links parts index e = ap (λ i. shown_element (links ++ (parts ∷ [])) (element.Link i)) e ∙ ap (λ o. tag_by false (linked_or_none o)) (get-last links parts)
+pub link-shown : (links : List Link) (parts : Link) (index : ℕ) → index ≡ length links → link_tag element.Link (linked_at (links ++ (parts ∷ [])) index) ≡ tag_by false (shown_link parts)
+link-shown links parts index e = ap (λ i. link_tag element.Link (linked_at (links ++ (parts ∷ [])) i)) e ∙ ap (λ o. tag_by false (linked_or_none o)) (get-last links parts)
 
-pub image-shown : (links : List Link) (parts : Link) (index : ℕ) → index ≡ length links → shown_element (links ++ (parts ∷ [])) (element.Image index) ≡ tag_by true (shown_link parts)
-image-shown links parts index e = ap (λ i. shown_element (links ++ (parts ∷ [])) (element.Image i)) e ∙ ap (λ o. tag_by true (linked_or_none o)) (get-last links parts)
+pub image-shown : (links : List Link) (parts : Link) (index : ℕ) → index ≡ length links → link_tag element.Image (linked_at (links ++ (parts ∷ [])) index) ≡ tag_by true (shown_link parts)
+image-shown links parts index e = ap (λ i. link_tag element.Image (linked_at (links ++ (parts ∷ [])) i)) e ∙ ap (λ o. tag_by true (linked_or_none o)) (get-last links parts)
 
 larger : (m n : ℕ) → m ≤ n → max m n ≡ n
 larger m n le = omega (arith, le)
 
-module _ (leaf : LeafText) (texts : List CowStr) (links links1 : List Link) (at : ℕ) (slots : List Slot) (there : at < length slots) (element : Element) (tag : Tag) (shows : shown_element links1 element ≡ tag) (close end : ℕ) (s d : Slot) (before : (get_or slots at d).end ≤ end)
-    (same : shown_slots leaf texts links1 slots ≡ shown_slots leaf texts links slots) (begins : s ≡ begun_as element end (get_or slots at d)) where
+module _ (leaf : LeafText) (texts : List CowStr) (links links1 : List Link) (at : ℕ) (slots : List Slot) (there : at < length slots) (element : LinkElement) (index : ℕ) (tag : Tag) (shows : link_tag element (linked_at links1 index) ≡ tag) (close end : ℕ) (s d : Slot) (before : (get_or slots at d).end ≤ end)
+    (same : shown_slots leaf texts links1 slots ≡ shown_slots leaf texts links slots) (begins : s ≡ begun_as (kind.BeginLink element index) end (get_or slots at d)) where
   abbrev begin : row.Slot
   begin = row.BeginSlot tag (first_of leaf (get_or slots at d)) (place_of leaf (end - 1) + 1)
 
@@ -76,15 +77,15 @@ module _ (leaf : LeafText) (texts : List CowStr) (links links1 : List Link) (at 
       ∙ dressed-wrapped options at begin places (marks_by (length places) pairs) quoted_at (characters_of (drop bracket.quotes quotes)) shown (let q : at < length shown = omega (arith, n, there) in q) inside among
 
 -- the slots after the calls for the link or the image
-pub writes-element : (options : Options) (bracket : Bracket) (target : Target) (old new : InlineState) (element : Element) → bracket.slot < length old.slots.items → (close : ℕ) (text : List ℕ) → AreSlots text close old.slots.items → close < target.end
+pub writes-element : (options : Options) (bracket : Bracket) (target : Target) (old new : InlineState) (element : LinkElement) (index : ℕ) → bracket.slot < length old.slots.items → (close : ℕ) (text : List ℕ) → AreSlots text close old.slots.items → close < target.end
     → AreNamed (length old.texts.items) (length old.links.items) old.slots.items → CanSettle (bracket.slot + 1) old.slots.items (drop bracket.runs old.delimiters.placed.items) (drop bracket.quotes old.quotes.placed.items)
-    → new.texts.items ≡ old.texts.items → new.links.items ≡ old.links.items ++ (target.link ∷ []) → shown_element (old.links.items ++ (target.link ∷ [])) element ≡ tag_by bracket.is_image (shown_link target.link)
+    → new.texts.items ≡ old.texts.items → new.links.items ≡ old.links.items ++ (target.link ∷ []) → link_tag element (linked_at (old.links.items ++ (target.link ∷ [])) index) ≡ tag_by bracket.is_image (shown_link target.link)
     → new.delimiters.placed.items ≡ take bracket.runs old.delimiters.placed.items → new.quotes.placed.items ≡ take bracket.quotes old.quotes.placed.items
     → ((leaf : LeafText) (pairs : List Pair) (spans : Spans) → IsEmphasis (siblings_from 0 (drop bracket.runs old.delimiters.placed.items)) pairs spans → shown_slots leaf new.texts.items new.links.items new.slots.items
-    ≡ dressed_after options bracket pairs old.delimiters.placed.items old.quotes.placed.items (shown_slots leaf new.texts.items new.links.items (set old.slots.items bracket.slot (begun_as element target.end (get_or old.slots.items bracket.slot no-slot)) ++ (end_slot close target.end ∷ []))))
+    ≡ dressed_after options bracket pairs old.delimiters.placed.items old.quotes.placed.items (shown_slots leaf new.texts.items new.links.items (set old.slots.items bracket.slot (begun_as (kind.BeginLink element index) target.end (get_or old.slots.items bracket.slot no-slot)) ++ (end_slot close target.end ∷ []))))
     → old.delimiters.examined + least_examined (runs_of (siblings_from 0 (drop bracket.runs old.delimiters.placed.items))) ≤ new.delimiters.examined
     → WritesElement options bracket target old new
-writes-element options bracket target old new element there close text stand following named can texts links shows runs quotes dressed examined = record {
+writes-element options bracket target old new element index there close text stand following named can texts links shows runs quotes dressed examined = record {
   forgets = record { runs = runs; quotes = quotes; examined = omega (arith, examined) };
   examined = examined;
   slots = λ leaf pairs spans d emphasis.
@@ -94,9 +95,9 @@ writes-element options bracket target old new element there close text stand fol
       shown-longer leaf old.texts.items old.texts.items [] old.links.items new.links.items (target.link ∷ []) slots (sym (append-nil old.texts.items)) links named in
       let first : get_or slots at no-slot ≡ get_or slots at d = get_or_default slots at no-slot d there in
       let e = (stand at d there).before in
-      let made : Slot = begun_as element target.end (get_or slots at no-slot) in
+      let made : Slot = begun_as (kind.BeginLink element index) target.end (get_or slots at no-slot) in
       dressed leaf pairs spans emphasis
       ∙ ap (λ l. dressed_after options bracket pairs old.delimiters.placed.items old.quotes.placed.items (shown_slots leaf l new.links.items (set slots at made ++ (end_slot close target.end ∷ [])))) texts
-      ∙ element-dressed leaf old.texts.items old.links.items new.links.items at slots there element (tag_by bracket.is_image (shown_link target.link)) (ap (λ l. shown_element l element) links ∙ shows) close target.end made d
-      (let q : (get_or slots at d).end ≤ target.end = omega (arith, e, following) in q) same (ap (begun_as element target.end) first) options bracket pairs old.delimiters.placed.items old.quotes.placed.items refl can;
+      ∙ element-dressed leaf old.texts.items old.links.items new.links.items at slots there element index (tag_by bracket.is_image (shown_link target.link)) (ap (λ l. link_tag element (linked_at l index)) links ∙ shows) close target.end made d
+      (let q : (get_or slots at d).end ≤ target.end = omega (arith, e, following) in q) same (ap (begun_as (kind.BeginLink element index) target.end) first) options bracket pairs old.delimiters.placed.items old.quotes.placed.items refl can;
 }

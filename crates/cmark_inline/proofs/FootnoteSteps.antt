@@ -18,7 +18,6 @@ use Rattle.cmark_leaf_text.specs.Reads.{IsPart}
 use Rattle.cmark_inline.specs.Footnoted.{CountsOf, KeepsLabel, as_label, fits_footnote, footnote_after, footnote_label, footnote_of, labels, no_leaf, reference_start, unless_footnote}
 use Rattle.cmark_slots.specs.Slots.{IsBracket}
 use Rattle.cmark_slots.specs.declared.bracket.Bracket.{Bracket}
-use Rattle.cmark_slots.specs.declared.slot.SlotKind.TheVariants as kind
 
 -- ## Labels
 

@@ -1,6 +1,7 @@
 -- Slots that represent the formula that a dollar sign opens, or the dollar sign.
 use Rattle.std.specs.Prelude.{Option, Some, None, option_map, if◌then◌else◌}
 use Rattle.std.proofs.Common.{◌≡◌, ℕ, suc, ◌+◌, ◌-◌, ◌<◌, ◌≤◌, ◌&&◌, Bool, true, false, List, [], length, drop, get_or, refl, sym, ap, subst, ◌∙◌, arith, length-drop, drop-drop}
+use Rattle.std.specs.Str.{IsCharBoundary}
 use Rattle.cmark_grammar.specs.Answers.{Lookup}
 use Rattle.cmark_grammar.specs.Formulas.{Braces, is_dollar, no_braces, braces_after, inline_in, display_in}
 use Rattle.cmark_grammar.specs.InlineTokens.{as_in, is_plain, item_at, before, dollar, formula_or, place_of}
@@ -10,10 +11,11 @@ use Rattle.cmark_grammar.specs.LinkDefinitions.{Parsed}
 use Rattle.cmark_grammar.specs.Options.{Options}
 use Rattle.cmark_grammar.specs.Readers.{Reader}
 use Rattle.cmark_grammar.specs.Tokens.{slice}
-use Rattle.cmark_span_scan.specs.Dollars.{IsFormulaAt, braces_at, formula_at, shown_formula}
+use Rattle.cmark_span_scan.specs.Dollars.{IsFormulaAt, braces_at, formula_at, shown_formula, signs_of}
 use Rattle.cmark_span_scan.specs.declared.dollars.Formula.{Formula}
 use Rattle.cmark_values.specs.declared.text.CowStr.{CowStr}
 use Rattle.cmark_inline.specs.Tokens.{whole, reading, begins_at, Says, Puts, Appends}
+use Rattle.cmark_slots.specs.Slots.{IsContent}
 use Rattle.cmark_slots.specs.declared.slot.SlotKind.{SlotKind}
 use Rattle.cmark_slots.specs.declared.slot.SlotKind.TheVariants as kind
 use Rattle.cmark_inline.specs.declared.state.InlineState.{InlineState}
@@ -26,8 +28,16 @@ abbrev pub kind_by : (is_display : Bool) → List ℕ → ItemKind
 kind_by true = DisplayMath
 kind_by false = InlineMath
 
-abbrev pub slot_kind_by : (is_display : Bool) → (from to : ℕ) → SlotKind
-slot_kind_by is_display from to = if is_display then kind.DisplayMath from to else kind.InlineMath from to
+abbrev pub slot_kind_by : (is_display : Bool) → (from : ℕ) → SlotKind
+slot_kind_by is_display from = if is_display then kind.DisplayMath from else kind.InlineMath from
+
+-- the content of a formula is a part of the text
+pub formula-content : (text : List ℕ) (at : ℕ) (formula : Formula) → IsFormulaAt text at formula → IsContent text formula.end (slot_kind_by formula.is_display formula.content_start)
+formula-content text at formula h = go formula.is_display h.closes
+  where
+    go : (z : Bool) → formula.end ≡ formula.content_end + signs_of z → IsContent text formula.end (slot_kind_by z formula.content_start)
+    go true e = record { starts = h.starts; signs_there = omega (arith, e); ends = subst (IsCharBoundary text) (let q : formula.content_end ≡ formula.end - 2 = omega (arith, e) in q) h.stops }
+    go false e = record { starts = h.starts; signs_there = omega (arith, e); ends = subst (IsCharBoundary text) (let q : formula.content_end ≡ formula.end - 1 = omega (arith, e) in q) h.stops }
 
 module _ (o : Options) (l : Lookup) (cell : Bool) (text : List ℕ) (at : ℕ) (lt : at < length text) (is : get_or text at 0 ≡ 36) (math : o.math ≡ true) where
   abbrev r : Reader
@@ -61,9 +71,9 @@ module _ (o : Options) (l : Lookup) (cell : Bool) (text : List ℕ) (here : Curs
   formula-ends : (end : ℕ) → end ≤ length text → place_of (reading o l text) (whole cell text) (drop end text) ≡ end
   formula-ends end le = let d = length-drop end text in let q : length text - length (drop end text) ≡ end = omega (arith, d, le) in q
 
-  says-by : (texts : List CowStr) (start end from to : ℕ) (double : Bool) → Says cell text texts start end (kind_by double (as_in cell (slice text from to))) (slot_kind_by double from to)
-  says-by texts start end from to true = refl
-  says-by texts start end from to false = refl
+  says-by : (texts : List CowStr) (start end from to : ℕ) (double : Bool) → end ≡ to + signs_of double → Says cell text texts start end (kind_by double (as_in cell (slice text from to))) (slot_kind_by double from)
+  says-by texts start end from to true e = ap (λ n. as_in cell (slice text from n)) (let q : end - 2 ≡ to = omega (arith, e) in q)
+  says-by texts start end from to false e = ap (λ n. as_in cell (slice text from n)) (let q : end - 1 ≡ to = omega (arith, e) in q)
 
   not-plain : (double : Bool) (bytes : List ℕ) → is_plain (kind_by double bytes) ≡ false
   not-plain true bytes = refl
@@ -72,7 +82,7 @@ module _ (o : Options) (l : Lookup) (cell : Bool) (text : List ℕ) (here : Curs
   pub formula-appends : (formula : Formula) (k : SlotKind)
       → here.pending ≤ here.at → here.at < length text → get_or text here.at 0 ≡ 36 → o.math ≡ true
       → option_map (shown_formula text) (Some formula) ≡ formula_at text here.at → formula.is_display ≡ first_is is_dollar (drop (here.at + 1) text) → IsFormulaAt text here.at formula
-      → k ≡ slot_kind_by formula.is_display formula.content_start formula.content_end
+      → k ≡ slot_kind_by formula.is_display formula.content_start
       → next.at ≡ formula.end → next.pending ≡ next.at
       → Puts here.pending here.at (record { kind = k; start = here.at; end = formula.end }) old.slots.items new.slots.items → new ≡ record old { slots = new.slots }
       → Appends o l cell text here old new next
@@ -96,7 +106,7 @@ module _ (o : Options) (l : Lookup) (cell : Bool) (text : List ℕ) (here : Curs
         slots = slots;
         owned = [];
         texts = no-texts o l cell text here old new next others;
-        is = record { start = refl; end = refl; says = subst (Says cell text new.texts.items here.at formula.end (kind_by formula.is_display bytes)) (sym k-is) (says-by new.texts.items here.at formula.end formula.content_start formula.content_end formula.is_display) };
+        is = record { start = refl; end = refl; says = subst (Says cell text new.texts.items here.at formula.end (kind_by formula.is_display bytes)) (sym k-is) (says-by new.texts.items here.at formula.end formula.content_start formula.content_end formula.is_display places.closes) };
         others = slots-alone old new others;
       }
 

@@ -17,7 +17,7 @@ use Rattle.cmark_inline_model.specs.LikeSlots.{IsLike, is_html}
 use Rattle.cmark_inline_model.specs.PlacedTokens.{AreLeafPlaces, may_open_markup, is_as_written, placed_item}
 use Rattle.cmark_inline_model.specs.SlotRows.{ItemSlot}
 use Rattle.cmark_inline_model.proofs.TogetherTokens.{byte-lines, byte-together}
-use Rattle.cmark_slots.specs.SlotViews.{first_of, slot_end, written, bytes_or_none, text_at, slot_as, shown_slot}
+use Rattle.cmark_slots.specs.SlotViews.{first_of, slot_end, written, written_code, bytes_or_none, text_at, slot_as, shown_slot}
 use Rattle.cmark_inline.specs.Tokens.{begins_at, Says, IsItem}
 use Rattle.cmark_references.specs.declared.link.Link.{Link}
 use Rattle.cmark_slots.specs.declared.slot.Slot.{Slot}
@@ -63,9 +63,9 @@ module _ (leaf : LeafText) (reader : Reader) (read : Leaf) (place : ℕ → ℕ)
     item-like Own kind.Text b none says = gives (Written (written leaf slot.start slot.end)) Own (λ q. refl) (λ i j y. ap event.Text (written_is ∙ sym (b refl)))
     item-like (Written bs) (kind.OwnedText index) b none says = gives (Written (text_at texts index)) (Written bs) (λ q. refl) (λ i j y. ap event.Text (ap bytes_or_none says.1 ∙ says.2))
     item-like (Written bs) (kind.Character character) b none says = gives (Written (encode_utf8 character)) (Written bs) (λ q. refl) (λ i j y. ap event.Text says)
-    item-like (Code bs) (kind.Code from to) b none says = gives (Code (code_text (as_in (is_cell_of leaf) (written leaf from to)))) (Code bs) (λ q. refl) (λ i j y. ap event.Code says)
-    item-like (InlineMath bs) (kind.InlineMath from to) b none says = gives (InlineMath (as_in (is_cell_of leaf) (written leaf from to))) (InlineMath bs) (λ q. refl) (λ i j y. ap event.InlineMath says)
-    item-like (DisplayMath bs) (kind.DisplayMath from to) b none says = gives (DisplayMath (as_in (is_cell_of leaf) (written leaf from to))) (DisplayMath bs) (λ q. refl) (λ i j y. ap event.DisplayMath says)
+    item-like (Code bs) (kind.Code from) b none says = gives (Code (code_text (as_in (is_cell_of leaf) (written_code leaf from slot.end)))) (Code bs) (λ q. refl) (λ i j y. ap event.Code says)
+    item-like (InlineMath bs) (kind.InlineMath from) b none says = gives (InlineMath (as_in (is_cell_of leaf) (written leaf from (slot.end - 1)))) (InlineMath bs) (λ q. refl) (λ i j y. ap event.InlineMath says)
+    item-like (DisplayMath bs) (kind.DisplayMath from) b none says = gives (DisplayMath (as_in (is_cell_of leaf) (written leaf from (slot.end - 2)))) (DisplayMath bs) (λ q. refl) (λ i j y. ap event.DisplayMath says)
     item-like Html kind.InlineHtml b none says =
         gives (OwnedHtml (written leaf slot.start slot.end)) Html
         (λ q. absurd (true≢false (sym q ∙ ap takes_lines (ap (λ n. slice reader.source n (slot_end leaf slot)) first_is ∙ ap (slice reader.source (place s)) past_is ∙ b refl) ∙ none refl))) (λ i j y. ap event.InlineHtml (written_is ∙ sym (b refl)))

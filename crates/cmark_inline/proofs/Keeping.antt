@@ -21,7 +21,7 @@ use Rattle.cmark_slots.specs.declared.bracket.Bracket.{Bracket}
 use Rattle.cmark_emphasis.specs.declared.run.PlacedRun.{PlacedRun}
 use Rattle.cmark_references.specs.declared.link.Link.{Link}
 use Rattle.cmark_slots.specs.declared.quote.PlacedQuote.{PlacedQuote}
-use Rattle.cmark_slots.specs.declared.slot.Element.TheVariants as element
+use Rattle.cmark_slots.specs.declared.slot.LinkElement.TheVariants as element
 use Rattle.cmark_inline.specs.declared.markup.FoundHtml.{FoundHtml}
 use Rattle.cmark_slots.specs.declared.slot.Slot.{Slot}
 use Rattle.cmark_slots.specs.declared.slot.SlotKind.{SlotKind}
@@ -110,7 +110,7 @@ module _ (old between new : InlineState) (start text_end : ℕ) (slot : Slot) (p
 
 module _ (old new : InlineState) (start at end : ℕ) (puts : PutsAutolink (length old.links.items) start at end old.slots.items new.slots.items) (parts : Link) (links : new.links.items ≡ old.links.items ++ (parts ∷ [])) (others : new ≡ record old { slots = new.slots; links = new.links }) where
   abbrev first : Slot
-  first = record { kind = kind.Begin (element.Autolink (length old.links.items)); start = at; end = end }
+  first = record { kind = kind.BeginLink element.Autolink (length old.links.items); start = at; end = end }
 
   abbrev uri : Slot
   uri = record { kind = kind.Text; start = at + 1; end = end - 1 }
@@ -177,9 +177,9 @@ pub break-alone : (z : Bool) → StandsAlone (if z then kind.HardBreak else kind
 break-alone true = ((refl, refl, refl), λ i. refl)
 break-alone false = ((refl, refl, refl), λ i. refl)
 
-pub formula-alone : (z : Bool) (from to : ℕ) → StandsAlone (if z then kind.DisplayMath from to else kind.InlineMath from to)
-formula-alone true from to = ((refl, refl, refl), λ i. refl)
-formula-alone false from to = ((refl, refl, refl), λ i. refl)
+pub formula-alone : (z : Bool) (from : ℕ) → StandsAlone (if z then kind.DisplayMath from else kind.InlineMath from)
+formula-alone true from = ((refl, refl, refl), λ i. refl)
+formula-alone false from = ((refl, refl, refl), λ i. refl)
 
 -- ## A call that leaves slots and brackets unchanged
 

@@ -1,6 +1,6 @@
 -- With one slot more, the grammar's pass has read the item that the slot represents. The opening brackets stay.
 use Rattle.std.specs.Prelude.{Option, option_map, map}
-use Rattle.std.proofs.Common.{◌≡◌, ℕ, ◌+◌, ◌≤◌, Bool, true, List, [], ◌∷◌, ◌++◌, refl, sym, ap, ◌∙◌, subst, arith}
+use Rattle.std.proofs.Common.{◌≡◌, ℕ, ◌≤◌, Bool, true, List, [], ◌∷◌, ◌++◌, refl, sym, ap, ◌∙◌, subst, arith}
 use Rattle.cmark_grammar.specs.BracketStates.{Opener, State, moved}
 use Rattle.cmark_grammar.specs.InlineTokens.{token}
 use Rattle.cmark_grammar.specs.Items.{ItemKind, Stands}

@@ -20,7 +20,7 @@ use Rattle.cmark_inline.specs.Hiding.{AreLeft, WritesShown}
 use Rattle.cmark_slots.specs.MarkedSlots.{SameBefore, begun_as, places_of, siblings_from}
 use Rattle.cmark_slots.specs.QuoteSlots.{characters_of}
 use Rattle.cmark_references.specs.Links.{shown_link}
-use Rattle.cmark_slots.specs.SlotViews.{first_of, shown_element, shown_slot, shown_slots}
+use Rattle.cmark_slots.specs.SlotViews.{first_of, link_tag, linked_at, shown_slot, shown_slots}
 use Rattle.cmark_slots.specs.Standing.{AreNamed, AreSound, CanSettle}
 use Rattle.cmark_slots.specs.Slots.{AreSlots}
 use Rattle.cmark_slots.specs.Cuts.{Hides, hidden}
@@ -31,8 +31,8 @@ use Rattle.cmark_slots.specs.declared.bracket.Brackets.{Brackets}
 use Rattle.cmark_emphasis.specs.declared.run.PlacedRun.{PlacedRun}
 use Rattle.cmark_references.specs.declared.link.Link.{Link}
 use Rattle.cmark_slots.specs.declared.quote.PlacedQuote.{PlacedQuote}
-use Rattle.cmark_slots.specs.declared.slot.Element.{Element}
-use Rattle.cmark_slots.specs.declared.slot.Element.TheVariants as element
+use Rattle.cmark_slots.specs.declared.slot.LinkElement.{LinkElement}
+use Rattle.cmark_slots.specs.declared.slot.LinkElement.TheVariants as element
 use Rattle.cmark_slots.specs.declared.slot.Slot.{Slot}
 use Rattle.cmark_slots.specs.declared.slot.SlotKind.TheVariants as kind
 use Rattle.cmark_inline.specs.declared.state.InlineState.{InlineState}
@@ -54,20 +54,20 @@ named-shown wikilink parts h =
     ∙ ap (λ x. all (link.WikiLink (has_pothole wikilink.display)) wikilink.name.now x (shown_link parts).id) h.title
     ∙ ap (λ x. all (link.WikiLink (has_pothole wikilink.display)) wikilink.name.now [] x) h.id
 
-wiki-shown : (wikilink : Wikilink) (links : List Link) (parts : Link) (index : ℕ) (z : Bool) (made : Element) → IsNamed wikilink parts → index ≡ length links → made ≡ (if z then element.Image index else element.Link index)
-    → shown_element (links ++ (parts ∷ [])) made ≡ wiki_tag z wikilink.name.now (has_pothole wikilink.display)
-wiki-shown wikilink links parts index true made h e is = ap (shown_element (links ++ (parts ∷ []))) is ∙ image-shown links parts index e ∙ ap (tag_by true) (named-shown wikilink parts h)
-wiki-shown wikilink links parts index false made h e is = ap (shown_element (links ++ (parts ∷ []))) is ∙ link-shown links parts index e ∙ ap (tag_by false) (named-shown wikilink parts h)
+wiki-shown : (wikilink : Wikilink) (links : List Link) (parts : Link) (index : ℕ) (z : Bool) (made : LinkElement) → IsNamed wikilink parts → index ≡ length links → made ≡ (if z then element.Image else element.Link)
+    → link_tag made (linked_at (links ++ (parts ∷ [])) index) ≡ wiki_tag z wikilink.name.now (has_pothole wikilink.display)
+wiki-shown wikilink links parts index true made h e is = ap (λ m. link_tag m (linked_at (links ++ (parts ∷ [])) index)) is ∙ image-shown links parts index e ∙ ap (tag_by true) (named-shown wikilink parts h)
+wiki-shown wikilink links parts index false made h e is = ap (λ m. link_tag m (linked_at (links ++ (parts ∷ [])) index)) is ∙ link-shown links parts index e ∙ ap (tag_by false) (named-shown wikilink parts h)
 
 -- ## The slots that the calls write
 
-pub writes-shown : (options : Options) (text : List ℕ) (doubled : Bracket) (close : ℕ) (wikilink : Wikilink) (old new : InlineState) (parts : Link) (index : ℕ) (made : Element) (shown : List Slot) (inside : Bracket)
+pub writes-shown : (options : Options) (text : List ℕ) (doubled : Bracket) (close : ℕ) (wikilink : Wikilink) (old new : InlineState) (parts : Link) (index : ℕ) (made : LinkElement) (shown : List Slot) (inside : Bracket)
     → (at : ℕ) × Shows text doubled close wikilink old.slots.items shown at × AreLeft at old.delimiters.placed.items old.quotes.placed.items doubled inside
     → doubled.slot < length old.slots.items → length old.slots.items ≤ length shown → SameBefore (doubled.slot + 1) old.slots.items shown → AreSlots text close old.slots.items → AreNamed (length old.texts.items) (length old.links.items) shown
     → CanSettle (doubled.slot + 1) shown (drop inside.runs old.delimiters.placed.items) (drop inside.quotes old.quotes.placed.items) → new.texts.items ≡ old.texts.items → new.links.items ≡ old.links.items ++ (parts ∷ []) → IsNamed wikilink parts
-    → index ≡ length old.links.items → made ≡ (if doubled.is_image then element.Image index else element.Link index) → Forgets doubled old new
+    → index ≡ length old.links.items → made ≡ (if doubled.is_image then element.Image else element.Link) → Forgets doubled old new
     → ((leaf : LeafText) (pairs : List Pair) (spans : Spans) → IsEmphasis (siblings_from 0 (drop inside.runs old.delimiters.placed.items)) pairs spans → shown_slots leaf new.texts.items new.links.items new.slots.items
-    ≡ dressed_after options inside pairs old.delimiters.placed.items old.quotes.placed.items (shown_slots leaf new.texts.items new.links.items (set shown doubled.slot (begun_as made (close + 2) (get_or shown doubled.slot no-slot)) ++ (end_slot close (close + 2) ∷ []))))
+    ≡ dressed_after options inside pairs old.delimiters.placed.items old.quotes.placed.items (shown_slots leaf new.texts.items new.links.items (set shown doubled.slot (begun_as (kind.BeginLink made index) (close + 2) (get_or shown doubled.slot no-slot)) ++ (end_slot close (close + 2) ∷ []))))
     → WritesShown options text doubled close wikilink old new
 writes-shown options text doubled close wikilink old new parts index made shown inside is there longer before stand named can texts links is_named is_index is_made forgets dressed = record {
   forgets = forgets;
@@ -90,10 +90,10 @@ writes-shown options text doubled close wikilink old new parts index made shown 
       let begin : Slot → ℕ → row.Slot = λ s n. row.BeginSlot tag (first_of leaf s) (place_of leaf n + 1) in
       let around : row.Slot → List row.Slot = λ b. wrapped at b (dressed_after options inside pairs old.delimiters.placed.items old.quotes.placed.items (shown_slots leaf old.texts.items old.links.items shown)) in
       dressed leaf pairs spans emphasis
-      ∙ ap (λ l. dressed_after options inside pairs old.delimiters.placed.items old.quotes.placed.items (shown_slots leaf l new.links.items (set shown at (begun_as made end (get_or shown at no-slot)) ++ (end_slot close end ∷ [])))) texts
-      ∙ element-dressed leaf old.texts.items old.links.items new.links.items at shown there1 made tag
-      (ap (λ l. shown_element l made) links ∙ wiki-shown wikilink old.links.items parts index doubled.is_image made is_named is_index is_made) close end (begun_as made end (get_or shown at no-slot)) d
-      (subst (λ (s : Slot). s.end ≤ end) (sym kept) low) same (ap (begun_as made end) first) options inside pairs old.delimiters.placed.items old.quotes.placed.items is.2.slot can
+      ∙ ap (λ l. dressed_after options inside pairs old.delimiters.placed.items old.quotes.placed.items (shown_slots leaf l new.links.items (set shown at (begun_as (kind.BeginLink made index) end (get_or shown at no-slot)) ++ (end_slot close end ∷ [])))) texts
+      ∙ element-dressed leaf old.texts.items old.links.items new.links.items at shown there1 made index tag
+      (ap (λ l. link_tag made (linked_at l index)) links ∙ wiki-shown wikilink old.links.items parts index doubled.is_image made is_named is_index is_made) close end (begun_as (kind.BeginLink made index) end (get_or shown at no-slot)) d
+      (subst (λ (s : Slot). s.end ≤ end) (sym kept) low) same (ap (begun_as (kind.BeginLink made index) end) first) options inside pairs old.delimiters.placed.items old.quotes.placed.items is.2.slot can
       ∙ ap around (ap (λ s. begin s (end - 1)) kept ∙ ap (begin (get_or old.slots.items at d)) (let q : end - 1 ≡ close + 1 = omega arith in q));
 }
 

@@ -47,6 +47,6 @@ pub record IsSizeIn (bytes : List ℕ) (size : ℕ) : Type 0 where
 -- what was found can be a slot: it is a part of the text, it begins no link, and it ends at a character boundary of the source
 pub record CanBeSlot (leaf : LeafText) (text : List ℕ) (at : ℕ) (found : FoundHtml) : Type 0 where
   pub part : IsPart text at found.end
-  pub content : IsContent text found.kind
+  pub content : IsContent text found.end found.kind
   pub kind_is : begins_link found.kind ≡ false
   pub edge : (end : ℕ) → found.kind ≡ kind.SourceHtml end → IsCharBoundary (source_of leaf) end

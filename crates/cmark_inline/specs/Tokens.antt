@@ -22,9 +22,9 @@ use Rattle.cmark_emphasis.specs.declared.run.Run.{Run}
 use Rattle.cmark_values.specs.Shown.{text_bytes}
 use Rattle.cmark_values.specs.declared.text.CowStr.{CowStr}
 use Rattle.cmark_inline.specs.Linked.{IsAutolink}
-use Rattle.cmark_slots.specs.Slots.{PushesText, byte_slots}
+use Rattle.cmark_slots.specs.Slots.{PushesText, before_backticks, byte_slots}
 use Rattle.cmark_references.specs.declared.link.Link.{Link}
-use Rattle.cmark_slots.specs.declared.slot.Element.TheVariants as element
+use Rattle.cmark_slots.specs.declared.slot.LinkElement.TheVariants as element
 use Rattle.cmark_slots.specs.declared.slot.Slot.{Slot}
 use Rattle.cmark_slots.specs.declared.slot.SlotKind.{SlotKind}
 use Rattle.cmark_slots.specs.declared.slot.SlotKind.TheVariants as kind
@@ -68,9 +68,9 @@ Says is_cell text texts start end Plain kind.Text = Unit {0}
 Says is_cell text texts start end Own kind.Text = Unit {0}
 Says is_cell text texts start end (Written bytes) (kind.OwnedText index) = (owned : CowStr) × (slice_get texts index ≡ Some owned) × (text_bytes owned ≡ bytes)
 Says is_cell text texts start end (Written bytes) (kind.Character character) = encode_utf8 character ≡ bytes
-Says is_cell text texts start end (Code bytes) (kind.Code from to) = code_text (as_in is_cell (slice text from to)) ≡ bytes
-Says is_cell text texts start end (InlineMath bytes) (kind.InlineMath from to) = as_in is_cell (slice text from to) ≡ bytes
-Says is_cell text texts start end (DisplayMath bytes) (kind.DisplayMath from to) = as_in is_cell (slice text from to) ≡ bytes
+Says is_cell text texts start end (Code bytes) (kind.Code from) = code_text (as_in is_cell (slice text from (before_backticks text end))) ≡ bytes
+Says is_cell text texts start end (InlineMath bytes) (kind.InlineMath from) = as_in is_cell (slice text from (end - 1)) ≡ bytes
+Says is_cell text texts start end (DisplayMath bytes) (kind.DisplayMath from) = as_in is_cell (slice text from (end - 2)) ≡ bytes
 Says is_cell text texts start end Html kind.InlineHtml = Unit {0}
 Says is_cell text texts start end (OwnedHtml bytes) kind.InlineHtml = slice text start end ≡ bytes
 Says is_cell text texts start end SoftBreak kind.SoftBreak = Unit {0}
@@ -93,7 +93,7 @@ pub record PutsAutolink (index start at end : ℕ) (old new : List Slot) : Type 
   pub before : List Slot
   pub text : PushesText start at old before
   pub slots_are :
-      new ≡ ((before ++ (record { kind = kind.Begin (element.Autolink index); start = at; end = end } ∷ []))
+      new ≡ ((before ++ (record { kind = kind.BeginLink element.Autolink index; start = at; end = end } ∷ []))
       ++ (record { kind = kind.Text; start = at + 1; end = end - 1 } ∷ []))
       ++ (record { kind = kind.End; start = end - 1; end = end } ∷ [])
 

@@ -225,10 +225,11 @@ impl<'a> InlineState<'a> {
             → AreEnded leaf self.new.slots.items) }
     {
         let Target { link, end, .. } = target;
-        let element = linked_element(bracket.is_image, self.links.len());
+        let element = linked_element(bracket.is_image);
+        let kind = SlotKind::BeginLink(element, self.links.len());
         self.links.push(link)?;
         self.doubled.drop_after(bracket.start);
-        begin(&mut self.slots, bracket.slot, element, end);
+        begin(&mut self.slots, bracket.slot, kind, end);
         self.finish(options, bracket, close, end)?;
         self.deactivate_after(bracket.is_image);
         Ok(())

@@ -62,13 +62,13 @@ impl<'a> InlineState<'a> {
 fn kind_of(formula: Formula) -> SlotKind
     ensures value { result
         ≡
-        (if formula.is_display then slot_kind.DisplayMath formula.content_start formula.content_end
-        else slot_kind.InlineMath formula.content_start formula.content_end) }
+        (if formula.is_display then slot_kind.DisplayMath formula.content_start
+        else slot_kind.InlineMath formula.content_start) }
     ensures link { begins_link result ≡ false }
 {
     if formula.is_display {
-        SlotKind::DisplayMath(formula.content_start, formula.content_end)
+        SlotKind::DisplayMath(formula.content_start)
     } else {
-        SlotKind::InlineMath(formula.content_start, formula.content_end)
+        SlotKind::InlineMath(formula.content_start)
     }
 }

@@ -136,7 +136,7 @@ fn opens_in_source(text: &str, at: usize) -> bool
 fn tag(text: &str, at: usize) -> Option<FoundHtml>
     requires { IsCharBoundary text.now at }
     ensures part { IfSome result (λ found. IsPart text.now at found.end) }
-    ensures content { IfSome result (λ found. IsContent text.now found.kind) }
+    ensures content { IfSome result (λ found. IsContent text.now found.end found.kind) }
     ensures kind { IfSome result (λ found. begins_link found.kind ≡ false) }
     ensures edge { IfSome result (λ found. (end : ℕ) → found.kind ≡ slot_kind.SourceHtml end → ⊥) }
     ensures is { IfSome result

@@ -28,7 +28,7 @@ use crate::step::Cursor;
 use cmark_leaf_text::LeafText;
 use cmark_references::Link;
 use cmark_scan_bytes::has_scheme;
-use cmark_slots::slot::{Element, Slot, SlotKind};
+use cmark_slots::slot::{LinkElement, Slot, SlotKind};
 use cmark_slots::text::text_between;
 use cmark_span_scan::BacktickRuns;
 use cmark_text::{CowStr, LinkType, Options};
@@ -71,7 +71,7 @@ impl<'a> InlineState<'a> {
     {
         if let Some(span) = runs.code_span(text, here.at)? {
             let slot = Slot {
-                kind: SlotKind::Code(span.content_start, span.content_end),
+                kind: SlotKind::Code(span.content_start),
                 start: here.at,
                 end: span.end,
             };
@@ -158,7 +158,7 @@ impl<'a> InlineState<'a> {
     {
         let dest_url = text_between(self.alloc, leaf, here.at + 1, end - 1)?;
         let slot = Slot {
-            kind: SlotKind::Begin(Element::Autolink(self.links.len())),
+            kind: SlotKind::BeginLink(LinkElement::Autolink, self.links.len()),
             start: here.at,
             end,
         };

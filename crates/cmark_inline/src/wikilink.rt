@@ -10,8 +10,7 @@ ghost use Rattle.cmark_grammar.specs.Letters.{first_is};
 ghost use Rattle.cmark_inline.specs.AtCloser.{FormsPair, FormsWikilink, HidesSlots, IsInside, IsPair, KeepsLimits, StandsSound, TriesPair};
 ghost use Rattle.cmark_inline.specs.TextOf.{IsTextOf};
 ghost use Rattle.cmark_slots.specs.Doubled.{nearest};
-ghost use Rattle.cmark_slots.specs.SlotViews.{link_of};
-ghost use Rattle.cmark_slots.specs.declared.slot.Element.TheVariants as element;
+ghost use Rattle.cmark_slots.specs.declared.slot.LinkElement.TheVariants as element;
 ghost use Rattle.cmark_inline.specs.Hiding.{AreLeft};
 ghost use Rattle.cmark_slots.specs.Standing.{AreEnded, EndsIn};
 ghost use Rattle.cmark_inline.specs.Sound.{IsSound};
@@ -27,7 +26,7 @@ use cmark_leaf_text::LeafText;
 use cmark_references::Link;
 use cmark_scan_bytes::scan_wikilink_pipe;
 use cmark_slots::bracket::Bracket;
-use cmark_slots::slot::{Element, SlotKind, begin, cut, first_after, hide, push_slot};
+use cmark_slots::slot::{LinkElement, SlotKind, begin, cut, first_after, hide, push_slot};
 use cmark_text::{CowStr, LinkType, Options};
 use std::alloc::AllocError;
 
@@ -88,15 +87,14 @@ fn wikilink_at<'a>(
     })
 }
 
-// The element of the link with this index, or of the image if `is_image`.
-pub(crate) fn linked_element(is_image: bool, index: usize) -> Element
-    ensures value { result ≡ (if is_image then element.Image index else element.Link index) }
-    ensures names { link_of result ≡ Some index }
+// The element of a link, or of an image if `is_image`.
+pub(crate) fn linked_element(is_image: bool) -> LinkElement
+    ensures { result ≡ (if is_image then element.Image else element.Link) }
 {
     if is_image {
-        Element::Image(index)
+        LinkElement::Image
     } else {
-        Element::Link(index)
+        LinkElement::Link
     }
 }
 
@@ -191,8 +189,13 @@ impl<'a> InlineState<'a> {
         let index = self.links.len();
         self.links.push(named_link(wikilink))?;
         let inside = self.show(text, doubled, close, wikilink)?;
-        let element = linked_element(doubled.is_image, index);
-        begin(&mut self.slots, doubled.slot, element, end);
+        let element = linked_element(doubled.is_image);
+        begin(
+            &mut self.slots,
+            doubled.slot,
+            SlotKind::BeginLink(element, index),
+            end,
+        );
         self.finish(options, inside, close, end)?;
         self.quotes.truncate(doubled.quotes);
         self.delimiters.truncate(doubled.runs);

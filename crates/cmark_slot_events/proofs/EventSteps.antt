@@ -15,11 +15,11 @@ use Rattle.cmark_values.specs.declared.text.CowStr.{CowStr}
 use Rattle.cmark_text.specs.Ranged.{shown_ranged}
 use Rattle.cmark_text.specs.declared.ranged.Ranged.{Ranged as Given}
 use Rattle.cmark_slot_events.specs.Longs.{is_long}
-use Rattle.cmark_slots.specs.SlotViews.{slot_as, shown_slot, shown_slots, first_of, slot_end, text_named, link_of, link_named, shown_element, IsThere, Differ, AreOnce, EndsAfter, CanBeGiven}
+use Rattle.cmark_slots.specs.SlotViews.{slot_as, shown_slot, shown_slots, first_of, slot_end, text_named, link_named, link_tag, linked_at, IsThere, Differ, AreOnce, EndsAfter, CanBeGiven}
 use Rattle.cmark_slot_events.specs.Events.{shown_open, shown_opened, events_of, event_as, held_in, KeepsOthers}
 use Rattle.cmark_slot_events.specs.declared.leaf_events.Opened.{Opened}
 use Rattle.cmark_references.specs.declared.link.Link.{Link}
-use Rattle.cmark_slots.specs.declared.slot.Element.{Element}
+use Rattle.cmark_slots.specs.declared.slot.LinkElement.{LinkElement}
 use Rattle.cmark_slots.specs.declared.slot.Slot.{Slot}
 use Rattle.cmark_slots.specs.declared.slot.SlotKind.{SlotKind}
 use Rattle.cmark_slots.specs.declared.slot.SlotKind.TheVariants as kind
@@ -97,25 +97,25 @@ module _ (leaf : LeafText) (texts : List CowStr) (links : List Link) (slot : Slo
   by-kind : (k : SlotKind) → slot.kind ≡ k → events_of leaf texts links (slot ∷ slots) opened ≡ slot_events (source_of leaf) (slot_as leaf texts links slot k ∷ shown_slots leaf texts links slots) (shown_opened opened)
   by-kind k e = ap (λ (x : SlotKind). slot_events (source_of leaf) (slot_as leaf texts links slot x ∷ shown_slots leaf texts links slots) (shown_opened opened)) e
 
-  abbrev begins : Element → Ranged
-  begins e = over (source_of leaf) (first_of leaf slot) (slot_end leaf slot) (event.Start (shown_element links e))
+  abbrev begins : LinkElement → (index : ℕ) → Ranged
+  begins e index = over (source_of leaf) (first_of leaf slot) (slot_end leaf slot) (event.Start (link_tag e (linked_at links index)))
 
-  abbrev closes : Element → Ranged
-  closes e = over (source_of leaf) (first_of leaf slot) (slot_end leaf slot) (event.End (end_of (shown_element links e)))
+  abbrev closes : LinkElement → (index : ℕ) → Ranged
+  closes e index = over (source_of leaf) (first_of leaf slot) (slot_end leaf slot) (event.End (end_of (link_tag e (linked_at links index))))
 
   -- an element begins
-  begin-first : (texts1 : List CowStr) (links1 : List Link) (opened1 : List Opened) (given : Given) (e : Element) → slot.kind ≡ kind.Begin e → CanBeGiven leaf texts links (slot ∷ slots)
-      → texts1 ≡ texts → KeepsOthers (link_of e) links links1 → shown_ranged given ≡ begins e → shown_opened opened1 ≡ closes e ∷ shown_opened opened
+  begin-first : (texts1 : List CowStr) (links1 : List Link) (opened1 : List Opened) (given : Given) (e : LinkElement) (index : ℕ) → slot.kind ≡ kind.BeginLink e index → CanBeGiven leaf texts links (slot ∷ slots)
+      → texts1 ≡ texts → KeepsOthers (Some index) links links1 → shown_ranged given ≡ begins e index → shown_opened opened1 ≡ closes e index ∷ shown_opened opened
       → events_of leaf texts links (slot ∷ slots) opened ≡ shown_ranged given ∷ events_of leaf texts1 links1 slots opened1
-  begin-first texts1 links1 opened1 given e is h ts ls g o =
+  begin-first texts1 links1 opened1 given e index is h ts ls g o =
       let seen = seen-following leaf texts texts1 links links1 slot slots h (keeps-same (text_named slot.kind) texts texts1 ts) (subst (λ (k : SlotKind). KeepsOthers (link_named k) links links1) (sym is) ls) in
-      by-kind (kind.Begin e) is
-      ∙ ap (λ l. begins e ∷ slot_events (source_of leaf) (shown_slots leaf texts links slots) l) (sym o)
-      ∙ ap (λ l. begins e ∷ slot_events (source_of leaf) l (shown_opened opened1)) (sym seen)
+      by-kind (kind.BeginLink e index) is
+      ∙ ap (λ l. begins e index ∷ slot_events (source_of leaf) (shown_slots leaf texts links slots) l) (sym o)
+      ∙ ap (λ l. begins e index ∷ slot_events (source_of leaf) l (shown_opened opened1)) (sym seen)
       ∙ ap (λ x. x ∷ events_of leaf texts1 links1 slots opened1) (sym g)
 
   -- a slot with a text, whose range is the range of its bytes
-  single-kind : (k : SlotKind) → is_long k ≡ true → ((end : ℕ) → k ≡ kind.SourceHtml end → ⊥) → ((end : ℕ) → k ≡ kind.SourceText end → ⊥) → (k ≡ kind.Empty → ⊥) → ((e : Element) → k ≡ kind.Begin e → ⊥)
+  single-kind : (k : SlotKind) → is_long k ≡ true → ((end : ℕ) → k ≡ kind.SourceHtml end → ⊥) → ((end : ℕ) → k ≡ kind.SourceText end → ⊥) → (k ≡ kind.Empty → ⊥) → ((e : LinkElement) (index : ℕ) → k ≡ kind.BeginLink e index → ⊥)
       → (rows : List row.Slot) (ends : List Ranged) → slot_events (source_of leaf) (slot_as leaf texts links slot k ∷ rows) ends ≡ over (source_of leaf) (first_of leaf slot) (slot_end leaf slot) (event_as k (held_in leaf texts slot k)) ∷ slot_events (source_of leaf) rows ends
   single-kind (kind.Whole last) long html text empty begin rows ends = cc
   single-kind kind.SoftBreak long html text empty begin rows ends = cc
@@ -123,13 +123,14 @@ module _ (leaf : LeafText) (texts : List CowStr) (links : List Link) (slot : Slo
   single-kind (kind.SourceHtml place) long html text empty begin rows ends = absurd (html place refl)
   single-kind (kind.SourceText place) long html text empty begin rows ends = absurd (text place refl)
   single-kind kind.Empty long html text empty begin rows ends = absurd (empty refl)
-  single-kind (kind.Begin e) long html text empty begin rows ends = absurd (begin e refl)
+  single-kind (kind.Begin mark) long html text empty begin rows ends = cc
+  single-kind (kind.BeginLink e index) long html text empty begin rows ends = absurd (begin e index refl)
   single-kind kind.End long html text empty begin rows ends = cc
   single-kind kind.Nothing long html text empty begin rows ends = cc
   single-kind _ long html text empty begin rows ends = refl
 
   single-first : (texts1 : List CowStr) (links1 : List Link) (opened1 : List Opened) (given : Given) → is_long slot.kind ≡ true → ((end : ℕ) → slot.kind ≡ kind.SourceHtml end → ⊥) → ((end : ℕ) → slot.kind ≡ kind.SourceText end → ⊥) → (slot.kind ≡ kind.Empty → ⊥)
-      → ((e : Element) → slot.kind ≡ kind.Begin e → ⊥) → CanBeGiven leaf texts links (slot ∷ slots) → KeepsOthers (text_named slot.kind) texts texts1 → links1 ≡ links → opened1 ≡ opened
+      → ((e : LinkElement) (index : ℕ) → slot.kind ≡ kind.BeginLink e index → ⊥) → CanBeGiven leaf texts links (slot ∷ slots) → KeepsOthers (text_named slot.kind) texts texts1 → links1 ≡ links → opened1 ≡ opened
       → shown_ranged given ≡ over (source_of leaf) (first_of leaf slot) (slot_end leaf slot) (event_as slot.kind (held_in leaf texts slot slot.kind))
       → events_of leaf texts links (slot ∷ slots) opened ≡ shown_ranged given ∷ events_of leaf texts1 links1 slots opened1
   single-first texts1 links1 opened1 given long html text empty begin h ts ls o is =
@@ -143,14 +144,14 @@ module _ (leaf : LeafText) (texts : List CowStr) (links : List Link) (slot : Slo
   abbrev Gives-first : {E : Type 0} → Result Given E → (texts1 : List CowStr) (links1 : List Link) (opened1 : List Opened) → Type 0
   Gives-first result texts1 links1 opened1 = IfOk result (λ given. events_of leaf texts links (slot ∷ slots) opened ≡ shown_ranged given ∷ events_of leaf texts1 links1 slots opened1)
 
-  pub begin-given : {E : Type 0} (result : Result Given E) (texts1 : List CowStr) (links1 : List Link) (opened1 : List Opened) (e : Element) → slot.kind ≡ kind.Begin e → CanBeGiven leaf texts links (slot ∷ slots)
-      → texts1 ≡ texts → KeepsOthers (link_of e) links links1 → IfOk result (λ start. shown_ranged start ≡ begins e) → OnOk result (shown_opened opened1 ≡ closes e ∷ shown_opened opened)
+  pub begin-given : {E : Type 0} (result : Result Given E) (texts1 : List CowStr) (links1 : List Link) (opened1 : List Opened) (e : LinkElement) (index : ℕ) → slot.kind ≡ kind.BeginLink e index → CanBeGiven leaf texts links (slot ∷ slots)
+      → texts1 ≡ texts → KeepsOthers (Some index) links links1 → IfOk result (λ start. shown_ranged start ≡ begins e index) → OnOk result (shown_opened opened1 ≡ closes e index ∷ shown_opened opened)
       → Gives-first result texts1 links1 opened1
-  begin-given (Ok start) texts1 links1 opened1 e is h ts ls g o = begin-first texts1 links1 opened1 start e is h ts ls g o
-  begin-given (Err error) texts1 links1 opened1 e is h ts ls g o = tt
+  begin-given (Ok start) texts1 links1 opened1 e index is h ts ls g o = begin-first texts1 links1 opened1 start e index is h ts ls g o
+  begin-given (Err error) texts1 links1 opened1 e index is h ts ls g o = tt
 
   pub single-given : {E : Type 0} (result : Result Given E) (texts1 : List CowStr) (links1 : List Link) (opened1 : List Opened) → is_long slot.kind ≡ true → ((end : ℕ) → slot.kind ≡ kind.SourceHtml end → ⊥) → ((end : ℕ) → slot.kind ≡ kind.SourceText end → ⊥) → (slot.kind ≡ kind.Empty → ⊥)
-      → ((e : Element) → slot.kind ≡ kind.Begin e → ⊥) → CanBeGiven leaf texts links (slot ∷ slots) → KeepsOthers (text_named slot.kind) texts texts1 → links1 ≡ links → opened1 ≡ opened
+      → ((e : LinkElement) (index : ℕ) → slot.kind ≡ kind.BeginLink e index → ⊥) → CanBeGiven leaf texts links (slot ∷ slots) → KeepsOthers (text_named slot.kind) texts texts1 → links1 ≡ links → opened1 ≡ opened
       → IfOk result (λ single. shown_ranged single ≡ over (source_of leaf) (first_of leaf slot) (slot_end leaf slot) (event_as slot.kind (held_in leaf texts slot slot.kind)))
       → Gives-first result texts1 links1 opened1
   single-given (Ok single) texts1 links1 opened1 long html text empty begin h ts ls o g = single-first texts1 links1 opened1 single long html text empty begin h ts ls o g

@@ -20,8 +20,8 @@ use Rattle.cmark_slot_events.specs.Events.{events_of, shown_opened}
 use Rattle.cmark_slots.specs.SlotViews.{first_of, linked_or_none, shown_slots, slot_as, slot_end}
 use Rattle.cmark_slots.specs.Slots.{AreSlots}
 use Rattle.cmark_slot_events.specs.declared.leaf_events.Opened.{Opened}
-use Rattle.cmark_slots.specs.declared.slot.Element.{Element}
-use Rattle.cmark_slots.specs.declared.slot.Element.TheVariants as element
+use Rattle.cmark_slots.specs.declared.slot.LinkElement.{LinkElement}
+use Rattle.cmark_slots.specs.declared.slot.LinkElement.TheVariants as element
 use Rattle.cmark_slots.specs.declared.slot.Slot.{Slot}
 use Rattle.cmark_slots.specs.declared.slot.SlotKind.{SlotKind}
 use Rattle.cmark_slots.specs.declared.slot.SlotKind.TheVariants as kind
@@ -64,13 +64,13 @@ module _ (leaf : LeafText) (texts : List CowStr) (links : List Link) (slot : Slo
   abbrev started : Option Link → List Ranged → List Ranged
   started found ends = here (event.Start (tag.Link (linked_or_none found))) ∷ following (here (event.End end.Link) ∷ ends)
 
-  element-starts : (e : Element) (link : Link) (ends : List Ranged) → link_as links e ≡ Some link → from (kind.Begin e) ends ≡ started (Some link) ends
-  element-starts (element.Link index) link ends h = ap (λ found. started found ends) h
-  element-starts (element.Autolink index) link ends h = ap (λ found. started found ends) h
-  element-starts e link ends h = cc
+  element-starts : (e : LinkElement) (index : ℕ) (link : Link) (ends : List Ranged) → link_as links e index ≡ Some link → from (kind.BeginLink e index) ends ≡ started (Some link) ends
+  element-starts element.Link index link ends h = ap (λ found. started found ends) h
+  element-starts element.Autolink index link ends h = ap (λ found. started found ends) h
+  element-starts element.Image index link ends h = cc
 
   kind-starts : (k : SlotKind) (link : Link) (ends : List Ranged) → link_begun links k ≡ Some link → from k ends ≡ started (Some link) ends
-  kind-starts (kind.Begin e) link ends h = element-starts e link ends h
+  kind-starts (kind.BeginLink e index) link ends h = element-starts e index link ends h
   kind-starts k link ends h = cc
 
   -- the elements that are open after it
@@ -102,7 +102,7 @@ module _ (leaf : LeafText) (texts : List CowStr) (links : List Link) (slot : Slo
 
   -- and it is no end
   kind-no-end : (k : SlotKind) (ends : List Ranged) → is_some (link_begun links k) ≡ true → BeginWithoutEnd (from k ends)
-  kind-no-end (kind.Begin e) ends h = λ n. n
+  kind-no-end (kind.BeginLink e index) ends h = λ n. n
   kind-no-end k ends h = cc
 
   pub link-no-end : is_some (link_begun links slot.kind) ≡ true → BeginWithoutEnd (events_of leaf texts links (slot ∷ slots) opened)

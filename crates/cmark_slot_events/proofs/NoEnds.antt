@@ -22,13 +22,15 @@ use Rattle.cmark_slot_events.proofs.ShortSteps.{get_or-any}
 
 module _ (leaf : LeafText) (texts : List CowStr) (links : List Link) (slot : Slot) where
   alone_no_end : (k : SlotKind) → IsAlone k → (rows : List row.Slot) (ends : List Ranged) → BeginWithoutEnd (slot_events (source_of leaf) (slot_as leaf texts links slot k ∷ rows) ends)
-  alone_no_end (kind.Begin element) a rows ends = absurd a
+  alone_no_end (kind.Begin mark) a rows ends = absurd a
+  alone_no_end (kind.BeginLink element index) a rows ends = absurd a
   alone_no_end kind.End a rows ends = absurd a
   alone_no_end kind.Nothing a rows ends = absurd a
   alone_no_end _ a rows ends = λ h. h
 
   long_no_end : (k : SlotKind) → is_long k ≡ true → (rows : List row.Slot) (ends : List Ranged) → BeginWithoutEnd (slot_events (source_of leaf) (slot_as leaf texts links slot k ∷ rows) ends)
-  long_no_end (kind.Begin element) long rows ends = λ h. h
+  long_no_end (kind.Begin mark) long rows ends = cc
+  long_no_end (kind.BeginLink element index) long rows ends = λ h. h
   long_no_end kind.End long rows ends = cc
   long_no_end kind.Nothing long rows ends = cc
   long_no_end k long rows ends = alone_no_end k tt rows ends

@@ -1,5 +1,4 @@
 -- A short event that is given is the first of those that are still to come.
-use Rattle.std.specs.Prelude.{Some}
 use Rattle.std.proofs.Common.{◌≡◌, ◌<◌, ℕ, suc, ◌+◌, ◌-◌, List, [], ◌∷◌, ◌++◌, drop, get_or, length, refl, sym, ap, subst, ◌∙◌, arith}
 use Rattle.std.proofs.Math.Seq.{drop-cons}
 use Rattle.cmark_grammar.specs.Event as event
@@ -24,29 +23,17 @@ use Rattle.cmark_text.specs.Shown.{shown_end}
 use Rattle.cmark_slots.specs.Elements.{emphasis_tag}
 use Rattle.cmark_slot_events.specs.Shorts.{AreSome, IsAlone, IsCodeOf, IsNextFirst, IsShortFirst, IsTextOf, PassesFirst, StandsFor}
 use Rattle.cmark_slot_events.specs.Events.{events_of, shown_opened}
-use Rattle.cmark_slots.specs.SlotViews.{first_of, slot_end, shown_element, shown_slots, slot_as}
+use Rattle.cmark_slots.specs.SlotViews.{first_of, slot_end, shown_slots, slot_as}
 use Rattle.cmark_slot_events.specs.declared.leaf_events.Opened.{Opened}
 use Rattle.cmark_references.specs.declared.link.Link.{Link}
 use Rattle.cmark_slots.specs.declared.slot.Element.{Element}
-use Rattle.cmark_slots.specs.declared.slot.Element.TheVariants as element
+use Rattle.cmark_slots.specs.declared.slot.LinkElement.{LinkElement}
 use Rattle.cmark_slots.specs.declared.slot.Slot.{Slot}
 use Rattle.cmark_slots.specs.declared.slot.SlotKind.{SlotKind}
 use Rattle.cmark_slots.specs.declared.slot.SlotKind.TheVariants as kind
 use Rattle.cmark_slots.proofs.Lending.{there}
 use Rattle.cmark_slot_events.proofs.ShortSteps.{get_or-any, part-range, short-opens}
 use Rattle.cmark_slot_events.proofs.EventSteps.{opened-more}
-
--- the tag of an element of emphasis
-plain-element : (links : List Link) (e : Element) (t : Tag) → Some t ≡ emphasis_tag e → shown_element links e ≡ t
-plain-element links element.Emphasis t h = cc
-plain-element links element.Strong t h = cc
-plain-element links element.Strikethrough t h = cc
-plain-element links element.Superscript t h = cc
-plain-element links element.Subscript t h = cc
-plain-element links element.Highlight t h = cc
-plain-element links (element.Link index) t h = cc
-plain-element links (element.Autolink index) t h = cc
-plain-element links (element.Image index) t h = cc
 
 module _ (leaf : LeafText) (texts : List CowStr) (links : List Link) (slot : Slot) (slots : List Slot) (opened : List Opened) where
   abbrev here : Event → Ranged
@@ -63,8 +50,8 @@ module _ (leaf : LeafText) (texts : List CowStr) (links : List Link) (slot : Slo
   text-first (kind.Whole last) part ends h = ap (λ p. here (event.Text p) ∷ following ends) (sym h)
   text-first k part ends h = absurd h
 
-  code-first : (k : SlotKind) (part : List ℕ) (ends : List Ranged) → IsCodeOf leaf k part → from k ends ≡ here (event.Code part) ∷ following ends
-  code-first (kind.Code start end) part ends h = ap (λ p. here (event.Code p) ∷ following ends) (sym h)
+  code-first : (k : SlotKind) (part : List ℕ) (ends : List Ranged) → IsCodeOf leaf slot k part → from k ends ≡ here (event.Code part) ∷ following ends
+  code-first (kind.Code start) part ends h = ap (λ p. here (event.Code p) ∷ following ends) (sym h)
   code-first k part ends h = absurd h
 
   short-first : (s : Short) → StandsFor leaf slot s → IsInline (shown_short s) → events_of leaf texts links (slot ∷ slots) opened ≡ here (shown_short s) ∷ events_of leaf texts links slots opened
@@ -92,7 +79,8 @@ module _ (leaf : LeafText) (texts : List CowStr) (links : List Link) (slot : Slo
   }
 
   alone-some : (k : SlotKind) (ends : List Ranged) → IsAlone k → AreSome (from k ends)
-  alone-some (kind.Begin element) ends h = absurd h
+  alone-some (kind.Begin mark) ends h = absurd h
+  alone-some (kind.BeginLink element index) ends h = absurd h
   alone-some kind.End ends h = absurd h
   alone-some kind.Nothing ends h = absurd h
   alone-some _ ends h = (_, following ends, refl)
@@ -101,17 +89,16 @@ module _ (leaf : LeafText) (texts : List CowStr) (links : List Link) (slot : Slo
   pub single-some : IsAlone slot.kind → AreSome (events_of leaf texts links (slot ∷ slots) opened)
   single-some h = alone-some slot.kind (shown_opened opened) h
 
-  pub begin-some : (e : Element) → slot.kind ≡ kind.Begin e → AreSome (events_of leaf texts links (slot ∷ slots) opened)
-  begin-some e h = (_, _, ap (λ k. from k (shown_opened opened)) h)
+  pub begin-some : (e : LinkElement) (index : ℕ) → slot.kind ≡ kind.BeginLink e index → AreSome (events_of leaf texts links (slot ∷ slots) opened)
+  begin-some e index h = (_, _, ap (λ k. from k (shown_opened opened)) h)
 
   -- an element begins
-  pub begin-first-short : (tag : PlainTag) (end : TagEnd) (e : Element) → IsRead leaf → IsPart (text_of leaf) slot.start slot.end → slot.kind ≡ kind.Begin e → Some (shown_plain tag) ≡ emphasis_tag e → IsSpan (shown_plain tag)
+  pub begin-first-short : (tag : PlainTag) (end : TagEnd) (e : Element) → IsRead leaf → IsPart (text_of leaf) slot.start slot.end → slot.kind ≡ kind.Begin e → shown_plain tag ≡ emphasis_tag e → IsSpan (shown_plain tag)
       → end_of (shown_plain tag) ≡ shown_end end
       → IsShortFirst (source_of leaf) opened (short.Start tag) (place_of leaf slot.start) (place_of leaf (slot.end - 1) + 1) (opened ++ (record { tag = end; start = place_of leaf slot.start; end = place_of leaf (slot.end - 1) + 1 } ∷ [])) (events_of leaf texts links (slot ∷ slots) opened)
       (events_of leaf texts links slots (opened ++ (record { tag = end; start = place_of leaf slot.start; end = place_of leaf (slot.end - 1) + 1 } ∷ [])))
   begin-first-short tag end e read part is t span same =
       let one : Opened = record { tag = end; start = place_of leaf slot.start; end = place_of leaf (slot.end - 1) + 1 } in
-      let shown : shown_element links e ≡ shown_plain tag = plain-element links e (shown_plain tag) t in
       let closes : List Ranged = here (event.End (end_of (shown_plain tag))) ∷ shown_opened opened in
       record {
         given = here (event.Start (shown_plain tag));
@@ -122,12 +109,12 @@ module _ (leaf : LeafText) (texts : List CowStr) (links : List Link) (slot : Slo
         };
         lent = tt;
         first = ap (λ k. from k (shown_opened opened)) is
-            ∙ ap (λ (x : Tag). here (event.Start x) ∷ following (here (event.End (end_of x)) ∷ shown_opened opened)) shown
+            ∙ ap (λ (x : Tag). here (event.Start x) ∷ following (here (event.End (end_of x)) ∷ shown_opened opened)) (sym t)
             ∙ ap (λ (l : List Ranged). here (event.Start (shown_plain tag)) ∷ following l) (ap (λ x. here (event.End x) ∷ shown_opened opened) same ∙ sym (opened-more opened one));
       }
 
   -- the same lemma, with other names for the open elements and their ranges
-  pub begin-short-now : (now : List Opened) (tag : PlainTag) (end : TagEnd) (e : Element) (start stop : ℕ) → IsRead leaf → IsPart (text_of leaf) slot.start slot.end → slot.kind ≡ kind.Begin e → Some (shown_plain tag) ≡ emphasis_tag e → IsSpan (shown_plain tag)
+  pub begin-short-now : (now : List Opened) (tag : PlainTag) (end : TagEnd) (e : Element) (start stop : ℕ) → IsRead leaf → IsPart (text_of leaf) slot.start slot.end → slot.kind ≡ kind.Begin e → shown_plain tag ≡ emphasis_tag e → IsSpan (shown_plain tag)
       → end_of (shown_plain tag) ≡ shown_end end → start ≡ place_of leaf slot.start → stop ≡ place_of leaf (slot.end - 1) + 1 → now ≡ opened ++ (record { tag = end; start = start; end = stop } ∷ [])
       → IsShortFirst (source_of leaf) opened (short.Start tag) start stop now (events_of leaf texts links (slot ∷ slots) opened) (events_of leaf texts links slots now)
   begin-short-now now tag end e start stop read part is t span same a b last =
@@ -159,11 +146,12 @@ end-first-short source one old new part last = record {
   first = ap shown_opened last ∙ opened-more new one;
 }
 
-pub alone : (k : SlotKind) → ((e : Element) → k ≡ kind.Begin e → ⊥) → (k ≡ kind.End → ⊥) → (k ≡ kind.Nothing → ⊥) → IsAlone k
-alone (kind.Begin element) b e n = b element refl
-alone kind.End b e n = e refl
-alone kind.Nothing b e n = n refl
-alone _ b e n = tt
+pub alone : (k : SlotKind) → ((e : Element) → k ≡ kind.Begin e → ⊥) → ((e : LinkElement) (index : ℕ) → k ≡ kind.BeginLink e index → ⊥) → (k ≡ kind.End → ⊥) → (k ≡ kind.Nothing → ⊥) → IsAlone k
+alone (kind.Begin mark) b l e n = b mark refl
+alone (kind.BeginLink element index) b l e n = l element index refl
+alone kind.End b l e n = e refl
+alone kind.Nothing b l e n = n refl
+alone _ b l e n = tt
 
 -- ## The slots one after the other
 

@@ -1,5 +1,5 @@
 -- The events that are read from the slots of a leaf.
-use Rattle.std.specs.Prelude.{◌≡◌, ◌≢◌, ℕ, List, length, map, reverse, drop, slice_get, encode_utf8, Option, Some}
+use Rattle.std.specs.Prelude.{◌≡◌, ◌≢◌, ℕ, ◌-◌, List, length, map, reverse, drop, slice_get, encode_utf8, Option, Some}
 use Rattle.cmark_grammar.specs.CodeSpans.{code_text}
 use Rattle.cmark_grammar.specs.Event as event
 use Rattle.cmark_grammar.specs.Event.{Ranged}
@@ -17,7 +17,7 @@ use Rattle.cmark_slots.specs.declared.slot.Slot.{Slot}
 use Rattle.cmark_slots.specs.declared.slot.SlotKind.{SlotKind}
 use Rattle.cmark_slots.specs.declared.slot.SlotKind.TheVariants as kind
 use Rattle.cmark_slot_events.specs.declared.leaf_events.LeafEvents.{LeafEvents}
-use Rattle.cmark_slots.specs.SlotViews.{CanBeGiven, shown_slots, text_at, written}
+use Rattle.cmark_slots.specs.SlotViews.{CanBeGiven, shown_slots, text_at, written, written_code}
 
 -- the ends of the elements that are open, the last first
 abbrev pub shown_open : Opened → Ranged
@@ -50,18 +50,18 @@ abbrev pub held_in : LeafText → List CowStr → Slot → SlotKind → List ℕ
 held_in leaf texts slot (kind.OwnedText index) = text_at texts index
 held_in leaf texts slot (kind.Character character) = encode_utf8 character
 held_in leaf texts slot (kind.FootnoteReference index) = text_at texts index
-held_in leaf texts slot (kind.Code from to) = code_text (as_in (is_cell_of leaf) (written leaf from to))
-held_in leaf texts slot (kind.InlineMath from to) = as_in (is_cell_of leaf) (written leaf from to)
-held_in leaf texts slot (kind.DisplayMath from to) = as_in (is_cell_of leaf) (written leaf from to)
+held_in leaf texts slot (kind.Code from) = code_text (as_in (is_cell_of leaf) (written_code leaf from slot.end))
+held_in leaf texts slot (kind.InlineMath from) = as_in (is_cell_of leaf) (written leaf from (slot.end - 1))
+held_in leaf texts slot (kind.DisplayMath from) = as_in (is_cell_of leaf) (written leaf from (slot.end - 2))
 held_in leaf texts slot (kind.CutHtml from) = written leaf from slot.end
 held_in leaf texts slot _ = written leaf slot.start slot.end
 
 -- an event that has a text
 abbrev pub event_as : SlotKind → (text : List ℕ) → event.Event
 event_as (kind.FootnoteReference index) text = event.FootnoteReference text
-event_as (kind.Code from to) text = event.Code text
-event_as (kind.InlineMath from to) text = event.InlineMath text
-event_as (kind.DisplayMath from to) text = event.DisplayMath text
+event_as (kind.Code from) text = event.Code text
+event_as (kind.InlineMath from) text = event.InlineMath text
+event_as (kind.DisplayMath from) text = event.DisplayMath text
 event_as kind.InlineHtml text = event.InlineHtml text
 event_as (kind.CutHtml from) text = event.InlineHtml text
 event_as (kind.SourceHtml end) text = event.InlineHtml text
@@ -70,7 +70,7 @@ event_as _ text = event.Text text
 -- the event's text is borrowed as the zero-copy law says
 abbrev pub IsHeldAs : SlotKind → (source : List ℕ) → (start end : ℕ) → CowStr → Type 0
 IsHeldAs (kind.FootnoteReference index) source start end text = Unit {0}
-IsHeldAs (kind.Code from to) source start end text = IsPartIfBorrowed source text
-IsHeldAs (kind.InlineMath from to) source start end text = IsPartIfBorrowed source text
-IsHeldAs (kind.DisplayMath from to) source start end text = IsPartIfBorrowed source text
+IsHeldAs (kind.Code from) source start end text = IsPartIfBorrowed source text
+IsHeldAs (kind.InlineMath from) source start end text = IsPartIfBorrowed source text
+IsHeldAs (kind.DisplayMath from) source start end text = IsPartIfBorrowed source text
 IsHeldAs _ source start end text = IsLentBy (slice source start end) text

@@ -6,22 +6,22 @@ use Rattle.cmark_grammar.specs.Tag.{Linked}
 use Rattle.cmark_references.specs.declared.link.Link.{Link}
 use Rattle.cmark_slot_events.specs.Opens.{Follows}
 use Rattle.cmark_slot_events.specs.declared.leaf_events.Opened.{Opened}
-use Rattle.cmark_slots.specs.declared.slot.Element.{Element}
-use Rattle.cmark_slots.specs.declared.slot.Element.TheVariants as element
+use Rattle.cmark_slots.specs.declared.slot.LinkElement.{LinkElement}
+use Rattle.cmark_slots.specs.declared.slot.LinkElement.TheVariants as element
 use Rattle.cmark_slots.specs.declared.slot.Slot.{Slot}
 use Rattle.cmark_slots.specs.declared.slot.SlotKind.{SlotKind}
 use Rattle.cmark_slots.specs.declared.slot.SlotKind.TheVariants as kind
 use Rattle.cmark_slot_events.specs.declared.leaf_events.LeafEvents.{LeafEvents}
 
 -- the link in the table of a link or an autolink; an image has no link here
-abbrev pub link_as : List Link → Element → Option Link
-link_as links (element.Link index) = slice_get links index
-link_as links (element.Autolink index) = slice_get links index
-link_as links _ = None
+abbrev pub link_as : List Link → LinkElement → (index : ℕ) → Option Link
+link_as links element.Link index = slice_get links index
+link_as links element.Autolink index = slice_get links index
+link_as links element.Image index = None
 
 -- the link that a slot of this kind begins, if it begins one
 abbrev pub link_begun : List Link → SlotKind → Option Link
-link_begun links (kind.Begin element) = link_as links element
+link_begun links (kind.BeginLink element index) = link_as links element index
 link_begun links _ = None
 
 abbrev pub link_begun_if : List Link → Option Slot → Option Link

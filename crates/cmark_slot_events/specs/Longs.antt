@@ -1,22 +1,13 @@
 -- The events of a leaf that are not short: they may own a text.
 use Rattle.std.specs.Prelude.{◌≡◌, ◌<◌, Bool, true, false, length, get_or}
 use Rattle.cmark_slot_events.specs.declared.leaf_events.LeafEvents.{LeafEvents}
-use Rattle.cmark_slots.specs.declared.slot.Element.{Element}
-use Rattle.cmark_slots.specs.declared.slot.Element.TheVariants as element
 use Rattle.cmark_slots.specs.declared.slot.Slot.{Slot}
 use Rattle.cmark_slots.specs.declared.slot.SlotKind.{SlotKind}
 use Rattle.cmark_slots.specs.declared.slot.SlotKind.TheVariants as kind
 
--- a link or an image
-abbrev pub is_linked : Element → Bool
-is_linked (element.Link index) = true
-is_linked (element.Autolink index) = true
-is_linked (element.Image index) = true
-is_linked _ = false
-
 -- a slot of this kind has an event that may own a text
 abbrev pub is_long : SlotKind → Bool
-is_long (kind.Begin element) = is_linked element
+is_long (kind.Begin mark) = false
 is_long kind.End = false
 is_long kind.Nothing = false
 is_long kind.SoftBreak = false

@@ -6,22 +6,16 @@ use Rattle.cmark_grammar.specs.Event.{Event, Start, End, Ranged}
 use Rattle.cmark_inline_model.specs.LeafSpans.{IsInline, IsRange, IsSpan}
 use Rattle.cmark_text.specs.Shown.{shown_end}
 use Rattle.cmark_slot_events.specs.declared.leaf_events.Opened.{Opened}
-use Rattle.cmark_slots.specs.declared.slot.Element.{Element}
-use Rattle.cmark_slots.specs.declared.slot.Element.TheVariants as element
+use Rattle.cmark_slots.specs.declared.slot.LinkElement.{LinkElement}
+use Rattle.cmark_slots.specs.declared.slot.LinkElement.TheVariants as element
 use Rattle.cmark_slot_events.specs.declared.leaf_events.LeafEvents.{LeafEvents}
 use Rattle.cmark_leaf_text.specs.Reads.{IsPart}
 
--- the end of an element
-abbrev pub element_end : Element → end.TagEnd
-element_end element.Emphasis = end.Emphasis
-element_end element.Strong = end.Strong
-element_end element.Strikethrough = end.Strikethrough
-element_end element.Superscript = end.Superscript
-element_end element.Subscript = end.Subscript
-element_end element.Highlight = end.Highlight
-element_end (element.Link index) = end.Link
-element_end (element.Autolink index) = end.Link
-element_end (element.Image index) = end.Image
+-- the end of a link or an image
+abbrev pub element_end : LinkElement → end.TagEnd
+element_end element.Link = end.Link
+element_end element.Autolink = end.Link
+element_end element.Image = end.Image
 
 -- an element ends like this, and has this range
 pub record EndsAs (tag : end.TagEnd) (start end : ℕ) (one : Opened) : Type 0 where

@@ -1,5 +1,5 @@
 -- The events of a leaf that are passed on without an `Event`.
-use Rattle.std.specs.Prelude.{◌≡◌, ◌+◌, ◌-◌, ◌<◌, ℕ, List, [], ◌∷◌, Some}
+use Rattle.std.specs.Prelude.{◌≡◌, ◌+◌, ◌-◌, ◌<◌, ℕ, List, [], ◌∷◌}
 use Rattle.cmark_grammar.specs.CodeSpans.{code_text}
 use Rattle.cmark_grammar.specs.Event.{Ranged}
 use Rattle.cmark_grammar.specs.InlineTokens.{as_in}
@@ -19,6 +19,7 @@ use Rattle.cmark_slots.specs.declared.slot.SlotKind.{SlotKind}
 use Rattle.cmark_slots.specs.declared.slot.SlotKind.TheVariants as kind
 use Rattle.cmark_slot_events.specs.declared.leaf_events.LeafEvents.{LeafEvents}
 use Rattle.cmark_slots.specs.Elements.{emphasis_tag}
+use Rattle.cmark_slots.specs.SlotViews.{written_code}
 use Rattle.cmark_slot_events.specs.Opens.{Follows, events_left}
 
 -- the text of a slot: its bytes, or the bytes of the source that it covers
@@ -28,18 +29,18 @@ IsTextOf leaf slot (kind.Whole last) part = part ≡ slice (source_of leaf) (pla
 IsTextOf leaf slot _ part = ⊥
 
 -- the text of a slot's code span
-abbrev pub IsCodeOf : LeafText → SlotKind → (part : List ℕ) → Type 0
-IsCodeOf leaf (kind.Code from to) part = part ≡ code_text (as_in (is_cell_of leaf) (slice (text_of leaf) from to))
-IsCodeOf leaf _ part = ⊥
+abbrev pub IsCodeOf : LeafText → Slot → SlotKind → (part : List ℕ) → Type 0
+IsCodeOf leaf slot (kind.Code from) part = part ≡ code_text (as_in (is_cell_of leaf) (written_code leaf from slot.end))
+IsCodeOf leaf slot _ part = ⊥
 
 -- the short event of this slot of a leaf's text; an end belongs to the element that is open
 abbrev pub StandsFor : LeafText → Slot → Short → Type 0
 StandsFor leaf slot (short.Text part) = IsTextOf leaf slot slot.kind (excerpt_bytes part)
-StandsFor leaf slot (short.Code part) = IsCodeOf leaf slot.kind part.now
+StandsFor leaf slot (short.Code part) = IsCodeOf leaf slot slot.kind part.now
 StandsFor leaf slot (short.InlineHtml part) = (slot.kind ≡ kind.InlineHtml) × (part.now ≡ slice (text_of leaf) slot.start slot.end)
 StandsFor leaf slot short.SoftBreak = slot.kind ≡ kind.SoftBreak
 StandsFor leaf slot short.HardBreak = slot.kind ≡ kind.HardBreak
-StandsFor leaf slot (short.Start tag) = (element : Element) × (slot.kind ≡ kind.Begin element) × (Some (shown_plain tag) ≡ emphasis_tag element)
+StandsFor leaf slot (short.Start tag) = (element : Element) × (slot.kind ≡ kind.Begin element) × (shown_plain tag ≡ emphasis_tag element)
 StandsFor leaf slot (short.End tag) = Unit {0}
 StandsFor leaf slot (short.Html part) = ⊥
 StandsFor leaf slot short.Rule = ⊥
@@ -107,7 +108,8 @@ PassesFirst source old next.Over new events following = events ≡ following
 
 -- a slot of this kind has an event of its own, which is not the start and not the end of an element
 abbrev pub IsAlone : SlotKind → Type 0
-IsAlone (kind.Begin element) = ⊥
+IsAlone (kind.Begin mark) = ⊥
+IsAlone (kind.BeginLink element index) = ⊥
 IsAlone kind.End = ⊥
 IsAlone kind.Nothing = ⊥
 IsAlone _ = Unit {0}

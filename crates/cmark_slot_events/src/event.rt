@@ -18,10 +18,10 @@ ghost use Rattle.cmark_text.specs.ZeroCopy.{IsZeroCopy};
 ghost use Rattle.cmark_values.specs.Lending.{IsLentBy};
 ghost use Rattle.cmark_slot_events.specs.Opens.{element_end, events_left, AreOpened, Follows};
 ghost use Rattle.cmark_slot_events.specs.LeafStates.{GivesLong, HasNamed, IsOver, IsSlotIn, KeepsPlace, TakesLink};
-ghost use Rattle.cmark_slot_events.specs.Longs.{IsLong, is_linked, is_long};
+ghost use Rattle.cmark_slot_events.specs.Longs.{IsLong, is_long};
 ghost use Rattle.cmark_references.specs.Links.{shown_link};
 ghost use Rattle.cmark_slot_events.specs.Events.{AreLeft, IsHeldAs, KeepsOthers, event_as, held_in, events_of, events_to_come, shown_opened};
-ghost use Rattle.cmark_slots.specs.SlotViews.{CanBeGiven, IsThere, link_of, linked_at, shown_element, text_at, text_named};
+ghost use Rattle.cmark_slots.specs.SlotViews.{CanBeGiven, IsThere, link_tag, linked_at, text_at, text_named};
 ghost use Rattle.cmark_slots.specs.Slots.{IsSlot};
 ghost use Rattle.cmark_slots.specs.declared.slot.Slot.{Slot as Slots};
 
@@ -29,8 +29,8 @@ use crate::content::Content;
 use crate::leaf_events::{LeafEvents, Opened};
 use cmark_leaf_text::LeafText;
 use cmark_references::Link;
-use cmark_slots::slot::{Element, Slot, SlotKind};
-use cmark_slots::text::{copied, text_between};
+use cmark_slots::slot::{LinkElement, Slot, SlotKind};
+use cmark_slots::text::{before_backticks, copied, text_between};
 use cmark_text::{CowStr, Event, Ranged, Tag, TagEnd};
 use std::alloc::{AllocError, Global};
 use std::ops::Range;
@@ -87,7 +87,7 @@ impl<'a> LeafEvents<'a> {
             (CanBeGiven leaf.now self.new.texts.items self.new.links.items following) }
     {
         match slot.kind {
-            SlotKind::Begin(element) => self.begin(leaf, slot, element),
+            SlotKind::BeginLink(element, index) => self.begin(leaf, slot, element, index),
             SlotKind::SourceHtml(end) | SlotKind::SourceText(end) => {
                 Ok(source_part(leaf, slot, end))
             }
@@ -102,13 +102,13 @@ impl<'a> LeafEvents<'a> {
         &mut self,
         leaf: &LeafText<'a>,
         slot: Slot,
-        element: Element,
+        element: LinkElement,
+        index: usize,
     ) -> Result<Ranged<'a>, AllocError>
         requires slot { IsSlotIn leaf.now slot }
         requires opened { AreOpened (source_of leaf.now) self.old.walk.opened.items }
-        requires link { IsThere (length self.old.links.items) (link_of element) }
-        requires linked { is_linked element ≡ true }
-        ensures takes { TakesLink (link_of element) self.old self.new }
+        requires link { index < length self.old.links.items }
+        ensures takes { TakesLink (Some index) self.old self.new }
         ensures opened { AreOpened (source_of leaf.now) self.new.walk.opened.items }
         ensures follows { IfOk result
             (λ given. Follows (source_of leaf.now) self.old.walk.opened.items (shown_ranged given)
@@ -118,13 +118,13 @@ impl<'a> LeafEvents<'a> {
             (λ given. shown_ranged given
             ≡ over (source_of leaf.now) (place_of leaf.now slot.start)
             (place_of leaf.now (slot.end - 1) + 1)
-            (Start (shown_element self.old.links.items element))) }
+            (Start (link_tag element (linked_at self.old.links.items index)))) }
         ensures opens { OnOk result
             (shown_opened self.new.walk.opened.items
             ≡ over (source_of leaf.now) (place_of leaf.now slot.start)
             (place_of leaf.now (slot.end - 1) + 1)
-            (End (end_of (shown_element self.old.links.items element))) ∷ shown_opened
-            self.old.walk.opened.items) }
+            (End (end_of (link_tag element (linked_at self.old.links.items index))))
+            ∷ shown_opened self.old.walk.opened.items) }
     {
         let range = leaf.range(slot.start, slot.end);
         // The push comes first: if memory is refused, no text was moved out that would have to be dropped.
@@ -134,7 +134,7 @@ impl<'a> LeafEvents<'a> {
             end: range.end,
         })?;
         Ok(Ranged {
-            event: Event::Start(self.tag(element)),
+            event: Event::Start(self.tag(element, index)),
             range,
         })
     }
@@ -168,22 +168,21 @@ impl<'a> LeafEvents<'a> {
         })
     }
 
-    fn tag(&mut self, element: Element) -> Tag<'a>
-        requires link { IsThere (length self.old.links.items) (link_of element) }
-        requires linked { is_linked element ≡ true }
+    fn tag(&mut self, element: LinkElement, index: usize) -> Tag<'a>
+        requires { index < length self.old.links.items }
         ensures span { IsSpan (shown_tag result) }
         ensures end { end_of (shown_tag result) ≡ element_end element }
         ensures slots { self.new.slots ≡ self.old.slots }
         ensures walk { self.new.walk ≡ self.old.walk }
-        ensures value { shown_tag result ≡ shown_element self.old.links.items element }
-        ensures links { KeepsOthers (link_of element) self.old.links.items self.new.links.items }
+        ensures value { shown_tag result
+            ≡ link_tag element (linked_at self.old.links.items index) }
+        ensures links { KeepsOthers (Some index) self.old.links.items self.new.links.items }
         ensures texts { self.new.texts ≡ self.old.texts }
     {
+        let link = self.take_link(index);
         match element {
-            Element::Link(index) | Element::Autolink(index) => link_tag(self.take_link(index)),
-            Element::Image(index) => image_tag(self.take_link(index)),
-            // The starts of other elements are short events.
-            _ => unreachable!(),
+            LinkElement::Link | LinkElement::Autolink => link_tag(link),
+            LinkElement::Image => image_tag(link),
         }
     }
 
@@ -236,8 +235,16 @@ impl<'a> LeafEvents<'a> {
                 written(self.alloc, leaf, slot, CowStr::from(character))
             }
             SlotKind::FootnoteReference(index) => Ok(self.take_text(index)),
-            SlotKind::Code(from, to) => Content { leaf, from, to }.code(self.alloc),
-            SlotKind::InlineMath(from, to) | SlotKind::DisplayMath(from, to) => {
+            SlotKind::Code(from) => {
+                let to = before_backticks(leaf.as_str(), slot.end);
+                Content { leaf, from, to }.code(self.alloc)
+            }
+            SlotKind::InlineMath(from) => {
+                let to = slot.end - 1;
+                Content { leaf, from, to }.formula(self.alloc)
+            }
+            SlotKind::DisplayMath(from) => {
+                let to = slot.end - 2;
                 Content { leaf, from, to }.formula(self.alloc)
             }
             SlotKind::CutHtml(from) => cut_html(self.alloc, leaf, slot, from),
@@ -255,9 +262,9 @@ fn event_of<'a>(kind: SlotKind, text: CowStr<'a>) -> Event<'a>
 {
     match kind {
         SlotKind::FootnoteReference(_) => Event::FootnoteReference(text),
-        SlotKind::Code(_, _) => Event::Code(text),
-        SlotKind::InlineMath(_, _) => Event::InlineMath(text),
-        SlotKind::DisplayMath(_, _) => Event::DisplayMath(text),
+        SlotKind::Code(_) => Event::Code(text),
+        SlotKind::InlineMath(_) => Event::InlineMath(text),
+        SlotKind::DisplayMath(_) => Event::DisplayMath(text),
         SlotKind::InlineHtml | SlotKind::CutHtml(_) | SlotKind::SourceHtml(_) => {
             Event::InlineHtml(text)
         }
@@ -266,14 +273,12 @@ fn event_of<'a>(kind: SlotKind, text: CowStr<'a>) -> Event<'a>
 }
 
 // The end of a link or an image.
-fn element_end(element: Element) -> TagEnd
-    requires { is_linked element ≡ true }
+fn element_end(element: LinkElement) -> TagEnd
     ensures { shown_end result ≡ element_end element }
 {
     match element {
-        Element::Link(_) | Element::Autolink(_) => TagEnd::Link,
-        Element::Image(_) => TagEnd::Image,
-        _ => unreachable!(),
+        LinkElement::Link | LinkElement::Autolink => TagEnd::Link,
+        LinkElement::Image => TagEnd::Image,
     }
 }
 

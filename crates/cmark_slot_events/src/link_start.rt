@@ -12,7 +12,7 @@ ghost use Rattle.cmark_slot_events.specs.Events.{AreLeft, events_to_come};
 use crate::leaf_events::{LeafEvents, Opened};
 use cmark_leaf_text::LeafText;
 use cmark_references::Link;
-use cmark_slots::slot::{Element, SlotKind};
+use cmark_slots::slot::{LinkElement, SlotKind};
 use cmark_text::TagEnd;
 use std::alloc::AllocError;
 
@@ -27,7 +27,7 @@ impl<'a> LeafEvents<'a> {
             return None;
         };
         match slot.kind {
-            SlotKind::Begin(Element::Link(index) | Element::Autolink(index)) => {
+            SlotKind::BeginLink(LinkElement::Link | LinkElement::Autolink, index) => {
                 self.links.get(index)
             }
             _ => None,

@@ -1,6 +1,6 @@
 //! The events of a leaf's slots that own nothing, without an `Event`.
 
-ghost use Rattle.std.specs.Prelude.{◌≡◌, ◌<◌, ◌≤◌, ◌+◌, ◌-◌, ◌∷◌, ℕ, List, IfOk, IfSome, OnErr, OnOk, false, get_or, is_some, length, option_map, true};
+ghost use Rattle.std.specs.Prelude.{◌≡◌, ◌<◌, ◌≤◌, ◌+◌, ◌-◌, ◌∷◌, ℕ, List, IfOk, IfSome, OnErr, OnOk, false, get_or, is_some, length, true};
 ghost use Rattle.std.specs.Str.{IsCharBoundary};
 ghost use Rattle.cmark_grammar.specs.CodeSpans.{code_text};
 ghost use Rattle.cmark_grammar.specs.InlineTokens.{as_in};
@@ -14,22 +14,22 @@ ghost use Rattle.cmark_text.specs.Shown.{shown_end};
 ghost use Rattle.cmark_values.specs.Lending.{IsPartOf};
 ghost use Rattle.cmark_slots.specs.Elements.{emphasis_tag};
 ghost use Rattle.cmark_slot_events.specs.LeafStates.{CountsDown, IsOver, IsSlotIn, KeepsSlots};
-ghost use Rattle.cmark_slot_events.specs.Longs.{IsLong, is_linked, is_long};
+ghost use Rattle.cmark_slot_events.specs.Longs.{IsLong, is_long};
 ghost use Rattle.cmark_slot_events.specs.Opens.{AreOpened};
 ghost use Rattle.cmark_slot_events.specs.Shorts.{GivesNext, IfLong, IfShort, IsAlone, IsNextFirst, PassesFirst, PassesShort, StandsFor};
 ghost use Rattle.cmark_slot_events.specs.Events.{AreLeft, events_of, events_to_come, shown_opened};
-ghost use Rattle.cmark_slots.specs.Slots.{IsSlot};
+ghost use Rattle.cmark_slots.specs.SlotViews.{written_code};
+ghost use Rattle.cmark_slots.specs.Slots.{IsSlot, before_backticks};
 ghost use Rattle.cmark_slot_events.specs.declared.leaf_events.Opened.{Opened as OpenedOnes};
 ghost use Rattle.cmark_slots.specs.declared.slot.Slot.{Slot as Slots};
 ghost use Rattle.cmark_leaf_text.specs.declared.leaf_text.LeafText.{LeafText as LeafTexts};
 ghost use Rattle.cmark_references.specs.declared.link.Link.{Link as Links};
-ghost use Rattle.cmark_text.specs.declared.event.TagEnd.{TagEnd as TagEnds};
 ghost use Rattle.cmark_values.specs.declared.text.CowStr.{CowStr as Texts};
-ghost use Rattle.cmark_text.specs.declared.short.PlainTag.{PlainTag as PlainTags};
 
 use crate::leaf_events::{LeafEvents, Opened};
 use cmark_leaf_text::LeafText;
 use cmark_slots::slot::{Element, Slot, SlotKind};
+use cmark_slots::text::before_backticks;
 use cmark_span_scan::code_part;
 use cmark_text::{Excerpt, PlainTag, Short, Step, TagEnd};
 use std::alloc::AllocError;
@@ -100,11 +100,8 @@ impl<'a> LeafEvents<'a> {
             (events_of leaf.now texts links (slot ∷ following) self.old.walk.opened.items)) }
     {
         match slot.kind {
-            // The start of a link or an image is an event of another kind.
             SlotKind::Begin(element) => {
-                let Some((tag, end)) = plain_element(element) else {
-                    return Ok(Step::Long);
-                };
+                let (tag, end) = plain_element(element);
                 let range = leaf.range(slot.start, slot.end);
                 self.walk.opened.push(Opened {
                     tag: end,
@@ -115,6 +112,8 @@ impl<'a> LeafEvents<'a> {
             }
             SlotKind::End => Ok(self.end_short()),
             SlotKind::Nothing => Ok(Step::Over),
+            // The start of a link or an image is an event of another kind.
+            SlotKind::BeginLink(_, _) => Ok(Step::Long),
             _ => Ok(single_short(leaf, slot)),
         }
     }
@@ -145,21 +144,18 @@ impl<'a> LeafEvents<'a> {
 
 // The tag and the end of an element of emphasis, which has no text of its own.
 #[inline(always)]
-fn plain_element(element: Element) -> Option<(PlainTag, TagEnd)>
-    ensures value { option_map (λ (pair : PlainTags × TagEnds). shown_plain pair.0) result
-        ≡ emphasis_tag element }
-    ensures span { IfSome result (λ pair. IsSpan (shown_plain pair.0)) }
-    ensures end { IfSome result (λ pair. end_of (shown_plain pair.0) ≡ shown_end pair.1) }
-    ensures linked { is_some result ≡ false → is_linked element ≡ true }
+fn plain_element(element: Element) -> (PlainTag, TagEnd)
+    ensures value { shown_plain result.0 ≡ emphasis_tag element }
+    ensures span { IsSpan (shown_plain result.0) }
+    ensures end { end_of (shown_plain result.0) ≡ shown_end result.1 }
 {
     match element {
-        Element::Emphasis => Some((PlainTag::Emphasis, TagEnd::Emphasis)),
-        Element::Strong => Some((PlainTag::Strong, TagEnd::Strong)),
-        Element::Strikethrough => Some((PlainTag::Strikethrough, TagEnd::Strikethrough)),
-        Element::Superscript => Some((PlainTag::Superscript, TagEnd::Superscript)),
-        Element::Subscript => Some((PlainTag::Subscript, TagEnd::Subscript)),
-        Element::Highlight => Some((PlainTag::Highlight, TagEnd::Highlight)),
-        Element::Link(_) | Element::Autolink(_) | Element::Image(_) => None,
+        Element::Emphasis => (PlainTag::Emphasis, TagEnd::Emphasis),
+        Element::Strong => (PlainTag::Strong, TagEnd::Strong),
+        Element::Strikethrough => (PlainTag::Strikethrough, TagEnd::Strikethrough),
+        Element::Superscript => (PlainTag::Superscript, TagEnd::Superscript),
+        Element::Subscript => (PlainTag::Subscript, TagEnd::Subscript),
+        Element::Highlight => (PlainTag::Highlight, TagEnd::Highlight),
     }
 }
 
@@ -210,7 +206,7 @@ fn part_of<'a>(leaf: &LeafText<'a>, slot: Slot) -> Option<Short<'a>>
         }
         SlotKind::SoftBreak => Some(Short::SoftBreak),
         SlotKind::HardBreak => Some(Short::HardBreak),
-        SlotKind::Code(from, to) => match code_in(leaf, from, to) {
+        SlotKind::Code(from) => match code_in(leaf, from, slot.end) {
             Some(code) => Some(Short::Code(code)),
             None => None,
         },
@@ -226,19 +222,24 @@ fn part_of<'a>(leaf: &LeafText<'a>, slot: Slot) -> Option<Short<'a>>
     }
 }
 
-// The text of a code span if its content is in the source without a gap and without a line ending. `None` in a table cell, since the text
+// The text of a code span that ends at the offset `end`, if its content is in the source without a gap and without a line ending. `None` in a table cell, since the text
 // may be owned there (GFM 4.10).
 #[inline(always)]
-fn code_in<'a>(leaf: &LeafText<'a>, from: usize, to: usize) -> Option<&'a str>
+fn code_in<'a>(leaf: &LeafText<'a>, from: usize, end: usize) -> Option<&'a str>
     requires read { IsRead leaf.now }
+    requires within { end ≤ length (text_of leaf.now) }
     requires starts { IsCharBoundary (text_of leaf.now) from }
-    requires ends { IsCharBoundary (text_of leaf.now) to }
+    requires ends { IsCharBoundary (text_of leaf.now) (before_backticks (text_of leaf.now) end) }
     ensures value { IfSome result
         (λ part. part.now
-        ≡ code_text (as_in (is_cell_of leaf.now) (slice (text_of leaf.now) from to))) }
+        ≡ code_text (as_in (is_cell_of leaf.now) (written_code leaf.now from end))) }
     ensures part { IfSome result (λ part. IsPartOf (source_of leaf.now) part.now) }
 {
-    if from >= to || leaf.is_cell() {
+    if leaf.is_cell() {
+        return None;
+    }
+    let to = before_backticks(leaf.as_str(), end);
+    if from >= to {
         return None;
     }
     match leaf.slice(from, to) {

@@ -51,7 +51,7 @@ second : (x y : Bool) → (x && y) ≡ true → y ≡ true
 second true y e = e
 second false y e = absurd (true≢false (sym e))
 
-pub cut-stays : (text : List ℕ) (place end : ℕ) (slot : Slot) (k : SlotKind) → IsSlot text end slot → IsCharBoundary text place → (nat_lt slot.start place && nat_lt place slot.end) ≡ true → IsContent text k
+pub cut-stays : (text : List ℕ) (place end : ℕ) (slot : Slot) (k : SlotKind) → IsSlot text end slot → IsCharBoundary text place → (nat_lt slot.start place && nat_lt place slot.end) ≡ true → IsContent text slot.end k
     → IsSlot text end (record { kind = k; start = place; end = slot.end })
 cut-stays text place end slot k h edge inside content = record {
   part = record { some = ltb-true place slot.end (second (nat_lt slot.start place) (nat_lt place slot.end) inside); within = h.part.within; starts = edge; ends = h.part.ends };

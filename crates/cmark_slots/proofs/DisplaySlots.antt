@@ -17,7 +17,8 @@ use Rattle.cmark_inline_model.specs.LikeSlots.{AreLike, IsLike}
 use Rattle.cmark_inline_model.specs.SlotRows as row
 use Rattle.cmark_inline_model.proofs.DisplayRows.{EndBy, nothings, nothings-append, shown-hidden, shown-kept}
 use Rattle.cmark_inline_model.proofs.RowPasses.{like-both}
-use Rattle.cmark_slots.specs.SlotViews.{shown_element, shown_slot, shown_slots, slot_as}
+use Rattle.cmark_slots.specs.Elements.{emphasis_tag}
+use Rattle.cmark_slots.specs.SlotViews.{link_tag, linked_at, shown_slot, shown_slots, slot_as}
 use Rattle.cmark_slots.specs.Standing.{EndsIn, source_end}
 use Rattle.cmark_slots.specs.Cuts.{cut_at, cut_kind, cut_slot, ends_by, has_none_after, hidden}
 use Rattle.cmark_references.specs.declared.link.Link.{Link}
@@ -129,7 +130,8 @@ module _ (leaf : LeafText) (source : List ℕ) (texts : List CowStr) (links : Li
   ends-kind slot (kind.SourceHtml past) y some fits e h = item-end _ y h ∙ source-same slot.end past e
   ends-kind slot (kind.SourceText past) y some fits e h = item-end _ y h ∙ source-same slot.end past e
   ends-kind slot kind.Empty y some fits e h = item-end _ y h ∙ first-same slot.start (omega (arith, some, fits)) ∙ sym (either slot.start slot.end some)
-  ends-kind slot (kind.Begin element) y some fits e h = ap (row_shows.ends_by display) h ∙ past-same slot.end (omega (arith, some)) fits
+  ends-kind slot (kind.Begin mark) y some fits e h = ap (row_shows.ends_by display) h ∙ past-same slot.end (omega (arith, some)) fits
+  ends-kind slot (kind.BeginLink element index) y some fits e h = ap (row_shows.ends_by display) h ∙ past-same slot.end (omega (arith, some)) fits
   ends-kind slot kind.End y some fits e h = ap (row_shows.ends_by display) h
   ends-kind slot kind.Nothing y some fits e h = ap (row_shows.ends_by display) h
   ends-kind slot _ y some fits e h = item-end _ y h ∙ past-same slot.end (omega (arith, some)) fits
@@ -154,7 +156,8 @@ module _ (leaf : LeafText) (source : List ℕ) (texts : List CowStr) (links : Li
   -- ## The slot that is cut
 
   item-start : (slot : Slot) (k : SlotKind) (x : Item) → IsLike source (slot_as leaf texts links slot k) (row.ItemSlot x) → x.start ≡ place_of leaf slot.start
-  item-start slot (kind.Begin element) x h = absurd (let z : ⊥ = cc in z)
+  item-start slot (kind.Begin mark) x h = absurd (let z : ⊥ = cc in z)
+  item-start slot (kind.BeginLink element index) x h = absurd (let z : ⊥ = cc in z)
   item-start slot kind.End x h = absurd (let z : ⊥ = cc in z)
   item-start slot kind.Nothing x h = absurd (let z : ⊥ = cc in z)
   item-start slot _ x h = sym h.start
@@ -166,14 +169,23 @@ module _ (leaf : LeafText) (source : List ℕ) (texts : List CowStr) (links : Li
     cut : (text : List ℕ) → row.BeginSlot tag display end ≡ slot_as leaf texts links (record { kind = cut_kind text slot.start slot.end k; start = t; end = slot.end }) (cut_kind text slot.start slot.end k)
 
   begin-start : (slot : Slot) (k : SlotKind) (tag : Tag) (start end : ℕ) → IsLike source (slot_as leaf texts links slot k) (row.BeginSlot tag start end) → IsBegin slot k tag start end
-  begin-start slot (kind.Begin element) tag start end h =
-      let a : tag ≡ shown_element links element = cc in
+  begin-start slot (kind.Begin mark) tag start end h =
+      let a : tag ≡ emphasis_tag mark = cc in
       let b : start ≡ place_of leaf slot.start = cc in
       let c : end ≡ place_of leaf (slot.end - 1) + 1 = cc in
       record {
         begins = h;
         first = b;
-        cut = λ text. ap (λ x. row.BeginSlot x display end) a ∙ ap (λ n. row.BeginSlot (shown_element links element) n end) (sym is) ∙ ap (row.BeginSlot (shown_element links element) (place_of leaf t)) c;
+        cut = λ text. ap (λ x. row.BeginSlot x display end) a ∙ ap (λ n. row.BeginSlot (emphasis_tag mark) n end) (sym is) ∙ ap (row.BeginSlot (emphasis_tag mark) (place_of leaf t)) c;
+      }
+  begin-start slot (kind.BeginLink element index) tag start end h =
+      let a : tag ≡ link_tag element (linked_at links index) = cc in
+      let b : start ≡ place_of leaf slot.start = cc in
+      let c : end ≡ place_of leaf (slot.end - 1) + 1 = cc in
+      record {
+        begins = h;
+        first = b;
+        cut = λ text. ap (λ x. row.BeginSlot x display end) a ∙ ap (λ n. row.BeginSlot (link_tag element (linked_at links index)) n end) (sym is) ∙ ap (row.BeginSlot (link_tag element (linked_at links index)) (place_of leaf t)) c;
       }
   begin-start slot kind.End tag start end h = absurd (let z : ⊥ = cc in z)
   begin-start slot kind.Nothing tag start end h = absurd (let z : ⊥ = cc in z)

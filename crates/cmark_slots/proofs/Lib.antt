@@ -1,3 +1,4 @@
+pub mod Backticks
 pub mod Cutting
 pub mod DisplaySlots
 pub mod Lending

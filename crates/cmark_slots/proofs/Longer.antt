@@ -2,16 +2,12 @@
 use Rattle.std.proofs.Common.{◌≡◌, ℕ, zero, suc, ◌<◌, List, [], ◌∷◌, ◌++◌, length, Option, Some, None, refl, ap, ◌∙◌, arith}
 use Rattle.std.specs.Prelude.{All, slice_get}
 use Rattle.cmark_grammar.specs.Items as items
-use Rattle.cmark_grammar.specs.Tag as tag
-use Rattle.cmark_grammar.specs.Tag.{Tag}
 use Rattle.cmark_inline_model.specs.SlotRows as row
 use Rattle.cmark_leaf_text.specs.declared.leaf_text.LeafText.{LeafText}
 use Rattle.cmark_values.specs.declared.text.CowStr.{CowStr}
-use Rattle.cmark_slots.specs.SlotViews.{IsThere, bytes_or_none, first_of, item_slot, link_named, link_of, linked_or_none, shown_element, shown_slot, shown_slots, slot_as, slot_end, text_named}
+use Rattle.cmark_slots.specs.SlotViews.{IsThere, bytes_or_none, first_of, item_slot, link_named, link_tag, linked_or_none, shown_slot, shown_slots, slot_as, slot_end, text_named}
 use Rattle.cmark_slots.specs.Standing.{AreNamed}
 use Rattle.cmark_references.specs.declared.link.Link.{Link}
-use Rattle.cmark_slots.specs.declared.slot.Element.{Element}
-use Rattle.cmark_slots.specs.declared.slot.Element.TheVariants as element
 use Rattle.cmark_slots.specs.declared.slot.Slot.{Slot}
 use Rattle.cmark_slots.specs.declared.slot.SlotKind.{SlotKind}
 use Rattle.cmark_slots.specs.declared.slot.SlotKind.TheVariants as kind
@@ -24,17 +20,11 @@ SameAt (Some index) old new = slice_get new index ≡ slice_get old index
 
 -- ## A slot whose text and link are there as before
 
-same-element : (old new : List Link) (e : Element) → SameAt (link_of e) old new → shown_element new e ≡ shown_element old e
-same-element old new (element.Link index) s = ap (λ (o : Option Link). tag.Link (linked_or_none o)) s
-same-element old new (element.Autolink index) s = ap (λ (o : Option Link). tag.Link (linked_or_none o)) s
-same-element old new (element.Image index) s = ap (λ (o : Option Link). tag.Image (linked_or_none o)) s
-same-element old new _ s = refl
-
 module _ (leaf : LeafText) (texts texts1 : List CowStr) (links links1 : List Link) where
   pub same-slot : (slot : Slot) (k : SlotKind) → SameAt (text_named k) texts texts1 → SameAt (link_named k) links links1 → slot_as leaf texts1 links1 slot k ≡ slot_as leaf texts links slot k
   same-slot slot (kind.OwnedText index) s l = ap (λ (o : Option CowStr). item_slot (items.Written (bytes_or_none o)) (first_of leaf slot) (slot_end leaf slot)) s
   same-slot slot (kind.FootnoteReference index) s l = ap (λ (o : Option CowStr). item_slot (items.FootnoteReference (bytes_or_none o)) (first_of leaf slot) (slot_end leaf slot)) s
-  same-slot slot (kind.Begin e) s l = ap (λ (t : Tag). row.BeginSlot t (first_of leaf slot) (slot_end leaf slot)) (same-element links links1 e l)
+  same-slot slot (kind.BeginLink element index) s l = ap (λ (o : Option Link). row.BeginSlot (link_tag element (linked_or_none o)) (first_of leaf slot) (slot_end leaf slot)) l
   same-slot slot _ s l = refl
 
 -- ## Longer tables

@@ -9,7 +9,8 @@ use Rattle.cmark_leaf_text.specs.Reads.{place_of}
 use Rattle.cmark_leaf_text.specs.declared.leaf_text.LeafText.{LeafText}
 use Rattle.cmark_values.specs.declared.text.CowStr.{CowStr}
 use Rattle.cmark_slots.specs.MarkedSlots.{AreWhole, EndWithin, Merges, begun_as, ended, last_in, whole_to}
-use Rattle.cmark_slots.specs.SlotViews.{slot_as, shown_slot, shown_slots, shown_element, item_slot, first_of, slot_end}
+use Rattle.cmark_slots.specs.Elements.{emphasis_tag}
+use Rattle.cmark_slots.specs.SlotViews.{slot_as, shown_slot, shown_slots, item_slot, first_of, slot_end}
 use Rattle.cmark_slots.specs.Cuts.{Hides, hidden}
 use Rattle.cmark_references.specs.declared.link.Link.{Link}
 use Rattle.cmark_slots.specs.declared.slot.Element.{Element}
@@ -191,14 +192,14 @@ module _ (leaf : LeafText) (texts : List CowStr) (links : List Link) where
 
   pub some-view : (slots : List Slot) (first at : ℕ) (e : Element) → first < at → at < length slots → ((d : Slot) → (get_or slots first d).kind ≡ kind.Text) → ((d : Slot) → (get_or slots at d).kind ≡ kind.Text)
       → ((d : Slot) → (get_or slots first d).end ≤ (get_or slots at d).end)
-      → views (set (set slots at (ended (get_or slots at no-slot))) first (begun_as e (get_or slots at no-slot).end (get_or slots first no-slot))) ≡ spanned (Some (shown_element links e)) first at (views slots)
+      → views (set (set slots at (ended (get_or slots at no-slot))) first (begun_as (kind.Begin e) (get_or slots at no-slot).end (get_or slots first no-slot))) ≡ spanned (Some (emphasis_tag e)) first at (views slots)
   some-view slots first at e lt within ft lt_text order =
       let a : Slot = get_or slots at no-slot in
       let f : Slot = get_or slots first no-slot in
-      map-set (shown_slot leaf texts links) (set slots at (ended a)) first (begun_as e a.end f)
-      ∙ ap (λ l. set l first (view (begun_as e a.end f))) (map-set (shown_slot leaf texts links) slots at (ended a))
-      ∙ ap (λ n. set (set (views slots) at row.EndSlot) first (row.BeginSlot (shown_element links e) (first_of leaf f) n)) (past-greater f a (order no-slot) ∙ sym (ends-at slots at within lt_text))
-      ∙ ap (λ n. set (set (views slots) at row.EndSlot) first (row.BeginSlot (shown_element links e) n (end_in (get_or (views slots) at row.NothingSlot)))) (sym (starts-at slots first (omega (arith, lt, within)) ft))
+      map-set (shown_slot leaf texts links) (set slots at (ended a)) first (begun_as (kind.Begin e) a.end f)
+      ∙ ap (λ l. set l first (view (begun_as (kind.Begin e) a.end f))) (map-set (shown_slot leaf texts links) slots at (ended a))
+      ∙ ap (λ n. set (set (views slots) at row.EndSlot) first (row.BeginSlot (emphasis_tag e) (first_of leaf f) n)) (past-greater f a (order no-slot) ∙ sym (ends-at slots at within lt_text))
+      ∙ ap (λ n. set (set (views slots) at row.EndSlot) first (row.BeginSlot (emphasis_tag e) n (end_in (get_or (views slots) at row.NothingSlot)))) (sym (starts-at slots first (omega (arith, lt, within)) ft))
 
   hides-view : (from to count : ℕ) (old new : List Slot) → Hides from to old new → to ≡ from + count → to ≤ length old → views new ≡ used_up from count (views old)
   hides-view from to count old new h is within =
@@ -238,14 +239,14 @@ module _ (leaf : LeafText) (texts : List CowStr) (links : List Link) where
 
 -- the first slot of an element, after its end
 pub enclosed : (old mid new : List Slot) (first last end : ℕ) (e : Element) (d : Slot) → mid ≡ set old last (ended (get_or old last d)) → end ≡ (get_or old last d).end
-    → ((d1 : Slot) → new ≡ set mid first (begun_as e end (get_or mid first d1))) → first < last
-    → new ≡ set (set old last (ended (get_or old last d))) first (begun_as e (get_or old last d).end (get_or old first d))
+    → ((d1 : Slot) → new ≡ set mid first (begun_as (kind.Begin e) end (get_or mid first d1))) → first < last
+    → new ≡ set (set old last (ended (get_or old last d))) first (begun_as (kind.Begin e) (get_or old last d).end (get_or old first d))
 enclosed old mid new first last end e d m n is lt =
     let a : Slot = ended (get_or old last d) in
     is d
-    ∙ ap (λ (l : List Slot). set l first (begun_as e end (get_or l first d))) m
-    ∙ ap (λ j. set (set old last a) first (begun_as e j (get_or (set old last a) first d))) n
-    ∙ ap (λ (s : Slot). set (set old last a) first (begun_as e (get_or old last d).end s)) (get_or-set_other old last first a d (λ (q : first ≡ last). absurd (omega (arith, q, lt))))
+    ∙ ap (λ (l : List Slot). set l first (begun_as (kind.Begin e) end (get_or l first d))) m
+    ∙ ap (λ j. set (set old last a) first (begun_as (kind.Begin e) j (get_or (set old last a) first d))) n
+    ∙ ap (λ (s : Slot). set (set old last a) first (begun_as (kind.Begin e) (get_or old last d).end s)) (get_or-set_other old last first a d (λ (q : first ≡ last). absurd (omega (arith, q, lt))))
 
 -- ## The last slots of whole texts
 

@@ -18,7 +18,8 @@ use Rattle.cmark_values.specs.declared.text.CowStr.{CowStr}
 use Rattle.cmark_slots.specs.Cuts.{hidden}
 use Rattle.cmark_slots.specs.MarkedSlots.{AreWhole, EndWithin, Merges, SameBefore, begun_as, ended}
 use Rattle.cmark_slots.specs.PairSlots.{AreApartFrom, AreInTurn, BeginFrom, CanWrite, HasTexts, HaveTextsOf, IsApart, KeepsSlots, hidden_inside, inner_used, span_between, spans_around, write_span, write_spans}
-use Rattle.cmark_slots.specs.SlotViews.{link_of, shown_element, shown_slots}
+use Rattle.cmark_slots.specs.Elements.{emphasis_tag}
+use Rattle.cmark_slots.specs.SlotViews.{shown_slots}
 use Rattle.cmark_slots.specs.Standing.{NamesNoMore}
 use Rattle.cmark_slots.specs.declared.slot.Element.{Element}
 use Rattle.cmark_slots.specs.declared.slot.Slot.{Slot}
@@ -238,11 +239,11 @@ module _ (options : Options) (k : code_kind.SpanKind) (first last : ℕ) (old mi
         ap (spanned (span_tag options (shown_kind k)) first last) (inner.views leaf texts links)
         ∙ ap (λ n. spanned (span_tag options (shown_kind k)) first n (inner_used width first n (shown_slots leaf texts links old))) (let q : last ≡ last + 1 - 1 = omega arith in q)
 
-    pub element-written : (new : List Slot) (el : Element) → ((d : Slot) → new ≡ set (set mid last (ended (get_or mid last d))) first (begun_as el (get_or mid last d).end (get_or mid first d))) → link_of el ≡ None
-        → ((links : List Link) → span_tag options (shown_kind k) ≡ Some (shown_element links el)) → IsSpanned options span old new
-    element-written new el is none tag =
+    pub element-written : (new : List Slot) (el : Element) → ((d : Slot) → new ≡ set (set mid last (ended (get_or mid last d))) first (begun_as (kind.Begin el) (get_or mid last d).end (get_or mid first d)))
+        → span_tag options (shown_kind k) ≡ Some (emphasis_tag el) → IsSpanned options span old new
+    element-written new el is tag =
         let a : Slot = ended (get_or mid last no-slot) in
-        let f : Slot = begun_as el (get_or mid last no-slot).end (get_or mid first no-slot) in
+        let f : Slot = begun_as (kind.Begin el) (get_or mid last no-slot).end (get_or mid first no-slot) in
         let lt = below in
         let there = mid-there in
         let n = length-set mid last a in
@@ -254,10 +255,10 @@ module _ (options : Options) (k : code_kind.SpanKind) (first last : ℕ) (old mi
           within = λ h. within-set (set mid last a) first f (within-set mid last a (inner.within h) (λ i. refl)) (λ i. refl);
           names =
               no-more-on old mid (set (set mid last a) first f) inner.names
-              (no-more-on mid (set mid last a) (set (set mid last a) first f) (no-more-set mid last a (refl, refl, refl)) (no-more-set (set mid last a) first f (refl, none, refl)));
+              (no-more-on mid (set mid last a) (set (set mid last a) first f) (no-more-set mid last a (refl, refl, refl)) (no-more-set (set mid last a) first f (refl, refl, refl)));
           views = λ leaf texts links.
               some-view leaf texts links mid first last el lt there mid-first mid-last mid-order
-              ∙ ap (λ t. spanned t first last (shown_slots leaf texts links mid)) (sym (tag links))
+              ∙ ap (λ t. spanned t first last (shown_slots leaf texts links mid)) (sym tag)
               ∙ written-so leaf texts links;
         })
 

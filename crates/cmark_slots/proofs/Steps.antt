@@ -1,16 +1,17 @@
 -- Slots that are appended while a text is read.
-use Rattle.std.proofs.Common.{◌≡◌, ℕ, ◌+◌, ◌≤◌, ◌<◌, Bool, true, false, List, [], ◌∷◌, ◌++◌, length, refl, sym, ap, subst, arith, get_or, ◌∙◌}
-use Rattle.std.specs.Prelude.{nat_lt}
+use Rattle.std.proofs.Common.{◌≡◌, ◌⊎◌, inl, inr, ℕ, ◌+◌, ◌≤◌, ◌<◌, Bool, true, false, List, [], ◌∷◌, ◌++◌, length, refl, sym, ap, subst, arith, get_or, ◌∙◌}
+use Rattle.std.specs.Prelude.{max, nat_lt}
 use Rattle.std.specs.Str.{IsCharBoundary, IsUtf8}
-use Rattle.std.proofs.lemmas.Bool.{ltb-true, ltb-false}
+use Rattle.std.proofs.lemmas.Bool.{cases_lt, ltb-true, ltb-false}
 use Rattle.std.proofs.lemmas.List.{length_push, get_or_append_left, get_or_push}
 use Rattle.std.proofs.lemmas.List.Elements.{All-push}
 use Rattle.std.proofs.lemmas.Str.{IsCharBoundary-after_ascii}
 use Rattle.cmark_leaf_text.specs.Reads.{IsPart}
-use Rattle.cmark_slots.specs.Slots.{IsSlot, AreSlots, AreBrackets, AreFree, HoldNoLink, NoNewLink, PushesText, begins_link}
+use Rattle.cmark_slots.specs.Slots.{IsContent, IsSlot, AreSlots, AreBrackets, AreFree, HoldNoLink, NoNewLink, PushesText, begins_link}
 use Rattle.cmark_slots.specs.declared.bracket.Bracket.{Bracket}
 use Rattle.cmark_slots.specs.declared.bracket.Brackets.{Brackets}
 use Rattle.cmark_slots.specs.declared.slot.Slot.{Slot}
+use Rattle.cmark_slots.specs.declared.slot.SlotKind.{SlotKind}
 use Rattle.cmark_slots.specs.declared.slot.SlotKind.TheVariants as kind
 
 no-new-push : (ss : List Slot) (s : Slot) → begins_link s.kind ≡ false → NoNewLink ss (ss ++ (s ∷ []))
@@ -40,6 +41,27 @@ pub last-holds-none : (ss ts : List Slot) (s : Slot) → begins_link s.kind ≡ 
 last-holds-none ss ts s e p = subst (λ l. HoldNoLink l (length ss)) (sym p) (λ k d le lt.
     let l = length_push ss s in
     ap (λ (t : Slot). begins_link t.kind) (get_or_push ss s d k (let q : length ss ≡ k = omega (arith, le, lt, l) in q)) ∙ e)
+
+-- a slot of another kind that ends at an offset or later
+pub widened : (text : List ℕ) (place end last : ℕ) (slot : Slot) (k : SlotKind) → IsSlot text place slot → IsCharBoundary text end → end ≤ place → last ≡ max slot.end end → ((close : ℕ) → IsContent text close k)
+    → IsSlot text place (record { kind = k; start = slot.start; end = last })
+widened text place end last slot k s edge before e content = go (cases_lt slot.end end)
+  where
+    go : (slot.end < end) ⊎ (end ≤ slot.end) → IsSlot text place (record { kind = k; start = slot.start; end = last })
+    go (inl lt) =
+        let q : end ≡ last = omega (arith, e, lt) in
+        record {
+          part = record { some = let b = s.part.some in omega (arith, b, lt, q); within = let w = edge.0 in omega (arith, w, q); starts = s.part.starts; ends = subst (IsCharBoundary text) q edge };
+          before = omega (arith, before, q);
+          content = content last;
+        }
+    go (inr le) =
+        let q : slot.end ≡ last = omega (arith, e, le) in
+        record {
+          part = record { some = let b = s.part.some in omega (arith, b, q); within = let w = s.part.within in omega (arith, w, q); starts = s.part.starts; ends = subst (IsCharBoundary text) q s.part.ends };
+          before = let w = s.before in omega (arith, w, q);
+          content = content last;
+        }
 
 pub record Keeps (text : List ℕ) (at : ℕ) (ss : List Slot) (v w : Brackets) (bytes : ℕ) : Type 0 where
   pub slots : AreSlots text at ss

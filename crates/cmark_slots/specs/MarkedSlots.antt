@@ -6,7 +6,6 @@ use Rattle.cmark_slots.specs.Slots.{byte_slots}
 use Rattle.cmark_slots.specs.Cuts.{Hides}
 use Rattle.cmark_emphasis.specs.declared.run.PlacedRun.{PlacedRun}
 use Rattle.cmark_slots.specs.declared.quote.PlacedQuote.{PlacedQuote}
-use Rattle.cmark_slots.specs.declared.slot.Element.{Element}
 use Rattle.cmark_slots.specs.declared.slot.Slot.{Slot}
 use Rattle.cmark_slots.specs.declared.slot.SlotKind.{SlotKind}
 use Rattle.cmark_slots.specs.declared.slot.SlotKind.TheVariants as kind
@@ -57,8 +56,8 @@ EndWithin slots = (i : ℕ) (d : Slot) → i < length slots → last_in (get_or 
 abbrev pub ended : Slot → Slot
 ended slot = record { kind = kind.End; start = slot.start; end = slot.end }
 
-abbrev pub begun_as : Element → (end : ℕ) → Slot → Slot
-begun_as element end slot = record { kind = kind.Begin element; start = slot.start; end = max slot.end end }
+abbrev pub begun_as : SlotKind → (end : ℕ) → Slot → Slot
+begun_as begun end slot = record { kind = begun; start = slot.start; end = max slot.end end }
 
 abbrev pub whole_to : (last end : ℕ) → Slot → Slot
 whole_to last end slot = record { kind = kind.Whole last; start = slot.start; end = max slot.end end }

@@ -18,8 +18,10 @@ use Rattle.cmark_references.specs.Links.{shown_link}
 use Rattle.cmark_values.specs.Shown.{text_bytes}
 use Rattle.cmark_values.specs.declared.text.CowStr.{CowStr}
 use Rattle.cmark_references.specs.declared.link.Link.{Link}
-use Rattle.cmark_slots.specs.declared.slot.Element.{Element}
-use Rattle.cmark_slots.specs.declared.slot.Element.TheVariants as element
+use Rattle.cmark_slots.specs.Elements.{emphasis_tag}
+use Rattle.cmark_slots.specs.Slots.{before_backticks}
+use Rattle.cmark_slots.specs.declared.slot.LinkElement.{LinkElement}
+use Rattle.cmark_slots.specs.declared.slot.LinkElement.TheVariants as element
 use Rattle.cmark_slots.specs.declared.slot.Slot.{Slot}
 use Rattle.cmark_slots.specs.declared.slot.SlotKind.{SlotKind}
 use Rattle.cmark_slots.specs.declared.slot.SlotKind.TheVariants as kind
@@ -42,17 +44,11 @@ linked_or_none (Some parts) = shown_link parts
 abbrev pub linked_at : List Link → (index : ℕ) → Linked
 linked_at links index = linked_or_none (slice_get links index)
 
--- the tag of an element; an autolink is a link
-abbrev pub shown_element : List Link → Element → Tag
-shown_element links element.Emphasis = tag.Emphasis
-shown_element links element.Strong = tag.Strong
-shown_element links element.Strikethrough = tag.Strikethrough
-shown_element links element.Superscript = tag.Superscript
-shown_element links element.Subscript = tag.Subscript
-shown_element links element.Highlight = tag.Highlight
-shown_element links (element.Link index) = tag.Link (linked_at links index)
-shown_element links (element.Autolink index) = tag.Link (linked_at links index)
-shown_element links (element.Image index) = tag.Image (linked_at links index)
+-- the tag of an element with this link; an autolink is a link
+abbrev pub link_tag : LinkElement → Linked → Tag
+link_tag element.Link linked = tag.Link linked
+link_tag element.Autolink linked = tag.Link linked
+link_tag element.Image linked = tag.Image linked
 
 -- the start and the end of a slot's bytes in the source
 abbrev pub first_of : LeafText → Slot → ℕ
@@ -64,6 +60,10 @@ slot_end leaf slot = place_of leaf (slot.end - 1) + 1
 -- the bytes of the leaf's text between two offsets
 abbrev pub written : LeafText → (from to : ℕ) → List ℕ
 written leaf from to = slice (text_of leaf) from to
+
+-- the content of a code span that begins at an offset, if the span ends at another
+abbrev pub written_code : LeafText → (from end : ℕ) → List ℕ
+written_code leaf from end = written leaf from (before_backticks (text_of leaf) end)
 
 abbrev pub item_slot : items.ItemKind → (start end : ℕ) → row.Slot
 item_slot kind start end = row.ItemSlot (item kind start end)
@@ -77,16 +77,17 @@ module _ (leaf : LeafText) (texts : List CowStr) (links : List Link) (slot : Slo
   slot_as (kind.Whole last) = item_slot items.Own (first_of leaf slot) (slot_end leaf slot)
   slot_as kind.SoftBreak = item_slot items.SoftBreak (first_of leaf slot) (slot_end leaf slot)
   slot_as kind.HardBreak = item_slot items.HardBreak (first_of leaf slot) (slot_end leaf slot)
-  slot_as (kind.Code from to) = item_slot (items.Code (code_text (as_in (is_cell_of leaf) (written leaf from to)))) (first_of leaf slot) (slot_end leaf slot)
-  slot_as (kind.InlineMath from to) = item_slot (items.InlineMath (as_in (is_cell_of leaf) (written leaf from to))) (first_of leaf slot) (slot_end leaf slot)
-  slot_as (kind.DisplayMath from to) = item_slot (items.DisplayMath (as_in (is_cell_of leaf) (written leaf from to))) (first_of leaf slot) (slot_end leaf slot)
+  slot_as (kind.Code from) = item_slot (items.Code (code_text (as_in (is_cell_of leaf) (written_code leaf from slot.end)))) (first_of leaf slot) (slot_end leaf slot)
+  slot_as (kind.InlineMath from) = item_slot (items.InlineMath (as_in (is_cell_of leaf) (written leaf from (slot.end - 1)))) (first_of leaf slot) (slot_end leaf slot)
+  slot_as (kind.DisplayMath from) = item_slot (items.DisplayMath (as_in (is_cell_of leaf) (written leaf from (slot.end - 2)))) (first_of leaf slot) (slot_end leaf slot)
   slot_as kind.InlineHtml = item_slot (items.OwnedHtml (written leaf slot.start slot.end)) (first_of leaf slot) (slot_end leaf slot)
   slot_as (kind.SourceHtml end) = item_slot items.Html (first_of leaf slot) end
   slot_as (kind.CutHtml from) = item_slot (items.OwnedHtml (written leaf from slot.end)) (first_of leaf slot) (slot_end leaf slot)
   slot_as (kind.SourceText end) = item_slot items.Own (first_of leaf slot) end
   slot_as kind.Empty = item_slot (items.Written []) (first_of leaf slot) (first_of leaf slot)
   slot_as (kind.FootnoteReference index) = item_slot (items.FootnoteReference (text_at texts index)) (first_of leaf slot) (slot_end leaf slot)
-  slot_as (kind.Begin element) = row.BeginSlot (shown_element links element) (first_of leaf slot) (slot_end leaf slot)
+  slot_as (kind.Begin mark) = row.BeginSlot (emphasis_tag mark) (first_of leaf slot) (slot_end leaf slot)
+  slot_as (kind.BeginLink element index) = row.BeginSlot (link_tag element (linked_at links index)) (first_of leaf slot) (slot_end leaf slot)
   slot_as kind.End = row.EndSlot
   slot_as kind.Nothing = row.NothingSlot
 
@@ -107,14 +108,8 @@ text_named (kind.OwnedText index) = Some index
 text_named (kind.FootnoteReference index) = Some index
 text_named _ = None
 
-abbrev pub link_of : Element → Option ℕ
-link_of (element.Link index) = Some index
-link_of (element.Autolink index) = Some index
-link_of (element.Image index) = Some index
-link_of _ = None
-
 abbrev pub link_named : SlotKind → Option ℕ
-link_named (kind.Begin element) = link_of element
+link_named (kind.BeginLink element index) = Some index
 link_named _ = None
 
 abbrev pub IsThere : (count : ℕ) → Option ℕ → Type 0

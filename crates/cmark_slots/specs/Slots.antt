@@ -1,42 +1,55 @@
 -- The slots of a leaf's text, and the opening brackets among them.
-use Rattle.std.specs.Prelude.{◌≡◌, ℕ, ◌+◌, ◌≤◌, ◌<◌, Bool, true, false, List, [], ◌∷◌, ◌++◌, length, get_or, All, nat_lt, if◌then◌else◌, set, zero, suc}
+use Rattle.std.specs.Prelude.{◌≡◌, ℕ, ◌+◌, ◌≤◌, ◌<◌, Bool, true, false, List, [], ◌∷◌, ◌++◌, ◌-◌, length, get_or, All, nat_lt, if◌then◌else◌, set, zero, suc}
 use Rattle.std.specs.List.{sum_by}
 use Rattle.std.specs.Str.{IsCharBoundary}
+use Rattle.cmark_grammar.specs.CodeSpans.{is_backtick}
 use Rattle.cmark_leaf_text.specs.Reads.{IsPart}
 use Rattle.cmark_slots.specs.declared.bracket.Bracket.{Bracket}
 use Rattle.cmark_emphasis.specs.declared.run.PlacedRun.{PlacedRun}
-use Rattle.cmark_slots.specs.declared.slot.Element.{Element}
-use Rattle.cmark_slots.specs.declared.slot.Element.TheVariants as element
+use Rattle.cmark_slots.specs.declared.slot.LinkElement.{LinkElement}
+use Rattle.cmark_slots.specs.declared.slot.LinkElement.TheVariants as element
 use Rattle.cmark_slots.specs.declared.slot.Slot.{Slot}
 use Rattle.cmark_slots.specs.declared.slot.SlotKind.{SlotKind}
 use Rattle.cmark_slots.specs.declared.slot.SlotKind.TheVariants as kind
 
--- the content of a code span or a formula is a part of the text
-abbrev pub IsContent : List ℕ → SlotKind → Type 0
-IsContent text kind.Text = Unit {0}
-IsContent text (kind.OwnedText index) = Unit {0}
-IsContent text (kind.Character character) = Unit {0}
-IsContent text (kind.Whole last) = Unit {0}
-IsContent text kind.SoftBreak = Unit {0}
-IsContent text kind.HardBreak = Unit {0}
-IsContent text (kind.Code from to) = IsCharBoundary text from × IsCharBoundary text to
-IsContent text (kind.InlineMath from to) = IsCharBoundary text from × IsCharBoundary text to
-IsContent text (kind.DisplayMath from to) = IsCharBoundary text from × IsCharBoundary text to
-IsContent text kind.InlineHtml = Unit {0}
-IsContent text (kind.SourceHtml end) = Unit {0}
-IsContent text (kind.CutHtml from) = IsCharBoundary text from
-IsContent text (kind.SourceText end) = Unit {0}
-IsContent text kind.Empty = Unit {0}
-IsContent text (kind.FootnoteReference index) = Unit {0}
-IsContent text (kind.Begin element) = Unit {0}
-IsContent text kind.End = Unit {0}
-IsContent text kind.Nothing = Unit {0}
+-- the offset of the backticks that end at an offset
+abbrev pub before_backticks : (text : List ℕ) → (end : ℕ) → ℕ
+before_backticks text zero = zero
+before_backticks text (suc at) = if is_backtick (get_or text at 0) then before_backticks text at else suc at
+
+-- a formula with so many dollar signs at its end has its content from this offset on
+pub record IsFormula (text : List ℕ) (from signs end : ℕ) : Type 0 where
+  pub starts : IsCharBoundary text from
+  pub signs_there : signs ≤ end
+  pub ends : IsCharBoundary text (end - signs)
+
+-- the content of a code span or a formula that ends at an offset is a part of the text
+abbrev pub IsContent : (text : List ℕ) → (end : ℕ) → SlotKind → Type 0
+IsContent text end kind.Text = Unit {0}
+IsContent text end (kind.OwnedText index) = Unit {0}
+IsContent text end (kind.Character character) = Unit {0}
+IsContent text end (kind.Whole last) = Unit {0}
+IsContent text end kind.SoftBreak = Unit {0}
+IsContent text end kind.HardBreak = Unit {0}
+IsContent text end (kind.Code from) = IsCharBoundary text from × IsCharBoundary text (before_backticks text end)
+IsContent text end (kind.InlineMath from) = IsFormula text from 1 end
+IsContent text end (kind.DisplayMath from) = IsFormula text from 2 end
+IsContent text end kind.InlineHtml = Unit {0}
+IsContent text end (kind.SourceHtml past) = Unit {0}
+IsContent text end (kind.CutHtml from) = IsCharBoundary text from
+IsContent text end (kind.SourceText past) = Unit {0}
+IsContent text end kind.Empty = Unit {0}
+IsContent text end (kind.FootnoteReference index) = Unit {0}
+IsContent text end (kind.Begin mark) = Unit {0}
+IsContent text end (kind.BeginLink element index) = Unit {0}
+IsContent text end kind.End = Unit {0}
+IsContent text end kind.Nothing = Unit {0}
 
 -- a slot covers bytes of the text before this offset, and begins and ends at character boundaries
 pub record IsSlot (text : List ℕ) (at : ℕ) (slot : Slot) : Type 0 where
   pub part : IsPart text slot.start slot.end
   pub before : slot.end ≤ at
-  pub content : IsContent text slot.kind
+  pub content : IsContent text slot.end slot.kind
 
 abbrev pub AreSlots : (text : List ℕ) → (at : ℕ) → List Slot → Type 0
 AreSlots text at slots = All (IsSlot text at) slots
@@ -51,16 +64,10 @@ abbrev pub AreBrackets : (text : List ℕ) → (at : ℕ) → List Bracket → T
 AreBrackets text at brackets = All (IsBracket text at) brackets
 
 -- a link or a wikilink begins, which is not an autolink and not an image
-abbrev pub is_link : Element → Bool
-is_link element.Emphasis = false
-is_link element.Strong = false
-is_link element.Strikethrough = false
-is_link element.Superscript = false
-is_link element.Subscript = false
-is_link element.Highlight = false
-is_link (element.Link index) = true
-is_link (element.Autolink index) = false
-is_link (element.Image index) = false
+abbrev pub is_link : LinkElement → Bool
+is_link element.Link = true
+is_link element.Autolink = false
+is_link element.Image = false
 
 abbrev pub begins_link : SlotKind → Bool
 begins_link kind.Text = false
@@ -69,16 +76,17 @@ begins_link (kind.Character character) = false
 begins_link (kind.Whole last) = false
 begins_link kind.SoftBreak = false
 begins_link kind.HardBreak = false
-begins_link (kind.Code from to) = false
-begins_link (kind.InlineMath from to) = false
-begins_link (kind.DisplayMath from to) = false
+begins_link (kind.Code from) = false
+begins_link (kind.InlineMath from) = false
+begins_link (kind.DisplayMath from) = false
 begins_link kind.InlineHtml = false
 begins_link (kind.SourceHtml end) = false
 begins_link (kind.CutHtml from) = false
 begins_link (kind.SourceText end) = false
 begins_link kind.Empty = false
 begins_link (kind.FootnoteReference index) = false
-begins_link (kind.Begin element) = is_link element
+begins_link (kind.Begin mark) = false
+begins_link (kind.BeginLink element index) = is_link element
 begins_link kind.End = false
 begins_link kind.Nothing = false
 

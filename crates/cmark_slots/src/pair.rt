@@ -1,8 +1,8 @@
 //! Pairs of delimiter runs, and the elements that they form in the slots of their bytes (CommonMark 6.2).
 
-ghost use Rattle.std.specs.Prelude.{◌≡◌, ◌+◌, ◌<◌, ◌≤◌, ◌++◌, ◌∷◌, ℕ, false, List, [], None, Some, get_or, length, map, set, IfSome};
+ghost use Rattle.std.specs.Prelude.{◌≡◌, ◌+◌, ◌<◌, ◌≤◌, ◌++◌, ◌∷◌, ℕ, List, [], get_or, length, map, set};
 ghost use Rattle.cmark_emphasis.specs.Shown.{shown_kind, shown_pair};
-ghost use Rattle.cmark_grammar.specs.Spans.{Span, span_tag, span_width};
+ghost use Rattle.cmark_grammar.specs.Spans.{Span, span_width};
 ghost use Rattle.cmark_leaf_text.specs.declared.leaf_text.LeafText.{LeafText};
 ghost use Rattle.cmark_references.specs.declared.link.Link.{Link};
 ghost use Rattle.cmark_values.specs.Shown.{shown_options};
@@ -10,11 +10,12 @@ ghost use Rattle.cmark_values.specs.declared.text.CowStr.{CowStr};
 ghost use Rattle.cmark_slots.specs.Elements.{IsElementOf};
 ghost use Rattle.cmark_slots.specs.MarkedSlots.{AreWhole, SameBefore, begun_as, ended};
 ghost use Rattle.cmark_slots.specs.PairSlots.{AreOpen, BeginFrom, CanWrite, KeepsSlots, hidden_inside, span_between, spans_of_pair, spans_of_pairs, write_span, write_spans};
-ghost use Rattle.cmark_slots.specs.SlotViews.{link_of, shown_element, shown_slots};
-ghost use Rattle.cmark_slots.specs.Slots.{AreSlots, NoNewLink, is_link};
+ghost use Rattle.cmark_slots.specs.SlotViews.{shown_slots};
+ghost use Rattle.cmark_slots.specs.Slots.{AreSlots, NoNewLink};
 ghost use Rattle.cmark_slots.specs.declared.slot.Slot.{Slot as Slots};
+ghost use Rattle.cmark_slots.specs.declared.slot.SlotKind.TheVariants as slot_kind;
 
-use crate::slot::{Element, Slot, begin, merge, use_up};
+use crate::slot::{Element, Slot, SlotKind, begin, merge, use_up};
 use bitflags::Flags;
 use cmark_emphasis::{Pair, SpanKind, innermost};
 use cmark_values::Options;
@@ -109,7 +110,6 @@ fn use_up_inner(kind: SpanKind, first: usize, last: usize, slots: &mut Vec<Slot>
 
 /// Makes two slots the start and the end of an element.
 fn enclose(slots: &mut Vec<Slot>, first: usize, last: usize, element: Element)
-    requires link { is_link element ≡ false }
     requires order { first < last }
     requires within { last < length slots.old.items }
     ensures slots { (text : List ℕ) (place : ℕ) → AreSlots text place slots.old.items
@@ -119,22 +119,18 @@ fn enclose(slots: &mut Vec<Slot>, first: usize, last: usize, element: Element)
     ensures value { (d : Slots)
         → slots.new.items
         ≡ set (set slots.old.items last (ended (get_or slots.old.items last d))) first
-        (begun_as element (get_or slots.old.items last d).end (get_or slots.old.items first d)) }
+        (begun_as (slot_kind.Begin element) (get_or slots.old.items last d).end
+        (get_or slots.old.items first d)) }
 {
     let end = slots[last].end;
     use_up(slots, last, true);
-    begin(slots, first, element, end);
+    begin(slots, first, SlotKind::Begin(element), end);
 }
 
 /// The element of a span under these options. Double tildes without strikethrough form no element: their span becomes one text (this
 /// profile's own).
 fn element_of(kind: SpanKind, options: Options) -> Option<Element>
-    ensures value { IsElementOf (shown_options options) (shown_kind kind) result }
-    ensures links { IfSome result (λ element. is_link element ≡ false) }
-    ensures names { IfSome result (λ element. link_of element ≡ None) }
-    ensures tag { IfSome result
-        (λ element. (links : List Link)
-        → span_tag (shown_options options) (shown_kind kind) ≡ Some (shown_element links element)) }
+    ensures { IsElementOf (shown_options options) (shown_kind kind) result }
 {
     match kind {
         SpanKind::Emphasis => Some(Element::Emphasis),

@@ -4,7 +4,7 @@ ghost use Rattle.std.specs.Prelude.{◌≡◌, ◌<◌, ◌≤◌, ◌+◌, ◌+
 ghost use Rattle.std.specs.Str.{IsCharBoundary};
 ghost use Rattle.cmark_grammar.specs.InlineHtml.{takes_lines};
 ghost use Rattle.cmark_grammar.specs.Tokens.{slice};
-ghost use Rattle.cmark_slots.specs.Slots.{put_at, AreSlots, HoldNoLink, IsContent, IsSlot, NoNewLink, PushesText, begins_link, is_link};
+ghost use Rattle.cmark_slots.specs.Slots.{put_at, AreSlots, HoldNoLink, IsContent, IsSlot, NoNewLink, PushesText, begins_link};
 ghost use Rattle.cmark_slots.specs.MarkedSlots.{AreWhole, Merges, begun_as, ended, last_in, whole_to};
 ghost use Rattle.cmark_slots.specs.QuoteSlots.{with_character};
 ghost use Rattle.cmark_leaf_text.specs.Reads.{IsPart};
@@ -15,7 +15,7 @@ ghost use Rattle.cmark_slots.specs.declared.slot.SlotKind.TheVariants as kind;
 use cmark_search::find_line_end;
 use std::alloc::AllocError;
 
-/// An element around other slots.
+/// An element of emphasis around other slots.
 #[derive(Clone, Copy)]
 pub enum Element {
     Emphasis,
@@ -24,15 +24,17 @@ pub enum Element {
     Superscript,
     Subscript,
     Highlight,
-    /// The link with this index.
-    Link(usize),
-    /// The autolink with this index.
-    Autolink(usize),
-    /// The image with this index.
-    Image(usize),
 }
 
-/// The meaning of a slot.
+/// An element around other slots that has a link: its destination and its title.
+#[derive(Clone, Copy)]
+pub enum LinkElement {
+    Link,
+    Autolink,
+    Image,
+}
+
+/// The meaning of a slot. A kind has at most one number.
 #[derive(Clone, Copy)]
 pub enum SlotKind {
     /// The bytes of its range.
@@ -45,12 +47,12 @@ pub enum SlotKind {
     Whole(usize),
     SoftBreak,
     HardBreak,
-    /// A code span, with the range of its content.
-    Code(usize, usize),
-    /// Inline math, with the range of its content.
-    InlineMath(usize, usize),
-    /// Display math, with the range of its content.
-    DisplayMath(usize, usize),
+    /// A code span whose content begins at this offset of the text. It ends before the backticks at the slot's end.
+    Code(usize),
+    /// Inline math whose content begins at this offset of the text. It ends one byte before the slot's end.
+    InlineMath(usize),
+    /// Display math whose content begins at this offset of the text. It ends two bytes before the slot's end.
+    DisplayMath(usize),
     /// A tag: the bytes of its range.
     InlineHtml,
     /// Inline HTML that is a part of the source and ends there at this offset, exclusive.
@@ -63,8 +65,10 @@ pub enum SlotKind {
     Empty,
     /// A footnote reference. Its label is the owned text with this index.
     FootnoteReference(usize),
-    /// The start of an element. The range is the whole element's.
+    /// The start of emphasis. The range is the whole element's.
     Begin(Element),
+    /// The start of an element with the link of this index. The range is the whole element's.
+    BeginLink(LinkElement, usize),
     /// The end of the element that began last.
     End,
     /// No event: a delimiter whose bytes belong to another slot.
@@ -79,6 +83,9 @@ pub struct Slot {
     pub start: usize,
     pub end: usize,
 }
+
+// A text may have a slot for each of its bytes, so a kind has at most one number.
+const _: () = prove!(size_of::<Slot>() == 32);
 
 // How many slots more there is room for when a list of slots is full. Most leaves have fewer, so their list grows once.
 const SLOTS_AT_ONCE: usize = 24;
@@ -122,21 +129,22 @@ pub fn push_text(slots: &mut Vec<Slot>, start: usize, end: usize) -> Result<(), 
     Ok(())
 }
 
-/// Makes a slot the start of an element that ends at the offset `end` or later.
-pub fn begin(slots: &mut Vec<Slot>, at: usize, element: Element, end: usize)
+/// Makes a slot the start of an element of this kind that ends at the offset `end` or later.
+pub fn begin(slots: &mut Vec<Slot>, at: usize, kind: SlotKind, end: usize)
     requires there { at < length slots.old.items }
+    requires content { (text : List ℕ) (close : ℕ) → IsContent text close kind }
     ensures slots { (text : List ℕ) (place : ℕ) → AreSlots text place slots.old.items
         → IsCharBoundary text end → end ≤ place → AreSlots text place slots.new.items }
     ensures length { length slots.new.items ≡ length slots.old.items }
-    ensures links { is_link element ≡ false → NoNewLink slots.old.items slots.new.items }
+    ensures links { begins_link kind ≡ false → NoNewLink slots.old.items slots.new.items }
     ensures following { HoldNoLink slots.old.items at → HoldNoLink slots.new.items (at + 1) }
     ensures value { (d : Slots)
         → slots.new.items
-        ≡ set slots.old.items at (begun_as element end (get_or slots.old.items at d)) }
+        ≡ set slots.old.items at (begun_as kind end (get_or slots.old.items at d)) }
 {
     let slot = slots[at];
     slots[at] = Slot {
-        kind: SlotKind::Begin(element),
+        kind,
         start: slot.start,
         end: slot.end.max(end),
     };
@@ -332,7 +340,7 @@ pub fn cut(slots: &mut Vec<Slot>, at: usize, text: &str, place: usize)
 // The slot, beginning at `place` if that is inside it.
 fn cut_slot(slot: Slot, text: &str, place: usize) -> Slot
     requires part { IsPart text.now slot.start slot.end }
-    requires content { IsContent text.now slot.kind }
+    requires content { IsContent text.now slot.end slot.kind }
     ensures value { result ≡ cut_slot text.now place slot }
     ensures slot { (end : ℕ) → IsSlot text.now end slot → IsCharBoundary text.now place
         → IsSlot text.now end result }
@@ -358,9 +366,10 @@ fn is_inside(slot: Slot, place: usize) -> bool
 // The meaning of a slot once its first bytes are cut off.
 fn cut_kind(slot: Slot, text: &str) -> SlotKind
     requires part { IsPart text.now slot.start slot.end }
-    requires content { IsContent text.now slot.kind }
+    requires content { IsContent text.now slot.end slot.kind }
     ensures value { result ≡ cut_kind text.now slot.start slot.end slot.kind }
-    ensures content { IsContent text.now slot.kind → IsContent text.now result }
+    ensures content { IsContent text.now slot.end slot.kind
+        → IsContent text.now slot.end result }
     ensures link { begins_link result ≡ begins_link slot.kind }
 {
     match slot.kind {

@@ -1,10 +1,11 @@
-//! Texts of the bytes between two offsets of a leaf's text.
+//! Texts of the bytes between two offsets of a leaf's text, and where the content of a code span ends.
 
-ghost use Rattle.std.specs.Prelude.{◌≡◌, ◌⊎◌, ◌+◌, ◌-◌, IfOk};
+ghost use Rattle.std.specs.Prelude.{◌≡◌, ◌⊎◌, ◌≤◌, ◌+◌, ◌-◌, length, IfOk};
 ghost use Rattle.cmark_grammar.specs.Tokens.{slice};
 ghost use Rattle.cmark_leaf_text.specs.Reads.{IsPart, IsRead, place_of, source_of, text_of};
 ghost use Rattle.cmark_values.specs.Lending.{IsBorrowed, IsLentBy};
 ghost use Rattle.cmark_values.specs.Shown.{IsBoxed, IsInlined, text_bytes};
+ghost use Rattle.cmark_slots.specs.Slots.{before_backticks};
 
 use cmark_leaf_text::LeafText;
 use cmark_values::CowStr;
@@ -40,4 +41,18 @@ pub fn copied<'a>(alloc: Global, text: &str) -> Result<CowStr<'a>, AllocError>
     ensures own { IfOk result (λ copy. IsBoxed copy ⊎ IsInlined copy) }
 {
     CowStr::Borrowed(text).into_static(alloc)
+}
+
+/// The offset of the backticks that end at the offset `end`, which is the end of a code span's content.
+#[inline(always)]
+pub fn before_backticks(text: &str, end: usize) -> usize
+    requires { end ≤ length text.now }
+    ensures { result ≡ before_backticks text.now end }
+{
+    let bytes = text.as_bytes();
+    let mut at = end;
+    while 0 < at && bytes[at - 1] == b'`' {
+        at -= 1;
+    }
+    at
 }

@@ -8,6 +8,6 @@ use Rattle.cmark_slot_events.proofs.short.code_in.Goals as goal
 
 pub returns-in-Some-clause-part : goal.returns-in-Some-clause-part
 returns-in-Some-clause-part c =
-    let part : IsPart (text_of c.args.leaf.now) c.args.from c.args.to = search rules in
+    let part : IsPart (text_of c.args.leaf.now) c.args.from c.before_backticks-to.result = search rules in
     IfSome_then c.code_part.result c.code_part.ensures.part
-    (λ made is. let code : Result CowStr ℕ = Ok (Borrowed made) in code-part code c.in-Some.content.now c.args.leaf.now c.args.from c.args.to c.requires.read part c.in-Some.ensures.source is)
+    (λ made is. let code : Result CowStr ℕ = Ok (Borrowed made) in code-part code c.in-Some.content.now c.args.leaf.now c.args.from c.before_backticks-to.result c.requires.read part c.in-Some.ensures.source is)

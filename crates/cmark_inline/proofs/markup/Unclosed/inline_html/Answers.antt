@@ -11,7 +11,7 @@ use Rattle.cmark_inline.proofs.PaidSteps.{paid-tag}
 use Rattle.cmark_inline.proofs.markup.Unclosed.inline_html.Goals as goal
 
 -- a tag can be a slot
-fits-tag : (leaf : LeafText) (text : List ℕ) (at : ℕ) (tag : Option FoundHtml) → IfSome tag (λ (found : FoundHtml). IsPart text at found.end) → IfSome tag (λ (found : FoundHtml). IsContent text found.kind)
+fits-tag : (leaf : LeafText) (text : List ℕ) (at : ℕ) (tag : Option FoundHtml) → IfSome tag (λ (found : FoundHtml). IsPart text at found.end) → IfSome tag (λ (found : FoundHtml). IsContent text found.end found.kind)
     → IfSome tag (λ (found : FoundHtml). begins_link found.kind ≡ false) → IfSome tag (λ (found : FoundHtml). (end : ℕ) → found.kind ≡ kind.SourceHtml end → ⊥) → IfSome tag (CanBeSlot leaf text at)
 fits-tag leaf text at None part content link edge = tt
 fits-tag leaf text at (Some found) part content link edge = record { part = part; content = content; kind_is = link; edge = λ end e. absurd (edge end e) }

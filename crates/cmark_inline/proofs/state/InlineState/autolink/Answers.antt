@@ -2,7 +2,7 @@ use Rattle.std.proofs.Common.{arith, ◌≡◌, rules, ℕ, ◌+◌, ◌-◌, Li
 use Rattle.cmark_grammar.specs.Siblings.{address_type}
 use Rattle.cmark_grammar.specs.Tokens.{slice}
 use Rattle.cmark_inline.specs.Stands.{Stands}
-use Rattle.cmark_slots.specs.declared.slot.Element.TheVariants as element
+use Rattle.cmark_slots.specs.declared.slot.LinkElement.TheVariants as element
 use Rattle.cmark_slots.specs.declared.slot.Slot.{Slot}
 use Rattle.cmark_slots.specs.declared.slot.SlotKind.TheVariants as kind
 use Rattle.cmark_inline.specs.declared.state.InlineState.{InlineState}
@@ -25,7 +25,7 @@ returns-clause-slots c =
       text = p.text;
       slots_are = c.in_ok-add-2.ensures.slots
           ∙ ap (λ (l : List Slot). l ++ (last ∷ [])) (c.in_ok-add.ensures.slots ∙ ap (λ (l : List Slot). l ++ (uri ∷ [])) p.slot_is)
-          ∙ ap (λ (n : ℕ). ((p.before ++ (record { kind = kind.Begin (element.Autolink n); start = c.args.here.at; end = c.args.end } ∷ [])) ++ (uri ∷ [])) ++ (last ∷ [])) index;
+          ∙ ap (λ (n : ℕ). ((p.before ++ (record { kind = kind.BeginLink element.Autolink n; start = c.args.here.at; end = c.args.end } ∷ [])) ++ (uri ∷ [])) ++ (last ∷ [])) index;
     }
 
 pub returns-clause-others : goal.returns-clause-others

@@ -1,8 +1,9 @@
 use Rattle.std.specs.Option.{IfSome}
 use Rattle.std.specs.Prelude.{is_some, option_map}
-use Rattle.std.proofs.Common.{rules, inl, ◌<◌, refl, sym, ap, subst, ◌∙◌, true≢false}
-use Rattle.cmark_span_scan.specs.Shown.{shown_code, IsCodeAt}
-use Rattle.cmark_inline.proofs.Appended.{code-appends, ticks-make}
+use Rattle.std.specs.Str.{IsCharBoundary}
+use Rattle.std.proofs.Common.{arith, rules, inl, ◌<◌, refl, sym, ap, subst, ◌∙◌, true≢false}
+use Rattle.cmark_span_scan.specs.Shown.{shown_code, ClosesFirst, IsCodeAt}
+use Rattle.cmark_inline.proofs.Appended.{code-appends, code-stops, ticks-make}
 use Rattle.cmark_inline.proofs.Keeping.{keeps-puts}
 use Rattle.std.proofs.lemmas.Result.{IfOk-weaker}
 use Rattle.cmark_inline.proofs.LastCalls.{ok-by-three}
@@ -11,7 +12,7 @@ use Rattle.cmark_inline.proofs.state.InlineState.backticks.Goals as goal
 pub returns-in-Some-clause-token : goal.returns-in-Some-clause-token
 returns-in-Some-clause-token c = λ o l cell is. ok-by-three c.put.result _ _ _ _ c.put.ensures.at c.put.ensures.end c.put.ensures.slots (λ next at end slots.
     inl (code-appends o l cell c.args.text.now c.args.here c.args.self.now c.put.new.self next c.in-Some.span c.requires.byte.cursor.ordered c.requires.byte.within is
-    (ap (option_map (shown_code c.args.text.now)) (sym c.in-Some.is) ∙ c.in_ok-span.ensures.value) (subst (λ r. IfSome r (IsCodeAt c.args.text.now c.args.here.at)) c.in-Some.is c.in_ok-span.ensures.places)
+    (ap (option_map (shown_code c.args.text.now)) (sym c.in-Some.is) ∙ c.in_ok-span.ensures.value) (subst (λ r. IfSome r (IsCodeAt c.args.text.now c.args.here.at)) c.in-Some.is c.in_ok-span.ensures.places) (subst (λ r. IfSome r (ClosesFirst c.args.text.now c.args.here.at)) c.in-Some.is c.in_ok-span.ensures.first)
     at (end ∙ sym at) slots c.put.ensures.others))
 
 pub returns-clause-token : goal.returns-clause-token
@@ -19,6 +20,19 @@ returns-clause-token c = λ o l cell is. ok-by-three c.put-2.result _ _ _ _ c.pu
     ticks-make o l cell c.args.text.now c.args.here c.args.self.now c.put-2.new.self next c.text_start-start.result c.run_end.result c.requires.byte.cursor.ordered c.requires.byte.within is
     (ap (option_map (shown_code c.args.text.now)) (sym c.in_default.is) ∙ c.in_ok-span.ensures.value) c.run_end.ensures.value c.text_start-start.ensures.value c.text_start-start.ensures.escaped
     at (end ∙ sym at) slots c.put-2.ensures.others)
+
+pub put-requires-clause-next : goal.put-requires-clause-next
+put-requires-clause-next c =
+    let text = c.args.text.now in
+    let span = c.in-Some.span in
+    let places : IsCodeAt text c.args.here.at span = subst (λ r. IfSome r (IsCodeAt text c.args.here.at)) c.in-Some.is c.in_ok-span.ensures.places in
+    let first : ClosesFirst text c.args.here.at span = subst (λ r. IfSome r (ClosesFirst text c.args.here.at)) c.in-Some.is c.in_ok-span.ensures.first in
+    record {
+      ordered = search rules;
+      is = (record { part = search rules; before = omega arith; content = (places.starts, subst (IsCharBoundary text) (sym (code-stops text c.args.here.at span places first)) places.stops) });
+      further = search rules;
+      kind = search rules;
+    }
 
 pub returns-in-Some-clause-reads_on : goal.returns-in-Some-clause-reads_on
 returns-in-Some-clause-reads_on c = record {

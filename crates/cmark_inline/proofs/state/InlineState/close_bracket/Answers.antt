@@ -1,5 +1,5 @@
 use Rattle.std.specs.Prelude.{false, Option, IfSome, is_some}
-use Rattle.std.proofs.Common.{rules, arith, ◌≡◌, ◌+◌, ◌++◌, ◌∷◌, [], refl, sym, ap, subst, ◌∙◌, inl}
+use Rattle.std.proofs.Common.{rules, arith, ◌≡◌, ◌++◌, ◌∷◌, [], refl, sym, ap, subst, ◌∙◌, inl}
 use Rattle.cmark_grammar.specs.BracketDecisions.{decide, is_there}
 use Rattle.cmark_leaf_text.specs.Reads.{IsPart, is_cell_of}
 use Rattle.cmark_values.specs.Shown.{shown_options}

@@ -5,10 +5,11 @@ use Rattle.cmark_grammar.specs.Formulas.{is_dollar}
 use Rattle.cmark_grammar.specs.Letters.{first_is}
 use Rattle.cmark_span_scan.specs.Dollars.{IsFormulaAt, shown_formula}
 use Rattle.cmark_span_scan.specs.declared.dollars.Formula.{Formula}
-use Rattle.cmark_inline.proofs.FormulaSteps.{formula-appends, sign-appends}
+use Rattle.cmark_inline.proofs.FormulaSteps.{formula-appends, formula-content, sign-appends}
 use Rattle.cmark_inline.proofs.Keeping.{formula-alone, keeps-puts}
 use Rattle.cmark_inline.proofs.PaidSteps.{signs-found}
 use Rattle.cmark_inline.specs.Paid.{DollarsPaid}
+use Rattle.cmark_slots.specs.Slots.{IsContent}
 use Rattle.cmark_slots.specs.Standing.{StandsAlone}
 use Rattle.std.proofs.lemmas.Result.{IfOk-weaker}
 use Rattle.cmark_inline.proofs.LastCalls.{ok-by-three}
@@ -32,7 +33,7 @@ pub returns-in-Some-clause-reads_on : goal.returns-in-Some-clause-reads_on
 returns-in-Some-clause-reads_on c = record {
   expansion_left = search rules;
   steps = search rules;
-  keeps = IfOk-weaker c.put.result _ _ (λ _ slots. keeps-puts c.args.self.now c.put.new.self c.put.ensures.others c.args.here.pending c.args.here.at _ slots (subst (λ k. StandsAlone k) (sym c.kind_of.ensures.value) (formula-alone c.in-Some.formula.is_display c.in-Some.formula.content_start c.in-Some.formula.content_end))) c.put.ensures.slots;
+  keeps = IfOk-weaker c.put.result _ _ (λ _ slots. keeps-puts c.args.self.now c.put.new.self c.put.ensures.others c.args.here.pending c.args.here.at _ slots (subst (λ k. StandsAlone k) (sym c.kind_of.ensures.value) (formula-alone c.in-Some.formula.is_display c.in-Some.formula.content_start))) c.put.ensures.slots;
   moves = c.put.ensures.moves;
 }
 
@@ -43,6 +44,17 @@ returns-clause-reads_on c = record {
   keeps = IfOk-weaker c.put-2.result _ _ (λ _ slots. keeps-puts c.args.self.now c.put-2.new.self c.put-2.ensures.others c.args.here.pending c.args.here.at _ slots ((refl, refl, refl), λ i. refl)) c.put-2.ensures.slots;
   moves = c.put-2.ensures.moves;
 }
+
+pub put-requires-clause-next : goal.put-requires-clause-next
+put-requires-clause-next c =
+    let formula = c.in-Some.formula in
+    let places : IsFormulaAt c.args.text.now c.args.here.at formula = subst (λ r. IfSome r (IsFormulaAt c.args.text.now c.args.here.at)) c.in-Some.is c.in_ok-formula.ensures.places in
+    record {
+      ordered = search rules;
+      is = (record { part = search rules; before = omega arith; content = subst (IsContent c.args.text.now formula.end) (sym c.kind_of.ensures.value) (formula-content c.args.text.now c.args.here.at formula places) });
+      further = search rules;
+      kind = search rules;
+    }
 
 pub put-requires-2-clause-next : goal.put-requires-2-clause-next
 put-requires-2-clause-next c = record {

@@ -15,10 +15,10 @@ use Rattle.cmark_slots.specs.declared.slot.SlotKind.TheVariants as kind
 use Rattle.cmark_slots.proofs.Steps.{slots-on, brackets-on, free-on, part-from}
 use Rattle.cmark_slots.specs.MarkedSlots.{begun_as}
 use Rattle.cmark_values.specs.Shown.{shown_options}
-use Rattle.cmark_slots.specs.SlotViews.{shown_element, shown_slots}
+use Rattle.cmark_slots.specs.SlotViews.{link_tag, linked_at, shown_slots}
 use Rattle.cmark_inline.specs.FormedSlots.{WritesElement, dressed_after, end_slot}
 use Rattle.cmark_slots.specs.Standing.{AreEnded, CanSettle, IsSettled}
-use Rattle.cmark_slots.specs.declared.slot.Element.TheVariants as element
+use Rattle.cmark_slots.specs.declared.slot.LinkElement.TheVariants as element
 use Rattle.cmark_inline.proofs.Deactivating.{leaves-element, linked-shown, still-brackets, still-free, still-standing}
 use Rattle.cmark_inline.proofs.ElementWrites.{writes-element}
 use Rattle.cmark_inline.proofs.Forming.{link-formed, settle-set, settled-ended, sound-same}
@@ -54,7 +54,7 @@ returns-clause-at c =
           let r = c.in_ok-finish.ensures.drops.runs in
           let seen = s.examined in
           let looked = c.in_ok-finish.ensures.examines.examined in
-          let plain = λ (is : image ≡ true). ap is_link c.linked_element-element.ensures.value ∙ ap (λ z. is_link (if z then element.Image c.len.result else element.Link c.len.result)) is in
+          let plain = λ (is : image ≡ true). ap is_link c.linked_element-element.ensures ∙ ap (λ z. is_link (if z then element.Image else element.Link)) is in
           subst (Stands text resume) (sym d.others) (record {
             slots = c.in_ok-finish.ensures.ends.slots text resume (c.begin.ensures.slots text resume (slots-on text c.args.close resume ss s.slots le) t.ends o) (last-slot text c.args.close c.args.target c.requires.close t);
             brackets = still-brackets image text resume formed.brackets new.brackets d.brackets (subst (λ (v : Brackets). AreBrackets text resume v.standing.items) (sym (ap (λ (s : InlineState). s.brackets) c.finish.ensures.others)) (brackets-on text c.args.close resume brackets.standing.items s.brackets le));
@@ -72,7 +72,7 @@ returns-clause-at c =
           let p = c.requires.taken.placed in
           let b = c.args.bracket in
           let f = c.in_ok-finish.ensures in
-          let s : Slot = begun_as c.linked_element-element.result c.args.target.end (get_or old.slots.items b.slot no-slot) in
+          let s : Slot = begun_as (kind.BeginLink c.linked_element-element.result c.len.result) c.args.target.end (get_or old.slots.items b.slot no-slot) in
           let settled : IsSettled (b.slot + 1) (set old.slots.items b.slot s) formed.slots.items = subst (λ l. IsSettled (b.slot + 1) l formed.slots.items) (c.begin.ensures.value no-slot) f.settled in
           let m = f.ends.length_is in
           let n = c.begin.ensures.length in
@@ -83,7 +83,7 @@ returns-clause-at c =
           (ap (λ v. length v.items) (ap (λ (s : InlineState). s.texts) c.finish.ensures.others)) (let q : length formed.links.items ≡ length old.links.items + 1 = omega (arith, more) in q) f.drops.placed f.drops.quotes
           (still-standing b.is_image formed.brackets new.brackets d.brackets ∙ ap (λ (v : Brackets). v.standing.items) (ap (λ (s : InlineState). s.brackets) c.finish.ensures.others)) (still-standing b.is_image formed.doubled new.doubled d.doubled ∙ ap (λ (v : Brackets). v.standing.items) (ap (λ (s : InlineState). s.doubled) c.finish.ensures.others))
           (link-formed (length old.texts.items) (length old.links.items) old.slots.items old.delimiters.placed.items old.quotes.placed.items old.brackets.standing.items old.doubled.standing.items c.requires.at.sound b c.requires.taken c.args.text.now c.args.close c.requires.at.stands.doubled
-          c.drop_after.new.self.standing.items c.drop_after.ensures.drops s refl (c.linked_element-element.ensures.names ∙ ap Some index) formed.slots.items (let q : length old.slots.items ≤ length formed.slots.items = omega (arith, m, n) in q) settled)));
+          c.drop_after.new.self.standing.items c.drop_after.ensures.drops s refl (ap Some index) formed.slots.items (let q : length old.slots.items ≤ length formed.slots.items = omega (arith, m, n) in q) settled)));
     }
 
 pub returns-clause-forms : goal.returns-clause-forms
@@ -107,8 +107,8 @@ returns-clause-forms c = record {
       let links = ap (λ v. v.items) (ap (λ (s : InlineState). s.links) c.finish.ensures.others) ∙ c.in_ok-push.ensures.items in
       let can = sound-settles (length old.texts.items) (length old.links.items) old.slots.items old.delimiters.placed.items old.quotes.placed.items old.brackets.standing.items old.doubled.standing.items c.requires.at.sound b p in
       subst (WritesElement (shown_options c.args.options) b c.args.target old) (sym c.deactivate_after.ensures.others)
-      (writes-element (shown_options c.args.options) b c.args.target old (record formed { brackets = new.brackets; doubled = new.doubled }) c.linked_element-element.result p.there c.args.close c.args.text.now c.requires.at.stands.slots t.following c.requires.at.sound.named can texts links
-      (ap (shown_element (old.links.items ++ (c.args.target.link ∷ []))) c.linked_element-element.ensures.value ∙ linked-shown b.is_image old.links.items c.args.target.link c.len.result index) f.drops.placed f.drops.quotes
+      (writes-element (shown_options c.args.options) b c.args.target old (record formed { brackets = new.brackets; doubled = new.doubled }) c.linked_element-element.result c.len.result p.there c.args.close c.args.text.now c.requires.at.stands.slots t.following c.requires.at.sound.named can texts links
+      (ap (λ m. link_tag m (linked_at (old.links.items ++ (c.args.target.link ∷ [])) c.len.result)) c.linked_element-element.ensures ∙ linked-shown b.is_image old.links.items c.args.target.link c.len.result index) f.drops.placed f.drops.quotes
       (λ leaf pairs spans emphasis. f.dressed leaf formed.texts.items formed.links.items pairs spans emphasis ∙ ap (λ l. dressed_after (shown_options c.args.options) b pairs old.delimiters.placed.items old.quotes.placed.items (shown_slots leaf formed.texts.items formed.links.items (l ++ (end_slot c.args.close c.args.target.end ∷ [])))) begins) f.examines.least));
 }
 
@@ -135,7 +135,7 @@ finish-requires-clause-settles c =
     let h = c.requires.at.sound in
     let p = c.requires.taken.placed in
     let b = c.args.bracket in
-    let s : Slot = begun_as c.linked_element-element.result c.args.target.end (get_or old.slots.items b.slot no-slot) in
+    let s : Slot = begun_as (kind.BeginLink c.linked_element-element.result c.len.result) c.args.target.end (get_or old.slots.items b.slot no-slot) in
     subst (λ l. CanSettle (b.slot + 1) l (drop b.runs old.delimiters.placed.items) (drop b.quotes old.quotes.placed.items)) (sym (c.begin.ensures.value no-slot))
     (settle-set (b.slot + 1) old.slots.items (drop b.runs old.delimiters.placed.items) (drop b.quotes old.quotes.placed.items)
     (sound-settles (length old.texts.items) (length old.links.items) old.slots.items old.delimiters.placed.items old.quotes.placed.items old.brackets.standing.items old.doubled.standing.items h b p) b.slot s (omega arith) p.there p.text (λ i. refl))
@@ -145,6 +145,6 @@ returns-clause-ends c =
     let old = c.args.self.now in
     let formed : InlineState = c.finish.new.self in
     let b = c.args.bracket in
-    let s : Slot = begun_as c.linked_element-element.result c.args.target.end (get_or old.slots.items b.slot no-slot) in
+    let s : Slot = begun_as (kind.BeginLink c.linked_element-element.result c.len.result) c.args.target.end (get_or old.slots.items b.slot no-slot) in
     subst (λ (x : InlineState). (leaf : LeafText) → AreEnded leaf old.slots.items → AreEnded leaf x.slots.items) (sym c.deactivate_after.ensures.others)
     (settled-ended old.slots.items b.slot (b.slot + 1) s formed.slots.items refl (subst (λ l. IsSettled (b.slot + 1) l formed.slots.items) (c.begin.ensures.value no-slot) c.in_ok-finish.ensures.settled))

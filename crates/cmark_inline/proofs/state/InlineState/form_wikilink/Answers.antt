@@ -65,7 +65,7 @@ returns-clause-at c = record {
       let size = i.hides.longer in
       let there = p.there in
       let within : d.slot < length shown.slots.items = omega (arith, size, there) in
-      let s : Slot = begun_as c.linked_element-element.result (c.args.close + 2) (get_or shown.slots.items d.slot no-slot) in
+      let s : Slot = begun_as (kind.BeginLink c.linked_element-element.result c.len-index.result) (c.args.close + 2) (get_or shown.slots.items d.slot no-slot) in
       let begun : c.begin.new.slots.items ≡ set shown.slots.items d.slot s = c.begin.ensures.value no-slot in
       let h = c.requires.at.sound in
       let new : InlineState = c.finish.new.self in
@@ -84,7 +84,7 @@ returns-clause-at c = record {
       (c.truncate.ensures ∙ ap (take d.quotes) f.drops.quotes ∙ take-fewer d.quotes c.in_ok-inside.inside.quotes shown.quotes.placed.items i.inside.quotes ∙ ap (λ (x : InlineState). take d.quotes x.quotes.placed.items) o)
       (ap (λ v. v.items) c.deactivate_all.ensures.standing) c.clear.ensures.standing
       (wikilink-formed (length old.texts.items) (length old.links.items) old.slots.items old.delimiters.placed.items old.quotes.placed.items old.brackets.standing.items old.doubled.standing.items h d c.requires.pair.taken c.args.text.now c.args.close c.requires.at.stands.brackets
-      c.drop_after.new.self.standing.items drops s refl (c.linked_element-element.ensures.names ∙ ap Some index) shown.slots.items new.slots.items size (let q : length shown.slots.items ≤ length new.slots.items = omega (arith, n, l) in q) i.hides.before (i.hides.names (length old.texts.items) (length old.links.items) h.named) settled));
+      c.drop_after.new.self.standing.items drops s refl (ap Some index) shown.slots.items new.slots.items size (let q : length shown.slots.items ≤ length new.slots.items = omega (arith, n, l) in q) i.hides.before (i.hides.names (length old.texts.items) (length old.links.items) h.named) settled));
 }
 
 pub returns-clause-forms : goal.returns-clause-forms
@@ -112,7 +112,7 @@ returns-clause-forms c = record {
       let inside : Bracket = c.in_ok-inside.inside in
       let close : ℕ = c.args.close in
       let options = shown_options c.args.options in
-      let s : Slot = begun_as c.linked_element-element.result (close + 2) (get_or shown.slots.items d.slot no-slot) in
+      let s : Slot = begun_as (kind.BeginLink c.linked_element-element.result c.len-index.result) (close + 2) (get_or shown.slots.items d.slot no-slot) in
       let begun : c.begin.new.slots.items ≡ set shown.slots.items d.slot s = c.begin.ensures.value no-slot in
       let new : InlineState = c.finish.new.self in
       let f = c.in_ok-finish.ensures in
@@ -121,7 +121,7 @@ returns-clause-forms c = record {
       there size i.hides.before c.requires.at.stands.slots (i.hides.names (length old.texts.items) (length old.links.items) c.requires.at.sound.named) i.inside.settles
       (ap (λ v. v.items) (ap (λ (s : InlineState). s.texts) c.finish.ensures.others) ∙ ap (λ (x : InlineState). x.texts.items) o)
       (ap (λ v. v.items) (ap (λ (s : InlineState). s.links) c.finish.ensures.others) ∙ ap (λ (x : InlineState). x.links.items) o ∙ c.in_ok-push.ensures.items)
-      c.named_link.ensures index c.linked_element-element.ensures.value
+      c.named_link.ensures index c.linked_element-element.ensures
       (record {
         runs = c.truncate-2.ensures.placed ∙ ap (take d.runs) f.drops.placed ∙ take-fewer d.runs inside.runs shown.delimiters.placed.items i.inside.runs ∙ ap (λ (x : InlineState). take d.runs x.delimiters.placed.items) o;
         quotes = c.truncate.ensures ∙ ap (take d.quotes) f.drops.quotes ∙ take-fewer d.quotes inside.quotes shown.quotes.placed.items i.inside.quotes ∙ ap (λ (x : InlineState). take d.quotes x.quotes.placed.items) o;
@@ -178,7 +178,7 @@ finish-requires-clause-settles c =
     let size = i.hides.longer in
     let there = p.there in
     let within : d.slot < length shown.slots.items = omega (arith, size, there) in
-    let s : Slot = begun_as c.linked_element-element.result (c.args.close + 2) (get_or shown.slots.items d.slot no-slot) in
+    let s : Slot = begun_as (kind.BeginLink c.linked_element-element.result c.len-index.result) (c.args.close + 2) (get_or shown.slots.items d.slot no-slot) in
     let begun : c.begin.new.slots.items ≡ set shown.slots.items d.slot s = c.begin.ensures.value no-slot in
     let n : ℕ = c.in_ok-inside.inside.runs in
     let m : ℕ = c.in_ok-inside.inside.quotes in
@@ -199,7 +199,7 @@ returns-clause-ends c = λ leaf ends source.
     let size = i.hides.longer in
     let there = p.there in
     let within : d.slot < length shown.slots.items = omega (arith, size, there) in
-    let s : Slot = begun_as c.linked_element-element.result (c.args.close + 2) (get_or shown.slots.items d.slot no-slot) in
+    let s : Slot = begun_as (kind.BeginLink c.linked_element-element.result c.len-index.result) (c.args.close + 2) (get_or shown.slots.items d.slot no-slot) in
     let begun : c.begin.new.slots.items ≡ set shown.slots.items d.slot s = c.begin.ensures.value no-slot in
     let new : InlineState = c.finish.new.self in
     let settled : IsSettled (d.slot + 1) (set shown.slots.items d.slot s) new.slots.items = subst (λ l. IsSettled (d.slot + 1) l new.slots.items) begun (subst (λ k. IsSettled (k + 1) c.begin.new.slots.items new.slots.items) i.inside.bracket c.in_ok-finish.ensures.settled) in

@@ -31,10 +31,10 @@ returns-in_default-clause-first c = λ texts links following.
     c.single_short.ensures.first texts links c.args.self.now.walk.opened.items following
 
 pub single_short-requires-clause-alone : goal.single_short-requires-clause-alone
-single_short-requires-clause-alone c = alone c.args.slot.kind c.in_default.not-Begin c.in_default.not-End c.in_default.not-Nothing
+single_short-requires-clause-alone c = alone c.args.slot.kind c.in_default.not-Begin c.in_default.not-BeginLink c.in_default.not-End c.in_default.not-Nothing
 
-pub returns-in_default-plain_element-clause-first : goal.returns-in_default-plain_element-clause-first
-returns-in_default-plain_element-clause-first c = λ texts links following. begin-some c.args.leaf.now texts links c.args.slot following c.args.self.now.walk.opened.items c.in-Begin.element c.in-Begin.is
+pub returns-in-BeginLink-clause-first : goal.returns-in-BeginLink-clause-first
+returns-in-BeginLink-clause-first c = λ texts links following. begin-some c.args.leaf.now texts links c.args.slot following c.args.self.now.walk.opened.items _ _ c.in-BeginLink.is
 
 pub returns-in_ok-push-in-Begin-clause-opened : goal.returns-in_ok-push-in-Begin-clause-opened
 returns-in_ok-push-in-Begin-clause-opened c =
@@ -46,12 +46,12 @@ pub returns-in_ok-push-in-Begin-clause-gives : goal.returns-in_ok-push-in-Begin-
 returns-in_ok-push-in-Begin-clause-gives c =
     let source = source_of c.args.leaf.now in
     let opened = c.args.self.now.walk.opened.items in
-    subst (GivesShort source opened (short.Start c.in-Some.tag) c.range-range.result.start c.range-range.result.end) (sym c.in_ok-push-in-Begin.ensures.items)
-    (begin-gives source c.range-range.result.start c.range-range.result.end c.in-Some.tag c.in-Some.end opened c.range-range.ensures.part c.in-Some.ensures.span c.in-Some.ensures.end)
+    subst (GivesShort source opened (short.Start c.plain_element-tag.result.0) c.range-range.result.start c.range-range.result.end) (sym c.in_ok-push-in-Begin.ensures.items)
+    (begin-gives source c.range-range.result.start c.range-range.result.end c.plain_element-tag.result.0 c.plain_element-tag.result.1 opened c.range-range.ensures.part c.plain_element-tag.ensures.span c.plain_element-tag.ensures.end)
 
 pub returns-in_ok-push-in-Begin-clause-first : goal.returns-in_ok-push-in-Begin-clause-first
 returns-in_ok-push-in-Begin-clause-first c = λ texts links following.
     let leaf = c.args.leaf.now in
     let opened = c.args.self.now.walk.opened.items in
-    begin-short-now leaf texts links c.args.slot following opened c.push.new.self.items c.in-Some.tag c.in-Some.end c.in-Begin.element c.range-range.result.start c.range-range.result.end c.requires.slot.read c.requires.slot.is.part c.in-Begin.is
-    c.in-Some.ensures.value c.in-Some.ensures.span c.in-Some.ensures.end c.range-range.ensures.start c.range-range.ensures.end c.in_ok-push-in-Begin.ensures.items
+    begin-short-now leaf texts links c.args.slot following opened c.push.new.self.items c.plain_element-tag.result.0 c.plain_element-tag.result.1 c.in-Begin.element c.range-range.result.start c.range-range.result.end c.requires.slot.read c.requires.slot.is.part c.in-Begin.is
+    c.plain_element-tag.ensures.value c.plain_element-tag.ensures.span c.plain_element-tag.ensures.end c.range-range.ensures.start c.range-range.ensures.end c.in_ok-push-in-Begin.ensures.items

@@ -2,8 +2,8 @@ use Rattle.std.proofs.Common.{arith}
 use Rattle.std.proofs.lemmas.Grind.{elements}
 use Rattle.cmark_slot_events.proofs.leaf_events.LeafEvents.link_ahead.Goals as goal
 
-pub returns-in-Begin-Link : goal.returns-in-Begin-Link
-returns-in-Begin-Link c = grind (arith, elements)
+pub returns-in-BeginLink-Link-default : goal.returns-in-BeginLink-Link-default
+returns-in-BeginLink-Link-default c = grind (arith, elements)
 
 pub returns-in_default : goal.returns-in_default
 returns-in_default c = grind (arith, elements)
