@@ -14,7 +14,7 @@ abbrev pub IsKnown : code_run.Run → Type 0
 IsKnown run = is_run_of run.delimiter run.run_length ≡ true
 
 abbrev pub IsKnownPlaced : code_placed.PlacedRun → Type 0
-IsKnownPlaced p = IsKnown p.run
+IsKnownPlaced p = is_run_of p.delimiter p.run_length ≡ true
 
 -- the run searches for an open one: it can close, and bytes of it are left
 abbrev pub searches : Run → Bool

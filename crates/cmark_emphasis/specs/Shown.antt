@@ -18,7 +18,11 @@ shown_run run = record { delimiter = run.delimiter; run_length = run.run_length;
 
 -- a whole run at its slot
 abbrev pub shown_placed : code_placed.PlacedRun → Run
-shown_placed p = record { delimiter = p.run.delimiter; run_length = p.run.run_length; at = p.slot; left = p.run.run_length; opens = p.run.opens; closes = p.run.closes }
+shown_placed p = record { delimiter = p.delimiter; run_length = p.run_length; at = p.slot; left = p.run_length; opens = p.opens; closes = p.closes }
+
+-- a whole run without its slots
+abbrev pub shown_whole : code_placed.PlacedRun → Run
+shown_whole p = record { delimiter = p.delimiter; run_length = p.run_length; at = 0; left = p.run_length; opens = p.opens; closes = p.closes }
 
 abbrev pub shown_pair : code_pair.Pair → Pair
 shown_pair pair = record { delimiter = pair.delimiter; from = pair.from; to = pair.to; count = pair.count }
@@ -29,7 +33,7 @@ pairs_in (Some pair) = shown_pair pair ∷ []
 
 -- the slots of the run, if it has any, have indices that fit in a usize
 abbrev pub Fits : code_placed.PlacedRun → Type 0
-Fits p = 0 < p.run.run_length → p.slot + p.run.run_length < 2 ^ 64
+Fits p = 0 < p.run_length → p.slot + p.run_length < 2 ^ 64
 
 -- the indices of the run fit in a usize
 abbrev pub IsPlaced : code_run.Run → Type 0

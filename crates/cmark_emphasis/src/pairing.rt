@@ -99,9 +99,12 @@ fn whole_run(placed: PlacedRun) -> Run
     ensures placed { IsPlaced result }
 {
     Run {
+        run_length: placed.run_length,
         at: placed.slot,
-        left: placed.run.run_length,
-        ..placed.run
+        left: placed.run_length,
+        delimiter: placed.delimiter,
+        opens: placed.opens,
+        closes: placed.closes,
     }
 }
 

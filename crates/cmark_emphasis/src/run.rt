@@ -20,12 +20,23 @@ pub struct Run {
 // A text may have a run for each two of its bytes, so the fields of one byte are next to each other.
 const _: () = prove!(size_of::<Run>() == 32);
 
-/// A whole run and the index of its first slot. The slots of its other bytes follow it.
+/// A whole run in its slots, before it is paired.
 #[derive(Clone, Copy)]
 pub struct PlacedRun {
+    /// The index of its first slot. The slots of its other bytes follow it.
     pub slot: usize,
-    pub run: Run,
+    /// The number of its bytes.
+    pub run_length: usize,
+    /// Its byte: `*`, `_`, `~`, `^` or `=`.
+    pub delimiter: u8,
+    /// Whether it can open.
+    pub opens: bool,
+    /// Whether it can close.
+    pub closes: bool,
 }
+
+// All bytes of the run are left, so it needs no number for them.
+const _: () = prove!(size_of::<PlacedRun>() == 24);
 
 /// A pair: `count` bytes that open, directly before an index, and as many bytes that close, from an index on.
 #[derive(Clone, Copy)]

@@ -2,7 +2,7 @@
 use Rattle.std.specs.Prelude.{Option}
 use Rattle.std.proofs.Common.{◌≡◌, ℕ, zero, suc, ◌+◌, ◌-◌, ◌<◌, ◌≤◌, Bool, true, List, [], ◌∷◌, ◌++◌, length, get_or, refl, sym, ap, ◌∙◌, subst, arith, false}
 use Rattle.std.proofs.lemmas.List.{get_or_push}
-use Rattle.cmark_emphasis.specs.Shown.{shown_quote, shown_run}
+use Rattle.cmark_emphasis.specs.Shown.{shown_quote, shown_whole}
 use Rattle.cmark_grammar.specs.BracketStates.{moved}
 use Rattle.cmark_grammar.specs.Event as event
 use Rattle.cmark_grammar.specs.InlineReading.{event_of}
@@ -106,7 +106,7 @@ module _ (leaf : LeafText) (reader : Reader) (read : Leaf) (place : ℕ → ℕ)
       (held : IsHeld reader.options reader.lookup cell text m here.pending here.at) where
     pub run-reached : AppendsRun reader.options reader.lookup cell text here old new next → HasReached R leaf reader read place before tally initial next.at new now
     run-reached a =
-        let x : Item = record { kind = Delimiters (shown_run a.run); start = here.at; end = next.at } in
+        let x : Item = record { kind = Delimiters (shown_whole a.run); start = here.at; end = next.at } in
         let w = item-within reader.options reader.lookup cell text here.at x next.at a.token in
         let further = w.further in
         let within = w.within in
@@ -117,19 +117,19 @@ module _ (leaf : LeafText) (reader : Reader) (read : Leaf) (place : ℕ → ℕ)
         let others = a.others in
         let t = other-token leaf reader read place r here.at x next.at (omega (arith, further, within)) a.token refl (no-markup-by reader.options reader.lookup cell text here.at (Stands x next.at) a.token refl) in
         record {
-          p = pass (moved (place next.at) f.p.state) (join f.p.here (Single (item (Delimiters (shown_run a.run)) (place here.at) (suc (place (next.at - 1)))) Nil));
+          p = pass (moved (place next.at) f.p.state) (join f.p.here (Single (item (Delimiters (shown_whole a.run)) (place here.at) (suc (place (next.at - 1)))) Nil));
           bs = f.bs;
           has_read =
               run-read leaf reader read place before f.p f.bs mid new f.has_read
               (ap (λ y. shown_slots leaf y new.links.items a.before) (ap (λ (s : InlineState). s.texts.items) others) ∙ ap (λ y. shown_slots leaf old.texts.items y a.before) (ap (λ (s : InlineState). s.links.items) others))
-              (record { slot = length a.before; run = a.run }) (place here.at) (suc (place (next.at - 1))) (place next.at) (byte_slots here.at a.run.run_length) (ap (token reader read) f.at_is ∙ t)
-              (bytes-like a.run.run_length here.at new.texts.items new.links.items (omega (arith, size, within)) (λ k low high. a.bytes k low (omega (arith, size, high)))) refl a.slots a.placed (ap (λ (s : InlineState). s.quotes.placed.items) others);
+              a.run (place here.at) (suc (place (next.at - 1))) (place next.at) (byte_slots here.at a.run.run_length) (ap (token reader read) f.at_is ∙ t)
+              (bytes-like a.run.run_length here.at new.texts.items new.links.items (omega (arith, size, within)) (λ k low high. a.bytes k low (omega (arith, size, high)))) a.there a.slots a.placed (ap (λ (s : InlineState). s.quotes.placed.items) others);
           at_is = refl;
           shows = shows-on reader.options.wikilinks text place here.at next.at f.p.state (moved (place next.at) f.p.state) f.bs mid new (omega (arith, further))
               (record { examined = a.examined; brackets = ap (λ (s : InlineState). s.brackets) others; doubled = ap (λ (s : InlineState). s.doubled) others; expansion_left = ap (λ (s : InlineState). s.expansion_left) others; label = ap (λ (s : InlineState). s.label_close) others })
               refl refl refl f.shows;
           answered = f.answered;
-          counted = counted-item reader f.p.here tally tally.sought mid.delimiters.examined new.delimiters.examined (item (Delimiters (shown_run a.run)) (place here.at) (suc (place (next.at - 1)))) a.examined (record { html = omega arith; closers = omega arith }) f.counted;
+          counted = counted-item reader f.p.here tally tally.sought mid.delimiters.examined new.delimiters.examined (item (Delimiters (shown_whole a.run)) (place here.at) (suc (place (next.at - 1)))) a.examined (record { html = omega arith; closers = omega arith }) f.counted;
         }
 
     pub quote-reached : AppendsQuote reader.options reader.lookup cell text here old new next → is_content (get_or text here.at 0) ≡ true → next.at ≡ here.at + 1 → HasReached R leaf reader read place before tally initial next.at new now

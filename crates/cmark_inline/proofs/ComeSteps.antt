@@ -3,7 +3,7 @@ use Rattle.std.specs.Prelude.{Option, codes, is_some, not}
 use Rattle.std.proofs.Common.{◌≡◌, ◌⊎◌, inl, inr, ℕ, suc, ◌+◌, ◌-◌, ◌<◌, ◌≤◌, ◌==◌, ◌||◌, Bool, true, false, List, [], ◌∷◌, ◌++◌, length, drop, get_or, Some, None, refl, sym, ap, ◌∙◌, subst, arith, eqb-true, true≢false, length-drop}
 use Rattle.std.proofs.lemmas.Bool.{not-true}
 use Rattle.std.proofs.lemmas.List.{get_or_append_left, get_or_push, length_push}
-use Rattle.cmark_emphasis.specs.Shown.{shown_quote, shown_run}
+use Rattle.cmark_emphasis.specs.Shown.{shown_quote, shown_whole}
 use Rattle.cmark_grammar.specs.CodeSpans.{backticks, code_in}
 use Rattle.cmark_grammar.specs.Columns.{is_blank_byte}
 use Rattle.cmark_grammar.specs.InlineTokens.{bracket, code_or, item_at}
@@ -303,8 +303,8 @@ module _ (leaf : LeafText) (reader : Reader) (read : Leaf) (place : ℕ → ℕ)
 
       come-run : AppendsRun reader.options reader.lookup cell text here old new next → HasCome R leaf reader read place before tally initial next new now
       come-run a =
-          let never = λ (h : HasEscaped reader.options reader.lookup cell text m start cursor.at). no-other h (item_at (Delimiters (shown_run a.run)) at next.at) a.token refl in
-          nothing-pending tally.sought (run-reached leaf reader read place r R before tally initial now here m old new next come.reached (held-there (from-token (item_at (Delimiters (shown_run a.run)) at next.at) a.token refl) never) a) a.pending
+          let never = λ (h : HasEscaped reader.options reader.lookup cell text m start cursor.at). no-other h (item_at (Delimiters (shown_whole a.run)) at next.at) a.token refl in
+          nothing-pending tally.sought (run-reached leaf reader read place r R before tally initial now here m old new next come.reached (held-there (from-token (item_at (Delimiters (shown_whole a.run)) at next.at) a.token refl) never) a) a.pending
 
       come-quote : AppendsQuote reader.options reader.lookup cell text here old new next → HasCome R leaf reader read place before tally initial next new now
       come-quote a =

@@ -16,7 +16,7 @@ use Rattle.cmark_grammar.specs.Questions.{AnyAnswer}
 use Rattle.cmark_grammar.specs.Quotes.{Quote, quote_characters}
 use Rattle.cmark_grammar.specs.Readers.{Reader}
 use Rattle.cmark_grammar.specs.Spans.{Spans}
-use Rattle.cmark_emphasis.specs.Shown.{shown_quote, shown_run}
+use Rattle.cmark_emphasis.specs.Shown.{shown_quote, shown_whole}
 use Rattle.cmark_leaf_text.specs.declared.leaf_text.LeafText.{LeafText}
 use Rattle.cmark_inline_model.specs.BracketPass.{Pass, closed_by}
 use Rattle.cmark_inline_model.specs.CutRanges.{IsAfterPipe}
@@ -53,13 +53,13 @@ first-place at (suc size) l lt = refl
 
 run-start : (k : ℕ) (placed : List PlacedRun) (d : PlacedRun) → HaveSizes placed → k < length placed → get_or (places_of placed) (bytes_in (take k (runs_of placed))) 0 ≡ (get_or placed k d).slot
 run-start k [] d sizes lt = absurd (omega (arith, lt))
-run-start zero (x ∷ placed) d sizes lt = first-place x.slot x.run.run_length (places_of placed) (sizes 0 d lt)
+run-start zero (x ∷ placed) d sizes lt = first-place x.slot x.run_length (places_of placed) (sizes 0 d lt)
 run-start (suc k) (x ∷ placed) d sizes lt =
-    get-places (bytes_in (take k (runs_of placed))) x.slot x.run.run_length (places_of placed) ∙ run-start k placed d (λ j e l. sizes (suc j) e (let q : suc j < suc (length placed) = omega (arith, l) in q)) (omega (arith, lt))
+    get-places (bytes_in (take k (runs_of placed))) x.slot x.run_length (places_of placed) ∙ run-start k placed d (λ j e l. sizes (suc j) e (let q : suc j < suc (length placed) = omega (arith, l) in q)) (omega (arith, lt))
 
 runs-left : (at : ℕ) (runs : List PlacedRun) (quotes : List PlacedQuote) (b left : Bracket) → HaveSizes runs → AreLeft at runs quotes b left → LeavesRuns b.runs left.runs at (runs_of runs) (places_of runs)
 runs-left at runs quotes b left sizes h =
-    let n = length-map runs (λ (x : PlacedRun). shown_run x.run) in
+    let n = length-map runs shown_whole in
     record {
       order = h.runs_order;
       before = λ k a c lt. subst (λ x. x < at) (sym (run-start k runs no-run sizes (omega (arith, lt, n)))) (h.runs_before k no-run a c);
@@ -109,7 +109,7 @@ module _ (leaf : LeafText) (reader : Reader) (read : Leaf) (place : ℕ → ℕ)
       let m = bytes_in (take left.runs (runs_of runs)) in
       let cut : drop nearer brackets ≡ bp ∷ drop (suc nearer) brackets = drop-map (bracket_place place) nearer bs ∙ ap (map (bracket_place place)) there ∙ ap (λ l. bp ∷ l) (sym (drop-map (bracket_place place) (suc nearer) bs)) in
       let emphasis : IsEmphasis (counted 0 (drop left.runs (runs_of runs))) pairs spans =
-      subst (λ l. IsEmphasis l pairs spans) (sym (ap (counted 0) (drop-map (λ (x : PlacedRun). shown_run x.run) left.runs runs) ∙ siblings-counted 0 (drop left.runs runs))) e in
+      subst (λ l. IsEmphasis l pairs spans) (sym (ap (counted 0) (drop-map shown_whole left.runs runs) ∙ siblings-counted 0 (drop left.runs runs))) e in
       let r = display-reached reader read before turn lines p brackets shown bytes (slot_places quotes) (runs_of runs) (quotes_of quotes) h closer nearer name display end next bp cut t comes left.runs left.quotes at now
       (runs-left at runs quotes b left sizes are) (quotes-left at runs quotes b left are) shows pairs spans emphasis in
       let made : List ℕ → List ℕ → List Quote → List row.Slot = λ bytes places quotes. marked reader.options bytes (marks_by (length bytes) pairs) (quoted places (quote_characters [] quotes) now) [] in
@@ -124,7 +124,7 @@ module _ (leaf : LeafText) (reader : Reader) (read : Leaf) (place : ℕ → ℕ)
       subst (λ l. all (map (bracket_place place) (drop (suc nearer) bs)) after (places_of new.delimiters.placed.items) (slot_places l) (runs_of new.delimiters.placed.items) (quotes_of l)) (sym quotes_are)
       (subst (λ l. all (map (bracket_place place) (drop (suc nearer) bs)) after (places_of l) (slot_places (take b.quotes quotes)) (runs_of l) (quotes_of (take b.quotes quotes))) (sym runs_are)
       (subst (λ l. all (map (bracket_place place) (drop (suc nearer) bs)) after (places_of (take b.runs runs)) (slot_places (take b.quotes quotes)) (runs_of (take b.runs runs)) l) (take-map (λ (x : PlacedQuote). shown_quote x.quote) b.quotes quotes)
-      (subst (λ l. all (map (bracket_place place) (drop (suc nearer) bs)) after (places_of (take b.runs runs)) (slot_places (take b.quotes quotes)) l (take b.quotes (quotes_of quotes))) (take-map (λ (x : PlacedRun). shown_run x.run) b.runs runs)
+      (subst (λ l. all (map (bracket_place place) (drop (suc nearer) bs)) after (places_of (take b.runs runs)) (slot_places (take b.quotes quotes)) l (take b.quotes (quotes_of quotes))) (take-map shown_whole b.runs runs)
       (subst (λ l. all (map (bracket_place place) (drop (suc nearer) bs)) after (places_of (take b.runs runs)) l (take b.runs (runs_of runs)) (take b.quotes (quotes_of quotes))) (take-map (λ (x : PlacedQuote). x.slot) b.quotes quotes)
       (subst (λ l. all (map (bracket_place place) (drop (suc nearer) bs)) after l (take b.quotes (slot_places quotes)) (take b.runs (runs_of runs)) (take b.quotes (quotes_of quotes))) (bytes-front b.runs runs)
       (subst (λ l. all (map (bracket_place place) (drop (suc nearer) bs)) l (take n bytes) (take b.quotes (slot_places quotes)) (take b.runs (runs_of runs)) (take b.quotes (quotes_of quotes))) slots

@@ -5,7 +5,7 @@ use Rattle.std.proofs.lemmas.Bool.{cases_lt}
 use Rattle.std.proofs.lemmas.List.{length_push, length-append, get_or_append_left, get_or-append_right}
 use Rattle.cmark_leaf_text.specs.declared.leaf_text.LeafText.{LeafText}
 use Rattle.cmark_values.specs.declared.text.CowStr.{CowStr}
-use Rattle.cmark_emphasis.specs.Counts.{IsKnown}
+use Rattle.cmark_emphasis.specs.Counts.{IsKnownPlaced}
 use Rattle.cmark_grammar.specs.Answers.{Lookup}
 use Rattle.cmark_grammar.specs.Options.{Options}
 use Rattle.cmark_leaf_text.specs.Reads.{place_of}
@@ -160,8 +160,8 @@ keeps-quote options lookup is_cell text here old new next a =
       ends = λ leaf e. subst (AreEnded leaf) (sym a.slots) (ended-on a.before (a.before ++ (s ∷ [])) (no-more-push a.before s (refl, refl, refl)) leaf (ended-pending leaf old.slots.items a.before here.pending here.at a.text_is e));
     }
 
-module _ (old new : InlineState) (before : List Slot) (start at : ℕ) (run : PlacedRun) (text : List ℕ) (pending : PushesText start at old.slots.items before) (slots : new.slots.items ≡ before ++ byte_slots at run.run.run_length)
-    (placed : new.delimiters.placed.items ≡ old.delimiters.placed.items ++ (run ∷ [])) (others : new ≡ record old { slots = new.slots; delimiters = new.delimiters }) (some : 0 < run.run.run_length) (known : IsKnown run.run) (there : run.slot ≡ length before) (are : AreSlots text at before) where
+module _ (old new : InlineState) (before : List Slot) (start at : ℕ) (run : PlacedRun) (text : List ℕ) (pending : PushesText start at old.slots.items before) (slots : new.slots.items ≡ before ++ byte_slots at run.run_length)
+    (placed : new.delimiters.placed.items ≡ old.delimiters.placed.items ++ (run ∷ [])) (others : new ≡ record old { slots = new.slots; delimiters = new.delimiters }) (some : 0 < run.run_length) (known : IsKnownPlaced run) (there : run.slot ≡ length before) (are : AreSlots text at before) where
   pub keeps-run : KeepsSound old new
   keeps-run = record {
     sound = λ h. subst IsSound (sym others)
@@ -170,7 +170,7 @@ module _ (old new : InlineState) (before : List Slot) (start at : ℕ) (run : Pl
         (sound-run (length old.texts.items) (length old.links.items) before old.delimiters.placed.items old.quotes.placed.items old.brackets.standing.items old.doubled.standing.items
         (sound-pending (length old.texts.items) (length old.links.items) old.slots.items before old.delimiters.placed.items old.quotes.placed.items old.brackets.standing.items old.doubled.standing.items start at pending h)
         at run some known there (λ k d lt. (are k d lt).before))));
-    ends = λ leaf e. subst (AreEnded leaf) (sym slots) (ended-bytes leaf before at run.run.run_length (ended-pending leaf old.slots.items before start at pending e));
+    ends = λ leaf e. subst (AreEnded leaf) (sym slots) (ended-bytes leaf before at run.run_length (ended-pending leaf old.slots.items before start at pending e));
   }
 
 pub break-alone : (z : Bool) → StandsAlone (if z then kind.HardBreak else kind.SoftBreak)

@@ -3,7 +3,7 @@ use Rattle.std.specs.Prelude.{map, drop, Some, None, Ok, Err, IfSome, OnOk, Resu
 use Rattle.std.proofs.Common.{◌≡◌, ◌⊎◌, inl, inr, ℕ, suc, ◌+◌, ◌<◌, ◌≤◌, ◌==◌, ◌||◌, ◌-◌, Bool, false, List, ◌∷◌, length, get_or, sym, ap, ◌∙◌, subst, arith, length-drop, true≢false}
 use Rattle.std.proofs.lemmas.List.{drop-map}
 use Rattle.cmark_emphasis.specs.Least.{least_examined}
-use Rattle.cmark_emphasis.specs.Shown.{shown_run}
+use Rattle.cmark_emphasis.specs.Shown.{shown_whole}
 use Rattle.cmark_grammar.specs.BracketStates.{Result, StaysText, Forms, State}
 use Rattle.cmark_grammar.specs.Emphasis as emphasis
 use Rattle.cmark_grammar.specs.InlineHtml.{after_markup}
@@ -160,7 +160,7 @@ module _ (reader : Reader) (place : ℕ → ℕ) where
   among-following nearer bs parts placed b k there =
       let same : bracket_place place b ≡ k.place_at = first-of _ _ (bracket_place place b) k.place_at (sym (drop-map (bracket_place place) nearer bs ∙ ap (map (bracket_place place)) there) ∙ k.place_is) in
       ap (λ l. least_examined (emphasis.runs_of l))
-      (runs-counted (siblings_of options k.cut.inside) 0 ∙ ap (counted 0) (k.runs_after ∙ ap (λ (p : BracketPlace). drop p.runs (runs_of placed)) (sym same) ∙ drop-map (λ (x : PlacedRun). shown_run x.run) b.runs placed) ∙ siblings-counted 0 (drop b.runs placed))
+      (runs-counted (siblings_of options k.cut.inside) 0 ∙ ap (counted 0) (k.runs_after ∙ ap (λ (p : BracketPlace). drop p.runs (runs_of placed)) (sym same) ∙ drop-map shown_whole b.runs placed) ∙ siblings-counted 0 (drop b.runs placed))
 
   -- the element that is formed replaces the parts that were cut
   formed-counted : (p : Pass) (closer : Bracket) (formed : Formed) (next : State) (nearer : ℕ) (cut : Cut) → cut_at nearer p.here ≡ Some cut → (tally : Tally) (notes : FootnoteDefs) (old new : ℕ) → AreCounted reader p.here tally old

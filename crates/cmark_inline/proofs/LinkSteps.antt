@@ -18,7 +18,7 @@ use Rattle.cmark_grammar.specs.Readers.{Reader}
 use Rattle.cmark_grammar.specs.Siblings.{quotes_of as grammar_quotes}
 use Rattle.cmark_inline_model.specs.SiblingsModel.{siblings_of}
 use Rattle.cmark_grammar.specs.Spans.{Spans}
-use Rattle.cmark_emphasis.specs.Shown.{shown_quote, shown_run}
+use Rattle.cmark_emphasis.specs.Shown.{shown_quote, shown_whole}
 use Rattle.cmark_leaf_text.specs.declared.leaf_text.LeafText.{LeafText}
 use Rattle.cmark_inline_model.specs.BracketPass.{Pass, closed_by}
 use Rattle.cmark_inline_model.specs.PartLists.{Cut, cut_at}
@@ -50,17 +50,17 @@ take-places n at (suc size) l =
 pub bytes-following : (n : ℕ) (placed : List PlacedRun) → drop (bytes_in (take n (runs_of placed))) (places_of placed) ≡ places_of (drop n placed)
 bytes-following zero placed = refl
 bytes-following (suc n) [] = refl
-bytes-following (suc n) (x ∷ placed) = drop-places (bytes_in (take n (runs_of placed))) x.slot x.run.run_length (places_of placed) ∙ bytes-following n placed
+bytes-following (suc n) (x ∷ placed) = drop-places (bytes_in (take n (runs_of placed))) x.slot x.run_length (places_of placed) ∙ bytes-following n placed
 
 pub bytes-front : (n : ℕ) (placed : List PlacedRun) → take (bytes_in (take n (runs_of placed))) (places_of placed) ≡ places_of (take n placed)
 bytes-front zero placed = refl
 bytes-front (suc n) [] = refl
-bytes-front (suc n) (x ∷ placed) = take-places (bytes_in (take n (runs_of placed))) x.slot x.run.run_length (places_of placed) ∙ ap (run_places x.slot x.run.run_length) (bytes-front n placed)
+bytes-front (suc n) (x ∷ placed) = take-places (bytes_in (take n (runs_of placed))) x.slot x.run_length (places_of placed) ∙ ap (run_places x.slot x.run_length) (bytes-front n placed)
 
 pub siblings-counted : (at : ℕ) (placed : List PlacedRun) → counted at (runs_of placed) ≡ siblings_from at placed
 siblings-counted at [] = refl
 siblings-counted at (x ∷ placed) =
-    ap (λ l. Delimiter (record { delimiter = x.run.delimiter; run_length = x.run.run_length; at = at; left = x.run.run_length; opens = x.run.opens; closes = x.run.closes }) ∷ l) (siblings-counted (at + x.run.run_length) placed)
+    ap (λ l. Delimiter (record { delimiter = x.delimiter; run_length = x.run_length; at = at; left = x.run_length; opens = x.opens; closes = x.closes }) ∷ l) (siblings-counted (at + x.run_length) placed)
 
 pub quotes-map : (placed : List PlacedQuote) → map shown_quote (map (λ (p : PlacedQuote). p.quote) placed) ≡ quotes_of placed
 quotes-map [] = refl
@@ -95,7 +95,7 @@ module _ (leaf : LeafText) (reader : Reader) (read : Leaf) (place : ℕ → ℕ)
       let n = bytes_in (take b.runs (runs_of runs)) in
       let cut : drop nearer brackets ≡ bp ∷ drop (suc nearer) brackets = drop-map (bracket_place place) nearer bs ∙ ap (map (bracket_place place)) there ∙ ap (λ l. bp ∷ l) (sym (drop-map (bracket_place place) (suc nearer) bs)) in
       let emphasis : IsEmphasis (counted 0 (drop b.runs (runs_of runs))) pairs spans =
-      subst (λ l. IsEmphasis l pairs spans) (sym (ap (counted 0) (drop-map (λ (x : PlacedRun). shown_run x.run) b.runs runs) ∙ siblings-counted 0 (drop b.runs runs))) e in
+      subst (λ l. IsEmphasis l pairs spans) (sym (ap (counted 0) (drop-map shown_whole b.runs runs) ∙ siblings-counted 0 (drop b.runs runs))) e in
       let r = reached-link reader read before p brackets shown bytes (slot_places quotes) (runs_of runs) (quotes_of quotes) h closer nearer target next bp cut t comes pairs spans emphasis in
       let made : List ℕ → List ℕ → List Quote → List row.Slot = λ bytes places quotes. marked reader.options bytes (marks_by (length bytes) pairs) (quoted places (quote_characters [] quotes) shown) [] in
       let dressed : made (drop n bytes) (drop b.quotes (slot_places quotes)) (drop b.quotes (quotes_of quotes)) ≡ made (places_of (drop b.runs runs)) (slot_places (drop b.quotes quotes)) (map shown_quote (map (λ (x : PlacedQuote). x.quote) (drop b.quotes quotes))) =
@@ -109,7 +109,7 @@ module _ (leaf : LeafText) (reader : Reader) (read : Leaf) (place : ℕ → ℕ)
       subst (λ l. all (map (bracket_place place) (drop (suc nearer) bs)) now (places_of new.delimiters.placed.items) (slot_places l) (runs_of new.delimiters.placed.items) (quotes_of l)) (sym quotes_are)
       (subst (λ l. all (map (bracket_place place) (drop (suc nearer) bs)) now (places_of l) (slot_places (take b.quotes quotes)) (runs_of l) (quotes_of (take b.quotes quotes))) (sym runs_are)
       (subst (λ l. all (map (bracket_place place) (drop (suc nearer) bs)) now (places_of (take b.runs runs)) (slot_places (take b.quotes quotes)) (runs_of (take b.runs runs)) l) (take-map (λ (x : PlacedQuote). shown_quote x.quote) b.quotes quotes)
-      (subst (λ l. all (map (bracket_place place) (drop (suc nearer) bs)) now (places_of (take b.runs runs)) (slot_places (take b.quotes quotes)) l (take b.quotes (quotes_of quotes))) (take-map (λ (x : PlacedRun). shown_run x.run) b.runs runs)
+      (subst (λ l. all (map (bracket_place place) (drop (suc nearer) bs)) now (places_of (take b.runs runs)) (slot_places (take b.quotes quotes)) l (take b.quotes (quotes_of quotes))) (take-map shown_whole b.runs runs)
       (subst (λ l. all (map (bracket_place place) (drop (suc nearer) bs)) now (places_of (take b.runs runs)) l (take b.runs (runs_of runs)) (take b.quotes (quotes_of quotes))) (take-map (λ (x : PlacedQuote). x.slot) b.quotes quotes)
       (subst (λ l. all (map (bracket_place place) (drop (suc nearer) bs)) now l (take b.quotes (slot_places quotes)) (take b.runs (runs_of runs)) (take b.quotes (quotes_of quotes))) (bytes-front b.runs runs)
       (subst (λ l. all (map (bracket_place place) (drop (suc nearer) bs)) l (take n bytes) (take b.quotes (slot_places quotes)) (take b.runs (runs_of runs)) (take b.quotes (quotes_of quotes))) slots
@@ -139,7 +139,7 @@ module _ (leaf : LeafText) (reader : Reader) (read : Leaf) (place : ℕ → ℕ)
       subst (λ l. all left now (places_of new.delimiters.placed.items) (slot_places l) (runs_of new.delimiters.placed.items) (quotes_of l)) (sym quotes_are)
       (subst (λ l. all left now (places_of l) (slot_places (take b.quotes quotes)) (runs_of l) (quotes_of (take b.quotes quotes))) (sym runs_are)
       (subst (λ l. all left now (places_of (take b.runs runs)) (slot_places (take b.quotes quotes)) (runs_of (take b.runs runs)) l) (take-map (λ (x : PlacedQuote). shown_quote x.quote) b.quotes quotes)
-      (subst (λ l. all left now (places_of (take b.runs runs)) (slot_places (take b.quotes quotes)) l (take b.quotes (quotes_of quotes))) (take-map (λ (x : PlacedRun). shown_run x.run) b.runs runs)
+      (subst (λ l. all left now (places_of (take b.runs runs)) (slot_places (take b.quotes quotes)) l (take b.quotes (quotes_of quotes))) (take-map shown_whole b.runs runs)
       (subst (λ l. all left now (places_of (take b.runs runs)) l (take b.runs (runs_of runs)) (take b.quotes (quotes_of quotes))) (take-map (λ (x : PlacedQuote). x.slot) b.quotes quotes)
       (subst (λ l. all left now l (take b.quotes (slot_places quotes)) (take b.runs (runs_of runs)) (take b.quotes (quotes_of quotes))) (bytes-front b.runs runs)
       (subst (λ l. all left l (take n bytes) (take b.quotes (slot_places quotes)) (take b.runs (runs_of runs)) (take b.quotes (quotes_of quotes))) (sym slots_are)

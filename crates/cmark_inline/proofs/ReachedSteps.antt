@@ -11,7 +11,7 @@ use Rattle.cmark_grammar.specs.LeafText.{Leaf}
 use Rattle.cmark_grammar.specs.Parts.{Nil, Single, Opening}
 use Rattle.cmark_grammar.specs.Readers.{Reader}
 use Rattle.cmark_grammar.specs.Siblings.{item}
-use Rattle.cmark_emphasis.specs.Shown.{shown_quote, shown_run}
+use Rattle.cmark_emphasis.specs.Shown.{shown_quote, shown_whole}
 use Rattle.cmark_leaf_text.specs.declared.leaf_text.LeafText.{LeafText}
 use Rattle.cmark_inline_model.specs.BracketPass.{Pass, pass}
 use Rattle.cmark_inline_model.specs.LikeSlots.{IsLike, AreLike}
@@ -37,7 +37,7 @@ run-places-append at (suc size) a b = ap (λ l. at ∷ l) (run-places-append (su
 
 places-append : (a b : List PlacedRun) → places_of (a ++ b) ≡ places_of a ++ places_of b
 places-append [] b = refl
-places-append (x ∷ a) b = ap (run_places x.slot x.run.run_length) (places-append a b) ∙ run-places-append x.slot x.run.run_length (places_of a) (places_of b)
+places-append (x ∷ a) b = ap (run_places x.slot x.run_length) (places-append a b) ∙ run-places-append x.slot x.run_length (places_of a) (places_of b)
 
 module _ (leaf : LeafText) (reader : Reader) (read : Leaf) (place : ℕ → ℕ) (before : Between) (p : Pass) (bs : List Bracket) (old new : InlineState) (h : HasRead leaf reader read place before p bs old)
     (same : shown_slots leaf new.texts.items new.links.items old.slots.items ≡ shown_slots leaf old.texts.items old.links.items old.slots.items) where
@@ -72,22 +72,22 @@ module _ (leaf : LeafText) (reader : Reader) (read : Leaf) (place : ℕ → ℕ)
       (subst (λ l. IsReached reader read before q brackets l (places_of old.delimiters.placed.items) places_before (runs_of old.delimiters.placed.items) (quotes_of old.quotes.placed.items)) (grown (slot ∷ []) slots_are) r))
 
   -- a delimiter run
-  pub run-read : (run : PlacedRun) (start end resume : ℕ) (more : List Slot) → token reader read p.state.at ≡ Stands (item (Delimiters (shown_run run.run)) start end) resume → AreLike reader.source (shown more) (run_slots start run.run.run_length []) → run.slot ≡ length old.slots.items
+  pub run-read : (run : PlacedRun) (start end resume : ℕ) (more : List Slot) → token reader read p.state.at ≡ Stands (item (Delimiters (shown_whole run)) start end) resume → AreLike reader.source (shown more) (run_slots start run.run_length []) → run.slot ≡ length old.slots.items
       → new.slots.items ≡ old.slots.items ++ more → new.delimiters.placed.items ≡ old.delimiters.placed.items ++ (run ∷ []) → new.quotes.placed.items ≡ old.quotes.placed.items
-      → HasRead leaf reader read place before (pass (moved resume p.state) (join p.here (Single (item (Delimiters (shown_run run.run)) start end) Nil))) bs new
+      → HasRead leaf reader read place before (pass (moved resume p.state) (join p.here (Single (item (Delimiters (shown_whole run)) start end) Nil))) bs new
   run-read run start end resume more t like slot_is slots_are runs_are quotes_are =
-      let kind = Delimiters (shown_run run.run) in
+      let kind = Delimiters (shown_whole run) in
       let q = pass (moved resume p.state) (join p.here (Single (item kind start end) Nil)) in
-      let r = reached-run reader read before p brackets slots_before (places_of old.delimiters.placed.items) places_before (runs_of old.delimiters.placed.items) (quotes_of old.quotes.placed.items) h (shown_run run.run) start end resume
+      let r = reached-run reader read before p brackets slots_before (places_of old.delimiters.placed.items) places_before (runs_of old.delimiters.placed.items) (quotes_of old.quotes.placed.items) h (shown_whole run) start end resume
       (shown more) t like in
-      let bytes : places_of old.delimiters.placed.items ++ run_places (length slots_before) run.run.run_length [] ≡ places_of new.delimiters.placed.items =
-      ap (λ n. places_of old.delimiters.placed.items ++ run_places n run.run.run_length []) (count ∙ sym slot_is) ∙ sym (places-append old.delimiters.placed.items (run ∷ [])) ∙ ap places_of (sym runs_are) in
-      let runs : runs_of old.delimiters.placed.items ++ (shown_run run.run ∷ []) ≡ runs_of new.delimiters.placed.items =
-      sym (map-append (λ (x : PlacedRun). shown_run x.run) old.delimiters.placed.items (run ∷ [])) ∙ ap runs_of (sym runs_are) in
+      let bytes : places_of old.delimiters.placed.items ++ run_places (length slots_before) run.run_length [] ≡ places_of new.delimiters.placed.items =
+      ap (λ n. places_of old.delimiters.placed.items ++ run_places n run.run_length []) (count ∙ sym slot_is) ∙ sym (places-append old.delimiters.placed.items (run ∷ [])) ∙ ap places_of (sym runs_are) in
+      let runs : runs_of old.delimiters.placed.items ++ (shown_whole run ∷ []) ≡ runs_of new.delimiters.placed.items =
+      sym (map-append shown_whole old.delimiters.placed.items (run ∷ [])) ∙ ap runs_of (sym runs_are) in
       subst (λ l. IsReached reader read before q brackets (shown new.slots.items) (places_of new.delimiters.placed.items) (map (λ (x : PlacedQuote). x.slot) l) (runs_of new.delimiters.placed.items) (quotes_of l)) (sym quotes_are)
       (subst (λ l. IsReached reader read before q brackets (shown new.slots.items) (places_of new.delimiters.placed.items) places_before l (quotes_of old.quotes.placed.items)) runs
-      (subst (λ l. IsReached reader read before q brackets (shown new.slots.items) l places_before (runs_of old.delimiters.placed.items ++ (shown_run run.run ∷ [])) (quotes_of old.quotes.placed.items)) bytes
-      (subst (λ l. IsReached reader read before q brackets l (places_of old.delimiters.placed.items ++ run_places (length slots_before) run.run.run_length []) places_before (runs_of old.delimiters.placed.items ++ (shown_run run.run ∷ [])) (quotes_of old.quotes.placed.items))
+      (subst (λ l. IsReached reader read before q brackets (shown new.slots.items) l places_before (runs_of old.delimiters.placed.items ++ (shown_whole run ∷ [])) (quotes_of old.quotes.placed.items)) bytes
+      (subst (λ l. IsReached reader read before q brackets l (places_of old.delimiters.placed.items ++ run_places (length slots_before) run.run_length []) places_before (runs_of old.delimiters.placed.items ++ (shown_whole run ∷ [])) (quotes_of old.quotes.placed.items))
       (grown more slots_are) r)))
 
   -- a quote
@@ -120,7 +120,7 @@ module _ (leaf : LeafText) (reader : Reader) (read : Leaf) (place : ℕ → ℕ)
       let r = reached-opening reader read before p brackets slots_before (places_of old.delimiters.placed.items) places_before (runs_of old.delimiters.placed.items) (quotes_of old.quotes.placed.items) h opener
       (shown_slot leaf new.texts.items new.links.items slot) t like in
       let made : items.Bracket → ℕ → ℕ → ℕ → BracketPlace = λ o s n m. record { bracket = o; slot = s; runs = n; quotes = m } in
-      let n = length-map old.delimiters.placed.items (λ (x : PlacedRun). shown_run x.run) in
+      let n = length-map old.delimiters.placed.items shown_whole in
       let m = length-map old.quotes.placed.items (λ (x : PlacedQuote). shown_quote x.quote) in
       let place_is : made opener (length slots_before) (length (runs_of old.delimiters.placed.items)) (length (quotes_of old.quotes.placed.items)) ≡ bracket_place place b =
       ap (λ o. made o (length slots_before) (length (runs_of old.delimiters.placed.items)) (length (quotes_of old.quotes.placed.items))) opener_is

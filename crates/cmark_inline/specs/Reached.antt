@@ -8,7 +8,7 @@ use Rattle.cmark_grammar.specs.Quotes.{Quote}
 use Rattle.cmark_grammar.specs.Readers.{Reader}
 use Rattle.cmark_leaf_text.specs.Reads.{is_cell_of, place_of, text_of}
 use Rattle.cmark_leaf_text.specs.declared.leaf_text.LeafText.{LeafText}
-use Rattle.cmark_emphasis.specs.Shown.{shown_quote, shown_run}
+use Rattle.cmark_emphasis.specs.Shown.{shown_quote, shown_whole}
 use Rattle.cmark_inline_model.specs.BracketPass.{Pass}
 use Rattle.cmark_inline_model.specs.LeafModel.{HaveLineEnds}
 use Rattle.cmark_inline_model.specs.PlacedTokens.{AreLeafPlaces}
@@ -43,7 +43,7 @@ bracket_place place b = record {
 }
 
 abbrev pub runs_of : List PlacedRun → List Run
-runs_of placed = map (λ (p : PlacedRun). shown_run p.run) placed
+runs_of placed = map shown_whole placed
 
 abbrev pub quotes_of : List PlacedQuote → List Quote
 quotes_of placed = map (λ (p : PlacedQuote). shown_quote p.quote) placed

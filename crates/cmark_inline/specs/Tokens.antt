@@ -16,9 +16,9 @@ use Rattle.cmark_grammar.specs.LinkDefinitions.{Parsed}
 use Rattle.cmark_grammar.specs.Options.{Options, no_options}
 use Rattle.cmark_grammar.specs.Readers.{Reader}
 use Rattle.cmark_grammar.specs.Tokens.{is_punctuation, slice}
-use Rattle.cmark_emphasis.specs.Shown.{shown_quote, shown_run}
+use Rattle.cmark_emphasis.specs.Shown.{shown_quote, shown_whole}
 use Rattle.cmark_emphasis.specs.declared.quotes.Quote.{Quote}
-use Rattle.cmark_emphasis.specs.declared.run.Run.{Run}
+use Rattle.cmark_emphasis.specs.declared.run.PlacedRun.{PlacedRun}
 use Rattle.cmark_values.specs.Shown.{text_bytes}
 use Rattle.cmark_values.specs.declared.text.CowStr.{CowStr}
 use Rattle.cmark_inline.specs.Linked.{IsAutolink}
@@ -202,15 +202,16 @@ pub record AppendsQuote (options : Options) (lookup : Lookup) (is_cell : Bool) (
 
 -- the pending text was appended, and then a slot for each byte of the delimiter run at the cursor
 pub record AppendsRun (options : Options) (lookup : Lookup) (is_cell : Bool) (text : List ℕ) (here : Cursor) (old new : InlineState) (next : Cursor) : Type 0 where
-  pub run : Run
-  pub token : begins_at options lookup is_cell text here.at ≡ item_at (Delimiters (shown_run run)) here.at next.at
+  pub run : PlacedRun
+  pub token : begins_at options lookup is_cell text here.at ≡ item_at (Delimiters (shown_whole run)) here.at next.at
   pub size : next.at ≡ here.at + run.run_length
   pub bytes : (k : ℕ) → here.at ≤ k → k < next.at → is_content (slice_index text k) ≡ true
   pub pending : next.pending ≡ next.at
   pub before : List Slot
   pub text_is : PushesText here.pending here.at old.slots.items before
+  pub there : run.slot ≡ length before
   pub slots : new.slots.items ≡ before ++ byte_slots here.at run.run_length
-  pub placed : new.delimiters.placed.items ≡ old.delimiters.placed.items ++ (record { slot = length before; run = run } ∷ [])
+  pub placed : new.delimiters.placed.items ≡ old.delimiters.placed.items ++ (run ∷ [])
   pub examined : new.delimiters.examined ≡ old.delimiters.examined
   pub others : new ≡ record old { slots = new.slots; delimiters = new.delimiters }
 

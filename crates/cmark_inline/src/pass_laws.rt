@@ -1,7 +1,7 @@
 //! Theorems about the states of the inline pass and of the grammar's pass. Each is the contract of a function that does nothing.
 
 ghost use Rattle.std.specs.Prelude.{◌≡◌, ℕ, suc, true, List, [], ◌∷◌, ◌++◌, Some, drop, length, map, take};
-ghost use Rattle.cmark_emphasis.specs.Shown.{shown_quote, shown_run};
+ghost use Rattle.cmark_emphasis.specs.Shown.{shown_quote, shown_whole};
 ghost use Rattle.cmark_grammar.specs.BracketDecisions.{decide};
 ghost use Rattle.cmark_grammar.specs.BracketReading.{Comes};
 ghost use Rattle.cmark_grammar.specs.BracketStates.{Forms, State, StaysText, moved, opened};
@@ -59,15 +59,15 @@ pub fn a_step_more_is_read()
         ≡ shown_slots leaf old.texts.items old.links.items old.slots.items
         → (run : PlacedRun) (start end resume : ℕ) (more : List Slot)
         → token reader read p.state.at
-        ≡ Stands (item (Delimiters (shown_run run.run)) start end) resume
+        ≡ Stands (item (Delimiters (shown_whole run)) start end) resume
         → AreLike reader.source (shown_slots leaf new.texts.items new.links.items more)
-        (run_slots start run.run.run_length []) → run.slot ≡ length old.slots.items
+        (run_slots start run.run_length []) → run.slot ≡ length old.slots.items
         → new.slots.items ≡ old.slots.items ++ more
         → new.delimiters.placed.items ≡ old.delimiters.placed.items ++ (run ∷ [])
         → new.quotes.placed.items ≡ old.quotes.placed.items
         → HasRead leaf reader read place before
         (pass (moved resume p.state)
-        (join p.here (Single (item (Delimiters (shown_run run.run)) start end) Nil))) bs new }
+        (join p.here (Single (item (Delimiters (shown_whole run)) start end) Nil))) bs new }
     ensures quote { (leaf : LeafText) (reader : Reader) (read : Leaf) (place : ℕ → ℕ)
         (before : Between) (p : Pass) (bs : List Bracket) (old new : InlineState)
         → HasRead leaf reader read place before p bs old

@@ -13,7 +13,7 @@ ghost use Rattle.cmark_inline.specs.Tokens.{AppendsRun, Passes, PassesOver, is_o
 use crate::place::{character_at, character_before, run_end};
 use crate::state::InlineState;
 use crate::step::Cursor;
-use cmark_emphasis::{Run, flanking_of};
+use cmark_emphasis::{PlacedRun, flanking_of};
 use cmark_slots::slot::{SlotKind, push_slot};
 use cmark_text::Options;
 use std::alloc::AllocError;
@@ -56,15 +56,13 @@ impl<'a> InlineState<'a> {
         self.flush(text, here, here.at)?;
         let first = self.slots.len();
         self.push_bytes(text, here.at, end)?;
-        let run = Run {
-            delimiter,
+        self.delimiters.push(PlacedRun {
+            slot: first,
             run_length,
-            at: 0,
-            left: run_length,
+            delimiter,
             opens: flanking.opens,
             closes: flanking.closes,
-        };
-        self.delimiters.push(first, run)?;
+        })?;
         Ok(Cursor {
             pending: end,
             at: end,

@@ -190,12 +190,8 @@ impl<'a> InlineState<'a> {
         self.links.push(named_link(wikilink))?;
         let inside = self.show(text, doubled, close, wikilink)?;
         let element = linked_element(doubled.is_image);
-        begin(
-            &mut self.slots,
-            doubled.slot,
-            SlotKind::BeginLink(element, index),
-            end,
-        );
+        let kind = SlotKind::BeginLink(element, index);
+        begin(&mut self.slots, doubled.slot, kind, end);
         self.finish(options, inside, close, end)?;
         self.quotes.truncate(doubled.quotes);
         self.delimiters.truncate(doubled.runs);

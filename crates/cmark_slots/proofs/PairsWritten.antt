@@ -1,5 +1,5 @@
 -- The pairs of placed runs, and the slots into which their spans are written.
-use Rattle.std.proofs.Common.{◌≡◌, ◌⊎◌, inl, inr, ⊎_elim, ℕ, zero, suc, ◌+◌, ◌-◌, ◌<◌, ◌≤◌, List, [], ◌∷◌, ◌++◌, length, drop, get_or, refl, sym, ap, subst, ◌∙◌, append-nil, arith}
+use Rattle.std.proofs.Common.{◌≡◌, inl, inr, ⊎_elim, ℕ, zero, suc, ◌+◌, ◌-◌, ◌<◌, ◌≤◌, List, [], ◌∷◌, ◌++◌, length, drop, get_or, refl, sym, ap, subst, ◌∙◌, append-nil, arith}
 use Rattle.std.specs.Prelude.{◌^◌, All, map}
 use Rattle.std.proofs.lemmas.List.Elements.{All-cons}
 use Rattle.std.proofs.lemmas.Bool.{cases_eq}
@@ -62,13 +62,13 @@ drop-more (suc a) b (x ∷ xs) = ap (λ n. drop n (x ∷ xs)) (let q : suc a + b
 runs-moved : (all : List ℕ) (at : ℕ) (placed : List PlacedRun) → drop at all ≡ places_of placed → AreMoved (λ k. get_or all k 0) (runs_of (siblings_from at placed)) (map shown_placed placed)
 runs-moved all at [] e = tt
 runs-moved all at (p ∷ placed) e = (
-  (p.slot, refl, λ j lt. sym (get_or-drop at all j 0) ∙ ap (λ l. get_or l j 0) e ∙ run-at p.run.run_length p.slot j (places_of placed) lt),
-  runs-moved all (at + p.run.run_length) placed (drop-more at p.run.run_length all ∙ ap (drop p.run.run_length) e ∙ run-over p.run.run_length p.slot (places_of placed)),
+  (p.slot, refl, λ j lt. sym (get_or-drop at all j 0) ∙ ap (λ l. get_or l j 0) e ∙ run-at p.run_length p.slot j (places_of placed) lt),
+  runs-moved all (at + p.run_length) placed (drop-more at p.run_length all ∙ ap (drop p.run_length) e ∙ run-over p.run_length p.slot (places_of placed)),
 )
 
 runs-like : (at : ℕ) (placed : List PlacedRun) → AreLikeRuns (runs_of (siblings_from at placed)) (map shown_placed placed)
 runs-like at [] = tt
-runs-like at (p ∷ placed) = ((p.slot, refl), runs-like (at + p.run.run_length) placed)
+runs-like at (p ∷ placed) = ((p.slot, refl), runs-like (at + p.run_length) placed)
 
 -- a search examines as many runs as if they were counted from 0
 pub least-same : (placed : List PlacedRun) → least_examined (map shown_placed placed) ≡ least_examined (runs_of (siblings_from 0 placed))
@@ -319,7 +319,7 @@ few-resolved options placed slots le h whole = none-resolved options placed slot
 
 pub few-least : (placed : List PlacedRun) → length placed ≤ 1 → least_examined (runs_of (siblings_from 0 placed)) ≡ 0
 few-least [] le = refl
-few-least (p ∷ []) le = one-least (record { delimiter = p.run.delimiter; run_length = p.run.run_length; at = 0; left = p.run.run_length; opens = p.run.opens; closes = p.run.closes })
+few-least (p ∷ []) le = one-least (record { delimiter = p.delimiter; run_length = p.run_length; at = 0; left = p.run_length; opens = p.opens; closes = p.closes })
 few-least (p ∷ q ∷ placed) le = absurd (omega (arith, le))
 
 -- one pair is written
@@ -336,7 +336,7 @@ one-can slots placed pair w = subst (CanWrite slots) (append-nil (spans_of_pair 
 pub all-fit : (slots : List Slot) (from place : ℕ) (placed : List PlacedRun) → length slots < 2 ^ 64 → HaveBytes slots from place placed → All Fits placed
 all-fit slots from place [] small h = λ k d lt. absurd (omega (arith, lt))
 all-fit slots from place (p ∷ placed) small h =
-    All-cons Fits p placed (λ some. let q = bytes-in p.run.run_length p.slot h.0 some slots h.3 in omega (arith, q, small)) (all-fit slots (p.slot + p.run.run_length) (h.0 + p.run.run_length) placed small h.4)
+    All-cons Fits p placed (λ some. let q = bytes-in p.run_length p.slot h.0 some slots h.3 in omega (arith, q, small)) (all-fit slots (p.slot + p.run_length) (h.0 + p.run_length) placed small h.4)
 
 -- the runs of a list with exactly two
 pub two-are : (runs : List PlacedRun) (d : PlacedRun) → 2 ≤ length runs → length runs < 3 → runs ≡ get_or runs 0 d ∷ (get_or runs 1 d ∷ [])

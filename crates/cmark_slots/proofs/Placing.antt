@@ -69,13 +69,13 @@ module _ (n s at : ℕ) (some : 0 < n) where
 -- ## The bytes of all runs
 
 abbrev pub KeepsRuns : (old new : List Slot) → List PlacedRun → Type 0
-KeepsRuns old new runs = All (λ (r : PlacedRun). (k : ℕ) (d : Slot) → r.slot ≤ k → k < r.slot + r.run.run_length → get_or new k d ≡ get_or old k d) runs
+KeepsRuns old new runs = All (λ (r : PlacedRun). (k : ℕ) (d : Slot) → r.slot ≤ k → k < r.slot + r.run_length → get_or new k d ≡ get_or old k d) runs
 
 abbrev pub EndBefore : (high : ℕ) → List PlacedRun → Type 0
-EndBefore high runs = All (λ (r : PlacedRun). r.slot + r.run.run_length ≤ high) runs
+EndBefore high runs = All (λ (r : PlacedRun). r.slot + r.run_length ≤ high) runs
 
 abbrev size-of : PlacedRun → Type 0
-size-of r = 0 < r.run.run_length
+size-of r = 0 < r.run_length
 
 pub have-kept : (old new : List Slot) (from place : ℕ) (runs : List PlacedRun) → length old ≤ length new → HaveSizes runs → KeepsRuns old new runs → HaveBytes old from place runs → HaveBytes new from place runs
 have-kept old new from place [] le sizes keeps h = tt
@@ -84,15 +84,15 @@ have-kept old new from place (r ∷ runs) le sizes keeps h =
       h.0,
       h.1,
       h.2,
-      bytes-kept r.run.run_length r.slot h.0 some old new le (all-head (λ (r : PlacedRun). (k : ℕ) (d : Slot) → r.slot ≤ k → k < r.slot + r.run.run_length → get_or new k d ≡ get_or old k d) r runs keeps) h.3,
-      have-kept old new (r.slot + r.run.run_length) (h.0 + r.run.run_length) runs le (all-tail size-of r runs sizes) (all-tail (λ (r : PlacedRun). (k : ℕ) (d : Slot) → r.slot ≤ k → k < r.slot + r.run.run_length → get_or new k d ≡ get_or old k d) r runs keeps) h.4,
+      bytes-kept r.run_length r.slot h.0 some old new le (all-head (λ (r : PlacedRun). (k : ℕ) (d : Slot) → r.slot ≤ k → k < r.slot + r.run_length → get_or new k d ≡ get_or old k d) r runs keeps) h.3,
+      have-kept old new (r.slot + r.run_length) (h.0 + r.run_length) runs le (all-tail size-of r runs sizes) (all-tail (λ (r : PlacedRun). (k : ℕ) (d : Slot) → r.slot ≤ k → k < r.slot + r.run_length → get_or new k d ≡ get_or old k d) r runs keeps) h.4,
     )
 
 pub runs-within : (slots : List Slot) (from place : ℕ) (runs : List PlacedRun) → HaveSizes runs → HaveBytes slots from place runs → EndBefore (length slots) runs
 runs-within slots from place [] sizes h = λ k d lt. absurd (omega (arith, lt))
 runs-within slots from place (r ∷ runs) sizes h =
-    all-cons (λ (r : PlacedRun). r.slot + r.run.run_length ≤ length slots) r runs (bytes-in r.run.run_length r.slot h.0 (all-head size-of r runs sizes) slots h.3)
-    (runs-within slots (r.slot + r.run.run_length) (h.0 + r.run.run_length) runs (all-tail size-of r runs sizes) h.4)
+    all-cons (λ (r : PlacedRun). r.slot + r.run_length ≤ length slots) r runs (bytes-in r.run_length r.slot h.0 (all-head size-of r runs sizes) slots h.3)
+    (runs-within slots (r.slot + r.run_length) (h.0 + r.run_length) runs (all-tail size-of r runs sizes) h.4)
 
 -- runs begin at any slot up to the first one
 pub runs-low : (slots : List Slot) (low place : ℕ) (runs : List PlacedRun) → HaveBytes slots low place runs → (least : ℕ) → least ≤ low → All (λ (r : PlacedRun). least ≤ r.slot) runs
@@ -100,13 +100,13 @@ runs-low slots low place [] h least le = λ k d lt. absurd (omega (arith, lt))
 runs-low slots low place (r ∷ runs) h least le =
     let f = h.1 in
     let q : least ≤ r.slot = omega (arith, f, le) in
-    all-cons (λ (r : PlacedRun). least ≤ r.slot) r runs q (runs-low slots (r.slot + r.run.run_length) (h.0 + r.run.run_length) runs h.4 least (omega (arith, q)))
+    all-cons (λ (r : PlacedRun). least ≤ r.slot) r runs q (runs-low slots (r.slot + r.run_length) (h.0 + r.run_length) runs h.4 least (omega (arith, q)))
 
 pub have-take : (slots : List Slot) (from place n : ℕ) (runs : List PlacedRun) → HaveBytes slots from place runs → HaveBytes slots from place (take n runs)
 have-take slots from place zero [] h = tt
 have-take slots from place (suc n) [] h = tt
 have-take slots from place zero (r ∷ runs) h = tt
-have-take slots from place (suc n) (r ∷ runs) h = (h.0, h.1, h.2, h.3, have-take slots (r.slot + r.run.run_length) (h.0 + r.run.run_length) n runs h.4)
+have-take slots from place (suc n) (r ∷ runs) h = (h.0, h.1, h.2, h.3, have-take slots (r.slot + r.run_length) (h.0 + r.run_length) n runs h.4)
 
 have-from : (slots : List Slot) (from place low : ℕ) (runs : List PlacedRun) → HaveBytes slots from place runs → All (λ (r : PlacedRun). low ≤ r.slot) runs → HaveBytes slots low 0 runs
 have-from slots from place low [] h le = tt
@@ -116,25 +116,25 @@ have-from slots from place low (r ∷ runs) h le = (h.0, all-head (λ (r : Place
 pub have-drop : (slots : List Slot) (from place low n : ℕ) (runs : List PlacedRun) → HaveBytes slots from place runs → All (λ (r : PlacedRun). low ≤ r.slot) (drop n runs) → HaveBytes slots low 0 (drop n runs)
 have-drop slots from place low zero runs h le = have-from slots from place low runs h le
 have-drop slots from place low (suc n) [] h le = tt
-have-drop slots from place low (suc n) (r ∷ runs) h le = have-drop slots (r.slot + r.run.run_length) (h.0 + r.run.run_length) low n runs h.4 le
+have-drop slots from place low (suc n) (r ∷ runs) h le = have-drop slots (r.slot + r.run_length) (h.0 + r.run_length) low n runs h.4 le
 
 -- one more run, after all others
 pub have-push : (slots : List Slot) (from place high at : ℕ) (runs : List PlacedRun) (new : PlacedRun) → from ≤ high → place ≤ at → EndBefore high runs → HaveSizes runs → ((k : ℕ) (d : Slot) → k < high → (get_or slots k d).end ≤ at)
-    → high ≤ new.slot → take new.run.run_length (drop new.slot slots) ≡ byte_slots at new.run.run_length → HaveBytes slots from place runs → HaveBytes slots from place (runs ++ (new ∷ []))
+    → high ≤ new.slot → take new.run_length (drop new.slot slots) ≡ byte_slots at new.run_length → HaveBytes slots from place runs → HaveBytes slots from place (runs ++ (new ∷ []))
 have-push slots from place high at [] new f p ends sizes before le is h = (at, (let q : from ≤ new.slot = omega (arith, f, le) in q), p, is, tt)
 have-push slots from place high at (r ∷ runs) new f p ends sizes before le is h =
     let some = all-head size-of r runs sizes in
-    let end = all-head (λ (r : PlacedRun). r.slot + r.run.run_length ≤ high) r runs ends in
-    let last : r.run.run_length - 1 < r.run.run_length = omega (arith, some) in
-    let there = byte-there r.run.run_length r.slot h.0 some slots h.3 (r.run.run_length - 1) (byte 0) last in
+    let end = all-head (λ (r : PlacedRun). r.slot + r.run_length ≤ high) r runs ends in
+    let last : r.run_length - 1 < r.run_length = omega (arith, some) in
+    let there = byte-there r.run_length r.slot h.0 some slots h.3 (r.run_length - 1) (byte 0) last in
     let past = ap (λ (s : Slot). s.end) there in
-    let bound = before (r.slot + (r.run.run_length - 1)) (byte 0) (omega (arith, some, end)) in (
+    let bound = before (r.slot + (r.run_length - 1)) (byte 0) (omega (arith, some, end)) in (
       h.0,
       h.1,
       h.2,
       h.3,
-      have-push slots (r.slot + r.run.run_length) (h.0 + r.run.run_length) high at runs new end (let q : h.0 + r.run.run_length ≤ at = omega (arith, past, bound, some) in q)
-          (all-tail (λ (r : PlacedRun). r.slot + r.run.run_length ≤ high) r runs ends) (all-tail size-of r runs sizes) before le is h.4,
+      have-push slots (r.slot + r.run_length) (h.0 + r.run_length) high at runs new end (let q : h.0 + r.run_length ≤ at = omega (arith, past, bound, some) in q)
+          (all-tail (λ (r : PlacedRun). r.slot + r.run_length ≤ high) r runs ends) (all-tail size-of r runs sizes) before le is h.4,
     )
 
 -- runs before an index keep their bytes if the slots before that index are unchanged
@@ -150,7 +150,7 @@ texts-kept old new quotes le same h = λ k d lt.
 -- ## Brackets
 
 abbrev pub no-run : PlacedRun
-no-run = record { slot = 0; run = record { delimiter = 0; run_length = 0; at = 0; left = 0; opens = false; closes = false } }
+no-run = record { slot = 0; run_length = 0; delimiter = 0; opens = false; closes = false }
 
 abbrev pub no-quote : PlacedQuote
 no-quote = record { slot = 0; quote = record { double = false; opens = false; closes = false } }
@@ -176,7 +176,7 @@ module _ (slots : List Slot) (runs : List PlacedRun) (quotes : List PlacedQuote)
         there = p.there;
         text = p.text;
         runs_there = omega (arith, n, t);
-        runs_before = λ k d lt. subst (λ (r : PlacedRun). r.slot + r.run.run_length ≤ b.slot) (sym (get_or_append_left runs (new ∷ []) d k (let q : k < length runs = omega (arith, lt, t) in q))) (p.runs_before k d lt);
+        runs_before = λ k d lt. subst (λ (r : PlacedRun). r.slot + r.run_length ≤ b.slot) (sym (get_or_append_left runs (new ∷ []) d k (let q : k < length runs = omega (arith, lt, t) in q))) (p.runs_before k d lt);
         runs_after = λ k d le lt. go k d le (let q : k ≤ length runs = omega (arith, lt, n) in q) (cases_lt k (length runs));
         quotes_there = p.quotes_there;
         quotes_before = p.quotes_before;
@@ -217,7 +217,7 @@ module _ (slots : List Slot) (runs : List PlacedRun) (quotes : List PlacedQuote)
         there = p.there;
         text = p.text;
         runs_there = omega (arith, rn, rs);
-        runs_before = λ k d lt. subst (λ (r : PlacedRun). r.slot + r.run.run_length ≤ b.slot) (sym (get_or-take c.runs runs k d (let q : k < c.runs = omega (arith, lt, rs) in q))) (p.runs_before k d lt);
+        runs_before = λ k d lt. subst (λ (r : PlacedRun). r.slot + r.run_length ≤ b.slot) (sym (get_or-take c.runs runs k d (let q : k < c.runs = omega (arith, lt, rs) in q))) (p.runs_before k d lt);
         runs_after = λ k d le lt. let kc : k < c.runs = omega (arith, lt, rn) in let t = pc.runs_there in subst (λ (r : PlacedRun). b.slot < r.slot) (sym (get_or-take c.runs runs k d kc)) (p.runs_after k d le (let q : k < length runs = omega (arith, kc, t) in q));
         quotes_there = omega (arith, qn, qs);
         quotes_before = λ k d lt. subst (λ (r : PlacedQuote). r.slot < b.slot) (sym (get_or-take c.quotes quotes k d (let q : k < c.quotes = omega (arith, lt, qs) in q))) (p.quotes_before k d lt);

@@ -18,7 +18,7 @@ use Rattle.cmark_slots.specs.declared.slot.SlotKind.TheVariants as kind
 
 pub stand-so : (at : ℕ) (placed : List PlacedRun) → StandFrom at (siblings_from at placed)
 stand-so at [] = tt
-stand-so at (p ∷ placed) = (refl, refl, stand-so (at + p.run.run_length) placed)
+stand-so at (p ∷ placed) = (refl, refl, stand-so (at + p.run_length) placed)
 
 length-run : (at size : ℕ) (following : List ℕ) → length (run_places at size following) ≡ size + length following
 length-run at zero following = let e : length following ≡ 0 + length following = omega arith in e
@@ -26,7 +26,7 @@ length-run at (suc size) following = let h = length-run (suc at) size following 
 
 pub length-places : (at : ℕ) (placed : List PlacedRun) → length (places_of placed) ≡ places_taken (siblings_from at placed)
 length-places at [] = refl
-length-places at (p ∷ placed) = length-run p.slot p.run.run_length (places_of placed) ∙ ap (λ n. p.run.run_length + n) (length-places (at + p.run.run_length) placed)
+length-places at (p ∷ placed) = length-run p.slot p.run_length (places_of placed) ∙ ap (λ n. p.run_length + n) (length-places (at + p.run_length) placed)
 
 -- ## Their marks
 
@@ -92,7 +92,7 @@ bytes-ahead (suc size) s at from end slots following f e is h =
 
 pub all-ahead : (slots : List Slot) (from place : ℕ) (placed : List PlacedRun) → HaveBytes slots from place placed → AreAhead slots from place (places_of placed)
 all-ahead slots from place [] h = tt
-all-ahead slots from place (p ∷ placed) h = bytes-ahead p.run.run_length p.slot h.0 from place slots (places_of placed) h.1 h.2 h.3 (all-ahead slots (p.slot + p.run.run_length) (h.0 + p.run.run_length) placed h.4)
+all-ahead slots from place (p ∷ placed) h = bytes-ahead p.run_length p.slot h.0 from place slots (places_of placed) h.1 h.2 h.3 (all-ahead slots (p.slot + p.run_length) (h.0 + p.run_length) placed h.4)
 
 -- if runs have their bytes from a later slot and offset on, they have them from the first ones on
 pub have-all : (slots : List Slot) (from place : ℕ) (placed : List PlacedRun) → HaveBytes slots from place placed → HaveBytes slots 0 0 placed

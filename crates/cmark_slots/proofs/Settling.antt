@@ -165,10 +165,10 @@ module _ (low : ℕ) (slots : List Slot) (runs : List PlacedRun) (quotes : List 
   letters-keep : (characters : List ℕ) → KeepsRuns slots (Letters characters) runs
   letters-keep characters = λ j e lt. λ k d from to. go j e lt k d from to (are-lettered quotes characters slots k d)
     where
-      go : (j : ℕ) (e : PlacedRun) → j < length runs → (k : ℕ) (d : Slot) → (get_or runs j e).slot ≤ k → k < (get_or runs j e).slot + (get_or runs j e).run.run_length → Lettered quotes slots (Letters characters) k d → get_or (Letters characters) k d ≡ get_or slots k d
+      go : (j : ℕ) (e : PlacedRun) → j < length runs → (k : ℕ) (d : Slot) → (get_or runs j e).slot ≤ k → k < (get_or runs j e).slot + (get_or runs j e).run_length → Lettered quotes slots (Letters characters) k d → get_or (Letters characters) k d ≡ get_or slots k d
       go j e lt k d from to (inl same) = same
       go j e lt k d from to (inr (i, there, is, within, made)) =
-          ⊎_elim (λ (before : (get_or quotes i no-quote).slot < (get_or runs j e).slot). absurd (omega (arith, before, is, from))) (λ (following : (get_or runs j e).slot + (get_or runs j e).run.run_length ≤ (get_or quotes i no-quote).slot). absurd (omega (arith, following, is, to)))
+          ⊎_elim (λ (before : (get_or quotes i no-quote).slot < (get_or runs j e).slot). absurd (omega (arith, before, is, from))) (λ (following : (get_or runs j e).slot + (get_or runs j e).run_length ≤ (get_or quotes i no-quote).slot). absurd (omega (arith, following, is, to)))
           (h.apart i no-quote there j e lt)
 
   -- the characters are written

@@ -7,7 +7,7 @@ use Rattle.cmark_grammar.specs.InlineHtml.{takes_lines}
 use Rattle.cmark_grammar.specs.Tokens.{slice}
 use Rattle.cmark_slots.specs.MarkedSlots.{EndWithin, HaveBytes, SameBefore, last_in}
 use Rattle.cmark_slots.specs.SlotViews.{link_named, text_named}
-use Rattle.cmark_emphasis.specs.Counts.{IsKnown}
+use Rattle.cmark_emphasis.specs.Counts.{IsKnownPlaced}
 use Rattle.cmark_slots.specs.Standing.{AreSound, CanSettle, HaveSizes, IsPlain, NamesAs, NamesNoMore, source_end}
 use Rattle.cmark_slots.specs.Cuts.{Hides, cut_at, cut_kind, cut_slot}
 use Rattle.cmark_slots.specs.declared.bracket.Bracket.{Bracket}
@@ -134,19 +134,19 @@ have-rest : (slots : List Slot) (from place low n : ℕ) (runs : List PlacedRun)
 have-rest slots from place low zero [] h le = tt
 have-rest slots from place low zero (r ∷ runs) h le = (h.0, le r (let q : 0 < length (r ∷ runs) = omega arith in q), (let q : 0 ≤ h.0 = omega arith in q), h.3, h.4)
 have-rest slots from place low (suc n) [] h le = tt
-have-rest slots from place low (suc n) (r ∷ runs) h le = have-rest slots (r.slot + r.run.run_length) (h.0 + r.run.run_length) low n runs h.4 (λ d lt. le d (let q : suc n < length (r ∷ runs) = omega (arith, lt) in q))
+have-rest slots from place low (suc n) (r ∷ runs) h le = have-rest slots (r.slot + r.run_length) (h.0 + r.run_length) low n runs h.4 (λ d lt. le d (let q : suc n < length (r ∷ runs) = omega (arith, lt) in q))
 
 -- each byte of these runs has the slot of a byte
 abbrev AreBytes : List Slot → List PlacedRun → Type 0
-AreBytes slots runs = All (λ (r : PlacedRun). (k : ℕ) (d : Slot) → r.slot ≤ k → k < r.slot + r.run.run_length → (get_or slots k d).end ≡ (get_or slots k d).start + 1) runs
+AreBytes slots runs = All (λ (r : PlacedRun). (k : ℕ) (d : Slot) → r.slot ≤ k → k < r.slot + r.run_length → (get_or slots k d).end ≡ (get_or slots k d).start + 1) runs
 
 are-bytes : (slots : List Slot) (from place : ℕ) (runs : List PlacedRun) → HaveSizes runs → HaveBytes slots from place runs → AreBytes slots runs
 are-bytes slots from place [] sizes h j e lt = absurd (omega (arith, lt))
 are-bytes slots from place (r ∷ runs) sizes h zero e lt = λ k d le high.
-    let there = byte-there r.run.run_length r.slot h.0 (all-head (λ (r : PlacedRun). 0 < r.run.run_length) r runs sizes) slots h.3 (k - r.slot) d (omega (arith, le, high)) in
+    let there = byte-there r.run_length r.slot h.0 (all-head (λ (r : PlacedRun). 0 < r.run_length) r runs sizes) slots h.3 (k - r.slot) d (omega (arith, le, high)) in
     let is : get_or slots k d ≡ byte (h.0 + (k - r.slot)) = ap (λ j. get_or slots j d) (let q : k ≡ r.slot + (k - r.slot) = omega (arith, le) in q) ∙ there in
     ap (λ (s : Slot). s.end) is ∙ sym (ap (λ (s : Slot). s.start + 1) is)
-are-bytes slots from place (r ∷ runs) sizes h (suc j) e lt = are-bytes slots (r.slot + r.run.run_length) (h.0 + r.run.run_length) runs (all-tail (λ (r : PlacedRun). 0 < r.run.run_length) r runs sizes) h.4 j e (omega (arith, lt))
+are-bytes slots from place (r ∷ runs) sizes h (suc j) e lt = are-bytes slots (r.slot + r.run_length) (h.0 + r.run_length) runs (all-tail (λ (r : PlacedRun). 0 < r.run_length) r runs sizes) h.4 j e (omega (arith, lt))
 
 -- ## What is shown
 
@@ -194,13 +194,13 @@ module _ (texts links : ℕ) (slots : List Slot) (runs : List PlacedRun) (quotes
         subst (λ (q : PlacedQuote). low ≤ q.slot) (sym (get_or-drop m quotes k d)) (let q : low ≤ (get_or quotes (m + k) d).slot = omega (arith, g, order) in q);
     runs_are = have-kept slots shown low 0 (drop n runs) (let e = shown-length in let q : length slots ≤ length shown = omega (arith, e) in q) sizes keeps (have-rest slots 0 0 low n runs h.runs_are (λ d lt. let g = run_at d lt in omega (arith, g, order)));
     sizes = sizes;
-    known = all-drop (λ (r : PlacedRun). IsKnown r.run) n runs h.known;
-    apart = all-drop (λ (q : PlacedQuote). All (λ (r : PlacedRun). (q.slot < r.slot) ⊎ (r.slot + r.run.run_length ≤ q.slot)) (drop n runs)) m quotes
-        (λ k d lt. all-drop (λ (r : PlacedRun). ((get_or quotes k d).slot < r.slot) ⊎ (r.slot + r.run.run_length ≤ (get_or quotes k d).slot)) n runs (h.apart k d lt));
+    known = all-drop IsKnownPlaced n runs h.known;
+    apart = all-drop (λ (q : PlacedQuote). All (λ (r : PlacedRun). (q.slot < r.slot) ⊎ (r.slot + r.run_length ≤ q.slot)) (drop n runs)) m quotes
+        (λ k d lt. all-drop (λ (r : PlacedRun). ((get_or quotes k d).slot < r.slot) ⊎ (r.slot + r.run_length ≤ (get_or quotes k d).slot)) n runs (h.apart k d lt));
   }
     where
       sizes : HaveSizes (drop n runs)
-      sizes = all-drop (λ (r : PlacedRun). 0 < r.run.run_length) n runs h.sizes
+      sizes = all-drop (λ (r : PlacedRun). 0 < r.run_length) n runs h.sizes
 
       quote-following : (k : ℕ) (d : PlacedQuote) → k < length (drop m quotes) → at ≤ (get_or quotes (m + k) d).slot
       quote-following zero d lt = let a = length-drop m quotes in subst (λ j. at ≤ (get_or quotes j d).slot) (let q : m ≡ m + 0 = omega arith in q) (quote_at d (omega (arith, lt, a)))

@@ -7,7 +7,7 @@ use Rattle.std.proofs.lemmas.List.{length_push, length-take, length-drop, get_or
 use Rattle.std.proofs.lemmas.List.Elements.{All-push, All-take}
 use Rattle.cmark_slots.specs.MarkedSlots.{AreWhole, EndWithin, SameBefore, last_in}
 use Rattle.cmark_slots.specs.SlotViews.{link_named, text_named}
-use Rattle.cmark_emphasis.specs.Counts.{IsKnown}
+use Rattle.cmark_emphasis.specs.Counts.{IsKnownPlaced}
 use Rattle.cmark_slots.specs.Standing.{AreNamed, AreSound, BeginsBefore, EndInOrder, CanSettle, HaveSizes, IsPlaced}
 use Rattle.cmark_slots.specs.Slots.{PushesText, byte_slots}
 use Rattle.cmark_slots.specs.declared.bracket.Bracket.{Bracket}
@@ -110,7 +110,7 @@ module _ (texts links : ℕ) (before : List Slot) (runs : List PlacedRun) (quote
         runs_are = m.runs_are;
         sizes = m.sizes;
         known = m.known;
-        apart = All-push (λ (p : PlacedQuote). All (λ (r : PlacedRun). (p.slot < r.slot) ⊎ (r.slot + r.run.run_length ≤ p.slot)) runs) quotes q m.apart (λ k d lt. let w = within k d lt in inr (omega (arith, w, at)));
+        apart = All-push (λ (p : PlacedQuote). All (λ (r : PlacedRun). (p.slot < r.slot) ⊎ (r.slot + r.run_length ≤ p.slot)) runs) quotes q m.apart (λ k d lt. let w = within k d lt in inr (omega (arith, w, at)));
         standing_are = λ k d lt. let t = (h.standing_are k d lt).there in placed-quote new runs quotes (get_or standing k d) (m.standing_are k d lt) q (omega (arith, t, at));
         doubled_are = λ k d lt. let t = (h.doubled_are k d lt).there in placed-quote new runs quotes (get_or doubled k d) (m.doubled_are k d lt) q (omega (arith, t, at));
         ordered = m.ordered;
@@ -147,24 +147,24 @@ sound-bytes texts links slots runs quotes standing doubled start (suc size) h =
     append-one (z ∷ xs) x ys = ap (λ l. z ∷ l) (append-one xs x ys)
 
 module _ (texts links : ℕ) (before : List Slot) (runs : List PlacedRun) (quotes : List PlacedQuote) (standing doubled : List Bracket) (h : AreSound texts links before runs quotes standing doubled) where
-  pub sound-run : (start : ℕ) (r : PlacedRun) → 0 < r.run.run_length → IsKnown r.run → r.slot ≡ length before → ((k : ℕ) (d : Slot) → k < length before → (get_or before k d).end ≤ start)
-      → AreSound texts links (before ++ byte_slots start r.run.run_length) (runs ++ (r ∷ [])) quotes standing doubled
+  pub sound-run : (start : ℕ) (r : PlacedRun) → 0 < r.run_length → IsKnownPlaced r → r.slot ≡ length before → ((k : ℕ) (d : Slot) → k < length before → (get_or before k d).end ≤ start)
+      → AreSound texts links (before ++ byte_slots start r.run_length) (runs ++ (r ∷ [])) quotes standing doubled
   sound-run start r some known at ends =
-      let new : List Slot = before ++ byte_slots start r.run.run_length in
-      let m = sound-bytes texts links before runs quotes standing doubled start r.run.run_length h in
+      let new : List Slot = before ++ byte_slots start r.run_length in
+      let m = sound-bytes texts links before runs quotes standing doubled start r.run_length h in
       let within = runs-within before 0 0 runs h.sizes h.runs_are in
-      let mine : take r.run.run_length (drop r.slot new) ≡ byte_slots start r.run.run_length =
-      ap (λ n. take r.run.run_length (drop n new)) at ∙ ap (take r.run.run_length) (drop-append_seam before (byte_slots start r.run.run_length)) ∙ take_all r.run.run_length (byte_slots start r.run.run_length) (let l = length-bytes start r.run.run_length in let q : length (byte_slots start r.run.run_length) ≤ r.run.run_length = omega (arith, l) in q) in
+      let mine : take r.run_length (drop r.slot new) ≡ byte_slots start r.run_length =
+      ap (λ n. take r.run_length (drop n new)) at ∙ ap (take r.run_length) (drop-append_seam before (byte_slots start r.run_length)) ∙ take_all r.run_length (byte_slots start r.run_length) (let l = length-bytes start r.run_length in let q : length (byte_slots start r.run_length) ≤ r.run_length = omega (arith, l) in q) in
       record {
         named = m.named;
         whole = m.whole;
         within = m.within;
         quotes_are = m.quotes_are;
         quotes_order = m.quotes_order;
-        runs_are = have-push new 0 0 (length before) start runs r (omega arith) (omega arith) within h.sizes (λ k d lt. subst (λ (x : Slot). x.end ≤ start) (sym (get_or_append_left before (byte_slots start r.run.run_length) d k lt)) (ends k d lt)) (let q : length before ≤ r.slot = omega (arith, at) in q) mine m.runs_are;
-        sizes = All-push (λ (x : PlacedRun). 0 < x.run.run_length) runs r m.sizes some;
-        known = All-push (λ (x : PlacedRun). IsKnown x.run) runs r m.known known;
-        apart = λ k d lt. All-push (λ (x : PlacedRun). ((get_or quotes k d).slot < x.slot) ⊎ (x.slot + x.run.run_length ≤ (get_or quotes k d).slot)) runs r (m.apart k d lt) (let t = (h.quotes_are k d lt).0 in inl (omega (arith, t, at)));
+        runs_are = have-push new 0 0 (length before) start runs r (omega arith) (omega arith) within h.sizes (λ k d lt. subst (λ (x : Slot). x.end ≤ start) (sym (get_or_append_left before (byte_slots start r.run_length) d k lt)) (ends k d lt)) (let q : length before ≤ r.slot = omega (arith, at) in q) mine m.runs_are;
+        sizes = All-push (λ (x : PlacedRun). 0 < x.run_length) runs r m.sizes some;
+        known = All-push IsKnownPlaced runs r m.known known;
+        apart = λ k d lt. All-push (λ (x : PlacedRun). ((get_or quotes k d).slot < x.slot) ⊎ (x.slot + x.run_length ≤ (get_or quotes k d).slot)) runs r (m.apart k d lt) (let t = (h.quotes_are k d lt).0 in inl (omega (arith, t, at)));
         standing_are = λ k d lt. let t = (h.standing_are k d lt).there in placed-run new runs quotes (get_or standing k d) (m.standing_are k d lt) r (omega (arith, t, at));
         doubled_are = λ k d lt. let t = (h.doubled_are k d lt).there in placed-run new runs quotes (get_or doubled k d) (m.doubled_are k d lt) r (omega (arith, t, at));
         ordered = m.ordered;
@@ -231,12 +231,12 @@ module _ (texts links : ℕ) (slots : List Slot) (runs : List PlacedRun) (quotes
         (subst (λ (y : PlacedQuote). (get_or quotes i d).slot < y.slot) (sym (get_or-take bracket.quotes quotes j d high)) (h.quotes_order i j d less (let q : j < length quotes = omega (arith, lt, a) in q)));
     runs_are = have-kept slots new 0 0 (take bracket.runs runs) le sizes (keeps-before bracket.slot slots new (take bracket.runs runs) same
         (λ k d lt. let a = length-take bracket.runs runs in let low : k < bracket.runs = omega (arith, lt, a) in
-        subst (λ (r : PlacedRun). r.slot + r.run.run_length ≤ bracket.slot) (sym (get_or-take bracket.runs runs k d low)) (p.runs_before k d low)))
+        subst (λ (r : PlacedRun). r.slot + r.run_length ≤ bracket.slot) (sym (get_or-take bracket.runs runs k d low)) (p.runs_before k d low)))
         (have-take slots 0 0 bracket.runs runs h.runs_are);
     sizes = sizes;
-    known = All-take (λ (r : PlacedRun). IsKnown r.run) bracket.runs runs h.known;
-    apart = All-take (λ (q : PlacedQuote). All (λ (r : PlacedRun). (q.slot < r.slot) ⊎ (r.slot + r.run.run_length ≤ q.slot)) (take bracket.runs runs)) bracket.quotes quotes
-        (λ k d lt. All-take (λ (r : PlacedRun). ((get_or quotes k d).slot < r.slot) ⊎ (r.slot + r.run.run_length ≤ (get_or quotes k d).slot)) bracket.runs runs (h.apart k d lt));
+    known = All-take IsKnownPlaced bracket.runs runs h.known;
+    apart = All-take (λ (q : PlacedQuote). All (λ (r : PlacedRun). (q.slot < r.slot) ⊎ (r.slot + r.run_length ≤ q.slot)) (take bracket.runs runs)) bracket.quotes quotes
+        (λ k d lt. All-take (λ (r : PlacedRun). ((get_or quotes k d).slot < r.slot) ⊎ (r.slot + r.run_length ≤ (get_or quotes k d).slot)) bracket.runs runs (h.apart k d lt));
     standing_are = λ k d lt. cut (get_or standing k d) (h.standing_are k d lt) (before k d lt);
     doubled_are = λ k d lt. cut (get_or doubled k d) (h.doubled_are k d lt) (before_too k d lt);
     ordered = h.ordered;
@@ -246,7 +246,7 @@ module _ (texts links : ℕ) (slots : List Slot) (runs : List PlacedRun) (quotes
   }
     where
       sizes : HaveSizes (take bracket.runs runs)
-      sizes = All-take (λ (r : PlacedRun). 0 < r.run.run_length) bracket.runs runs h.sizes
+      sizes = All-take (λ (r : PlacedRun). 0 < r.run_length) bracket.runs runs h.sizes
 
       cut : (b : Bracket) → IsPlaced slots runs quotes b → b.slot < bracket.slot → IsPlaced new (take bracket.runs runs) (take bracket.quotes quotes) b
       cut b q lt =
@@ -266,10 +266,10 @@ module _ (texts links : ℕ) (slots : List Slot) (runs : List PlacedRun) (quotes
         (λ k d lt. let a = length-drop bracket.runs runs in
         subst (λ (r : PlacedRun). bracket.slot + 1 ≤ r.slot) (sym (get_or-drop bracket.runs runs k d))
         (let b = p.runs_after (bracket.runs + k) d (omega arith) (omega (arith, lt, a)) in let q : bracket.slot + 1 ≤ (get_or runs (bracket.runs + k) d).slot = omega (arith, b) in q));
-    sizes = all-drop (λ (r : PlacedRun). 0 < r.run.run_length) bracket.runs runs h.sizes;
-    known = all-drop (λ (r : PlacedRun). IsKnown r.run) bracket.runs runs h.known;
-    apart = all-drop (λ (q : PlacedQuote). All (λ (r : PlacedRun). (q.slot < r.slot) ⊎ (r.slot + r.run.run_length ≤ q.slot)) (drop bracket.runs runs)) bracket.quotes quotes
-        (λ k d lt. all-drop (λ (r : PlacedRun). ((get_or quotes k d).slot < r.slot) ⊎ (r.slot + r.run.run_length ≤ (get_or quotes k d).slot)) bracket.runs runs (h.apart k d lt));
+    sizes = all-drop (λ (r : PlacedRun). 0 < r.run_length) bracket.runs runs h.sizes;
+    known = all-drop IsKnownPlaced bracket.runs runs h.known;
+    apart = all-drop (λ (q : PlacedQuote). All (λ (r : PlacedRun). (q.slot < r.slot) ⊎ (r.slot + r.run_length ≤ q.slot)) (drop bracket.runs runs)) bracket.quotes quotes
+        (λ k d lt. all-drop (λ (r : PlacedRun). ((get_or quotes k d).slot < r.slot) ⊎ (r.slot + r.run_length ≤ (get_or quotes k d).slot)) bracket.runs runs (h.apart k d lt));
   }
 
 -- all quotes and all runs can be settled

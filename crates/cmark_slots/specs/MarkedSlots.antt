@@ -21,20 +21,20 @@ HaveTexts slots placed = All (λ (p : PlacedQuote). (p.slot < length slots) × (
 -- the indices of the slots of their bytes
 abbrev pub places_of : List PlacedRun → List ℕ
 places_of [] = []
-places_of (p ∷ placed) = run_places p.slot p.run.run_length (places_of placed)
+places_of (p ∷ placed) = run_places p.slot p.run_length (places_of placed)
 
 -- the runs as siblings, their bytes counted from an index on
 abbrev pub siblings_from : (at : ℕ) → List PlacedRun → List Sibling
 siblings_from at [] = []
 siblings_from at (p ∷ placed) =
-    Delimiter (record { delimiter = p.run.delimiter; run_length = p.run.run_length; at = at; left = p.run.run_length; opens = p.run.opens; closes = p.run.closes })
-    ∷ siblings_from (at + p.run.run_length) placed
+    Delimiter (record { delimiter = p.delimiter; run_length = p.run_length; at = at; left = p.run_length; opens = p.opens; closes = p.closes })
+    ∷ siblings_from (at + p.run_length) placed
 
 -- each byte of each run is a text of its own, and the runs follow one another, from this slot and from this offset of the leaf's text on
 abbrev pub HaveBytes : List Slot → (from place : ℕ) → List PlacedRun → Type 0
 HaveBytes slots from place [] = Unit {0}
 HaveBytes slots from place (p ∷ placed) =
-    (at : ℕ) × (from ≤ p.slot) × (place ≤ at) × (take p.run.run_length (drop p.slot slots) ≡ byte_slots at p.run.run_length) × HaveBytes slots (p.slot + p.run.run_length) (at + p.run.run_length) placed
+    (at : ℕ) × (from ≤ p.slot) × (place ≤ at) × (take p.run_length (drop p.slot slots) ≡ byte_slots at p.run_length) × HaveBytes slots (p.slot + p.run_length) (at + p.run_length) placed
 
 -- ## Whole texts
 

@@ -104,7 +104,7 @@ AreFree slots brackets inactive_below = (i : ℕ) (d : Bracket) → inactive_bel
 
 -- the number of bytes of delimiter runs
 abbrev pub bytes_of : List PlacedRun → ℕ
-bytes_of placed = sum_by (λ (p : PlacedRun). p.run.run_length) placed
+bytes_of placed = sum_by (λ (p : PlacedRun). p.run_length) placed
 
 -- the end of an element is a slot of the text
 abbrev pub IsEnd : (text : List ℕ) → (at close end : ℕ) → Type 0

@@ -2,7 +2,7 @@
 -- brackets among them.
 use Rattle.std.specs.Prelude.{◌≡◌, ◌⊎◌, ℕ, ◌+◌, ◌<◌, ◌≤◌, List, length, get_or, All, Option, Some, None}
 use Rattle.std.specs.Str.{IsCharBoundary}
-use Rattle.cmark_emphasis.specs.Counts.{IsKnown}
+use Rattle.cmark_emphasis.specs.Counts.{IsKnownPlaced}
 use Rattle.cmark_leaf_text.specs.Reads.{place_of, source_of, text_of}
 use Rattle.cmark_leaf_text.specs.declared.leaf_text.LeafText.{LeafText}
 use Rattle.cmark_slots.specs.MarkedSlots.{AreWhole, EndWithin, HaveBytes, HaveTexts, SameBefore, last_in}
@@ -54,14 +54,14 @@ NamesNoMore old new = (k : ℕ) (d : Slot) → k < length new → IsPlain (get_o
 
 -- no quote is among the bytes of a run
 abbrev pub AreApart : List PlacedRun → List PlacedQuote → Type 0
-AreApart runs quotes = All (λ (q : PlacedQuote). All (λ (r : PlacedRun). (q.slot < r.slot) ⊎ (r.slot + r.run.run_length ≤ q.slot)) runs) quotes
+AreApart runs quotes = All (λ (q : PlacedQuote). All (λ (r : PlacedRun). (q.slot < r.slot) ⊎ (r.slot + r.run_length ≤ q.slot)) runs) quotes
 
 abbrev pub HaveSizes : List PlacedRun → Type 0
-HaveSizes runs = All (λ (r : PlacedRun). 0 < r.run.run_length) runs
+HaveSizes runs = All (λ (r : PlacedRun). 0 < r.run_length) runs
 
 -- their bytes and lengths are those of delimiter runs
 abbrev pub AreKnown : List PlacedRun → Type 0
-AreKnown runs = All (λ (r : PlacedRun). IsKnown r.run) runs
+AreKnown runs = All IsKnownPlaced runs
 
 -- the slot of each quote is before the slot of the next one
 abbrev pub StandInOrder : List PlacedQuote → Type 0
@@ -72,7 +72,7 @@ pub record IsPlaced (slots : List Slot) (runs : List PlacedRun) (quotes : List P
   pub there : bracket.slot < length slots
   pub text : (d : Slot) → (get_or slots bracket.slot d).kind ≡ kind.Text
   pub runs_there : bracket.runs ≤ length runs
-  pub runs_before : (k : ℕ) (d : PlacedRun) → k < bracket.runs → (get_or runs k d).slot + (get_or runs k d).run.run_length ≤ bracket.slot
+  pub runs_before : (k : ℕ) (d : PlacedRun) → k < bracket.runs → (get_or runs k d).slot + (get_or runs k d).run_length ≤ bracket.slot
   pub runs_after : (k : ℕ) (d : PlacedRun) → bracket.runs ≤ k → k < length runs → bracket.slot < (get_or runs k d).slot
   pub quotes_there : bracket.quotes ≤ length quotes
   pub quotes_before : (k : ℕ) (d : PlacedQuote) → k < bracket.quotes → (get_or quotes k d).slot < bracket.slot

@@ -50,15 +50,15 @@ impl Delimiters {
         self.placed.len()
     }
 
-    pub fn push(&mut self, slot: usize, run: Run) -> Result<(), AllocError>
+    pub fn push(&mut self, run: PlacedRun) -> Result<(), AllocError>
         ensures bytes { OnOk result
             (bytes_of self.new.placed.items ≡ bytes_of self.old.placed.items + run.run_length) }
         ensures placed { OnOk result
             (self.new.placed.items
-            ≡ self.old.placed.items ++ (record { slot = slot; run = run } ∷ [])) }
+            ≡ self.old.placed.items ++ (run ∷ [])) }
         ensures examined { self.new.examined ≡ self.old.examined }
     {
-        self.placed.push(PlacedRun { slot, run })?;
+        self.placed.push(run)?;
         Ok(())
     }
 

@@ -1,8 +1,8 @@
-use Rattle.std.proofs.Common.{◌≡◌, ◌||◌, ◌-◌, inl, inr, true, false, not, Bool, true≢false, ℕ, [], ◌∷◌, ◌++◌, length, refl, sym, ap, ◌∙◌, rules, arith}
+use Rattle.std.proofs.Common.{◌≡◌, ◌||◌, ◌-◌, inl, inr, true, false, not, Bool, true≢false, [], ◌∷◌, ◌++◌, length, refl, sym, ap, ◌∙◌, rules, arith}
 use Rattle.std.proofs.lemmas.Bool.{or_left, or_right}
 use Rattle.std.proofs.lemmas.List.{length_push}
 use Rattle.cmark_emphasis.specs.Shown.{shown_flanking}
-use Rattle.cmark_emphasis.specs.declared.run.Run.{Run}
+use Rattle.cmark_emphasis.specs.declared.run.PlacedRun.{PlacedRun}
 use Rattle.cmark_slots.specs.declared.delimiter.Delimiters.{Delimiters}
 use Rattle.cmark_inline.specs.declared.state.InlineState.{InlineState}
 use Rattle.cmark_values.specs.Shown.{shown_options}
@@ -43,7 +43,7 @@ returns-clause-token c = λ l cell is delimiter.
       | else-not-flanking-via-else-not-flanking w ↦ or_left c.flanking_of-flanking.result.opens c.flanking_of-flanking.result.closes (not-no c.flanking_of-flanking.result.opens w.if-not-flanking.false)
     ] in
     let same : length c.flush.new.self.slots.items ≡ c.len-first.result = search rules in
-    let run : Run = record { delimiter = c.args.delimiter; run_length = c.run_end-end.result - c.args.here.at; at = 0; left = c.run_end-end.result - c.args.here.at; opens = c.flanking_of-flanking.result.opens; closes = c.flanking_of-flanking.result.closes } in
+    let run : PlacedRun = record { slot = c.len-first.result; run_length = c.run_end-end.result - c.args.here.at; delimiter = c.args.delimiter; opens = c.flanking_of-flanking.result.opens; closes = c.flanking_of-flanking.result.closes } in
     inr (record {
       run = run;
       token = run-begins-there (shown_options c.args.options) l cell c.args.text.now c.args.here.at c.requires.byte.within c.args.delimiter c.run_end-end.result (c.run_end-end.result - c.args.here.at) c.character_before-before.result c.character_at-after.result
@@ -63,11 +63,11 @@ returns-clause-token c = λ l cell is delimiter.
       pending = refl;
       before = c.flush.new.self.slots.items;
       text_is = c.in_ok-flush.ensures.slots;
+      there = sym same;
       slots = c.in_ok-push_bytes.ensures.bytes;
       placed =
           c.in_ok-push.ensures.placed
-          ∙ ap (λ (d : Delimiters). d.placed.items ++ (record { slot = c.len-first.result; run = run } ∷ [])) (ap (λ (s : InlineState). s.delimiters) c.push_bytes.ensures.others ∙ ap (λ (s : InlineState). s.delimiters) c.in_ok-flush.ensures.others)
-          ∙ ap (λ (n : ℕ). c.args.self.now.delimiters.placed.items ++ (record { slot = n; run = run } ∷ [])) (sym same);
+          ∙ ap (λ (d : Delimiters). d.placed.items ++ (run ∷ [])) (ap (λ (s : InlineState). s.delimiters) c.push_bytes.ensures.others ∙ ap (λ (s : InlineState). s.delimiters) c.in_ok-flush.ensures.others);
       examined = c.push.ensures.examined ∙ ap (λ (d : Delimiters). d.examined) (ap (λ (s : InlineState). s.delimiters) c.push_bytes.ensures.others ∙ ap (λ (s : InlineState). s.delimiters) c.in_ok-flush.ensures.others);
       others = ap (λ (s : InlineState). record s { slots = c.push_bytes.new.self.slots; delimiters = c.push.new.self }) (c.push_bytes.ensures.others ∙ ap (λ (s : InlineState). record s { slots = c.push_bytes.new.self.slots }) c.in_ok-flush.ensures.others);
     })
@@ -107,15 +107,15 @@ returns-clause-reads_on c =
       expansion_left = search rules;
       steps = search rules;
       keeps = (let same : length c.flush.new.self.slots.items ≡ c.len-first.result = search rules in
-          let run : Run = record { delimiter = c.args.delimiter; run_length = c.run_end-end.result - c.args.here.at; at = 0; left = c.run_end-end.result - c.args.here.at; opens = c.flanking_of-flanking.result.opens; closes = c.flanking_of-flanking.result.closes } in
+          let run : PlacedRun = record { slot = c.len-first.result; run_length = c.run_end-end.result - c.args.here.at; delimiter = c.args.delimiter; opens = c.flanking_of-flanking.result.opens; closes = c.flanking_of-flanking.result.closes } in
           let some : (c.flanking_of-flanking.result.opens || c.flanking_of-flanking.result.closes) ≡ true = elim c.else-not-flanking.branch [
             | else-not-flanking-via-then-not-flanking+else-not-flanking-2 w ↦ or_right c.flanking_of-flanking.result.opens c.flanking_of-flanking.result.closes (not-no c.flanking_of-flanking.result.closes w.if-not-flanking-2.false)
             | else-not-flanking-via-else-not-flanking w ↦ or_left c.flanking_of-flanking.result.opens c.flanking_of-flanking.result.closes (not-no c.flanking_of-flanking.result.opens w.if-not-flanking.false)
           ] in
           let known = flanks-known (shown_options c.args.options) c.args.delimiter (c.run_end-end.result - c.args.here.at) c.character_before-before.result c.character_at-after.result (shown_flanking c.flanking_of-flanking.result) c.flanking_of-flanking.ensures some in
-          keeps-run c.args.self.now (record c.push_bytes.new.self { delimiters = c.push.new.self }) c.flush.new.self.slots.items c.args.here.pending c.args.here.at (record { slot = c.len-first.result; run = run }) c.args.text.now
+          keeps-run c.args.self.now (record c.push_bytes.new.self { delimiters = c.push.new.self }) c.flush.new.self.slots.items c.args.here.pending c.args.here.at run c.args.text.now
           c.in_ok-flush.ensures.slots c.in_ok-push_bytes.ensures.bytes
-          (c.in_ok-push.ensures.placed ∙ ap (λ (d : Delimiters). d.placed.items ++ (record { slot = c.len-first.result; run = run } ∷ [])) (ap (λ (s : InlineState). s.delimiters) c.push_bytes.ensures.others ∙ ap (λ (s : InlineState). s.delimiters) c.in_ok-flush.ensures.others))
+          (c.in_ok-push.ensures.placed ∙ ap (λ (d : Delimiters). d.placed.items ++ (run ∷ [])) (ap (λ (s : InlineState). s.delimiters) c.push_bytes.ensures.others ∙ ap (λ (s : InlineState). s.delimiters) c.in_ok-flush.ensures.others))
           (ap (λ (s : InlineState). record s { slots = c.push_bytes.new.self.slots; delimiters = c.push.new.self }) (c.push_bytes.ensures.others ∙ ap (λ (s : InlineState). record s { slots = c.push_bytes.new.self.slots }) c.in_ok-flush.ensures.others))
           (omega (arith, further)) known (sym same) c.in_ok-flush.ensures.stands.slots);
       moves = (let s = c.in_ok-flush.ensures.stands in
