@@ -235,7 +235,8 @@ uint32_t pcm_references(const uint8_t *text, size_t text_len, uint32_t options, 
    - The first answer with the range of a question counts. A question without an answer is no link. Other answers have no effect.
 
    An answer may lead to further questions, so a caller answers the new ones and calls again, until no question is new. Mostly this is one
-   call for a text without questions, and two for others. Returns PCM_MALFORMED if answers are not such records. */
+   call for a text without questions, and two for others. But in a text such as [a][] many times each answer leads to one question, so a
+   caller should limit the number of calls. Returns PCM_MALFORMED if answers are not such records. */
 uint32_t pcm_events_answered(const uint8_t *text, size_t text_len, uint32_t options, const uint8_t *answers, size_t answers_len, uint8_t *room, size_t room_len, size_t *size);
 
 /* Returns the version of the library, to be compared with PCM_VERSION. A library without proofs, which make quick builds, returns

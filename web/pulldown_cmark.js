@@ -356,12 +356,19 @@ var pulldownCmark = ((records) => {
     return new OutOfMemoryError("out of memory");
   };
 
+  /**
+   * How often a text is read for the answers of a callback. In a text such as "[a][]" many times in a row each answer leads to one new question
+   * alone. Reading it until no question is left would take quadratic time.
+   */
+  const MOST_READINGS = 16;
+
   /** The records of the events of a text, whose links without a definition are answered by a function of the caller. */
   const answeredRecords = (instance, data, bits, brokenLink, placed) => {
     const answers = new records.Writer(), asked = new Set();
-    for (;;) {
+    for (let reading = 1; ; reading++) {
       const { records: found, questions } = records.withoutQuestions(instance.records("pcm_events_answered", data, [bits, answers.bytes]));
       let isAnswered = false;
+      if (reading === MOST_READINGS) return found;
       for (const question of questions) {
         const { start, end } = question, range = `${start} ${end}`;
         if (asked.has(range)) continue;
@@ -569,7 +576,8 @@ var pulldownCmark = ((records) => {
     /**
      * The events of a text, each `{ name, value, start, end }`. The range of an event in the text is `text.slice(start, end)`: in indices for
      * a string, and in bytes for bytes. `brokenLink` is a function that is asked once about each link without a definition. It gets
-     * `{ linkType, reference, start, end }` and returns `{ destUrl, title }`, or null.
+     * `{ linkType, reference, start, end }` and returns `{ destUrl, title }`, or null. An answer may lead to new questions, for which the
+     * text is read again, at most 16 times. Questions after that have no answer.
      */
     const events = (text, options = 0, given = {}) => {
       const data = encoded(text), { brokenLink } = settingsOf(given, { brokenLink: null });

@@ -391,6 +391,9 @@ def try_callback(judge, texts, wanted):
         judge(f"{call.__name__} with half a pair", raised(call, "[a]", broken_link=lambda _: ("\ud800", "")), UnicodeEncodeError)
         judge(f"{call.__name__} with a callback that is none", raised(call, "[a]", broken_link=3), TypeError)
         judge(f"{call.__name__} of bytes that are not UTF-8 with a callback", raised(call, b"[a] \xff", broken_link=stop), UnicodeDecodeError)
+    chain = []
+    shown = html("[b][]" * 3000, broken_link=lambda link: (chain.append(link), ("/x", ""))[1])
+    judge("a text in which each answer leads to one question", (2900 < shown.count("<a href"), 3000 < len(chain) < 3050), (True, True))
     for how in ({"safe": True}, {"expansion_limit": 1}):
         judge(f"a callback with {how}", raised(html, "[a]", broken_link=stop, **how), ValueError)
     judge("safe HTML with a limit", raised(html, "a", safe=True, expansion_limit=1), ValueError)

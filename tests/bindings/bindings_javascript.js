@@ -194,6 +194,9 @@ const tryLinks = () => {
   const linkTypes = Array.from(events(text, 0, { brokenLink }), (it) => it.value?.linkType).filter(Boolean);
   judge("link types with a callback", linkTypes, ["ShortcutUnknown", "CollapsedUnknown", "ReferenceUnknown", "ShortcutUnknown"]);
   judge("a callback that answers nothing", html(text, 0, { brokenLink: () => undefined }), html(text));
+  let chain = 0;
+  const shown = html("[b][]".repeat(3000), 0, { brokenLink: () => (chain++, { destUrl: "/x" }) }), count = shown.split("<a href").length - 1;
+  judge("a text in which each answer leads to one question", [2900 < count, 3000 < chain, chain < 3050], [true, true, true]);
   const unasked = () => faults.push("asked about a link that has a definition");
   judge("a callback that is not asked", html("[e]\n\n[e]: /e", 0, { brokenLink: unasked }), '<p><a href="/e">e</a></p>\n');
   const definitions = "é\n\n[b]: /b 'x'\n[A B]: <>\n[b]: /c\n";

@@ -27,6 +27,10 @@ class BrokenLink(NamedTuple):
         return slice(self.start, self.end)
 
 
+# How often a text is read for the answers of a callback. In a text such as "[a][]" many times in a row each answer leads to one new question
+# alone. Reading it until no question is left would take quadratic time.
+_MOST_READINGS = 16
+
 # A callback for links whose label has no definition: it returns a destination and a title, or None for no link.
 BrokenLinkCallback = Callable[[BrokenLink], Optional[Tuple[str, str]]]
 
@@ -95,6 +99,9 @@ def events(text: Text, *, options: int = Options.NONE, broken_link: Optional[Bro
     ``broken_link`` is asked about each link whose label has no definition, at most once for each range of the text. It returns the
     destination and the title of the link, or ``None`` if it is no link. What it raises, this call raises. It may also be asked about a link
     that overlaps another one; if both are answered, the one that ends first is a link.
+
+    An answer may lead to new questions, for which the text is read again, at most 16 times. Questions after that have no answer. Only a text
+    with many adjacent brackets, such as ``[a][][b][]`` and so on, needs more.
     """
     data, bits = bytes_of(text), bits_of(options)
     # Of the 797 Markdown files of one machine, at most 1 in 100 need a second call.
@@ -106,14 +113,17 @@ def events(text: Text, *, options: int = Options.NONE, broken_link: Optional[Bro
 
 
 def _answered(data: bytes, bits: int, room_len: int, broken_link: BrokenLinkCallback, text: Text) -> bytes:
-    """The records of the reading in which each question has the callback's answer. It reads again until there is no new answer."""
+    """The records of the reading in which each question has the callback's answer. It reads again until there is no new answer, or until it has
+    read the text often enough."""
     answers = b""
     asked: Set[Tuple[int, int]] = set()
     moved: Optional[List[int]] = None
-    while True:
+    for reading in range(1, _MOST_READINGS + 1):
         records = answer(library.pcm_events_answered, room_len, data, bits, answers, len(answers))
         questions = [at for at in offsets_of(records) if records[at] == QUESTION]
         added: List[bytes] = []
+        if reading == _MOST_READINGS:
+            break
         for code, start, end, label in (next(records_from(records, at)) for at in questions):
             if (start, end) in asked:
                 continue
@@ -123,8 +133,9 @@ def _answered(data: bytes, bits: int, room_len: int, broken_link: BrokenLinkCall
             if found is not None:
                 added.append(answer_of(start, end, found))
         if not added:
-            return records[: questions[0]] if questions else records
+            break
         answers += b"".join(added)
+    return records[: questions[0]] if questions else records
 
 
 def references(text: Text, *, options: int = Options.NONE) -> List[LinkDef]:

@@ -11,6 +11,10 @@ use crate::record::{kind, part, Record, Records};
 use crate::{BrokenLink, BrokenLinkCallback, Error, LinkType};
 use std::collections::HashSet;
 
+/// How often a text is read for the answers of a callback. In a text such as `[a][]` many times in a row each answer leads to one new
+/// question alone. Reading it until no question is left would take quadratic time.
+const MOST_READINGS: usize = 16;
+
 /// The answers of a callback so far.
 #[derive(Debug, Default)]
 pub(crate) struct Answers {
@@ -21,19 +25,22 @@ pub(crate) struct Answers {
 }
 
 impl Answers {
-    /// Reads a text, and asks the callback until no answer is new. After an error the answers so far are kept.
+    /// Reads a text, and asks the callback until no answer is new, or until the text was read often enough. After an error the answers so far
+    /// are kept.
     pub fn read<'i, F: BrokenLinkCallback<'i>>(
         &mut self,
         text: &'i str,
         options: u32,
         callback: &mut F,
     ) -> Result<Decoder<'i>, Error> {
+        let mut reading = 1;
         loop {
             let records = native::events_answered(text, options, &self.records)?;
             let end = end_of_events(&records)?;
-            if !self.ask(text, &records[end..], callback)? {
+            if reading == MOST_READINGS || !self.ask(text, &records[end..], callback)? {
                 return Ok(Decoder::new(text, records, end));
             }
+            reading += 1;
         }
     }
 
@@ -232,6 +239,22 @@ mod tests {
         // See `Parser::new_with_broken_link_callback` for the further questions.
         assert!(further < answered / 100, "{further} of {answered}");
         assert!(answered > 2000);
+    }
+
+    #[test]
+    fn a_text_in_which_each_answer_leads_to_one_question_is_read_a_few_times() {
+        let mut asked = 0;
+        let mut callback = |_: BrokenLink<'_>| {
+            asked += 1;
+            Some(("/x".into(), "".into()))
+        };
+        let text = "[b][]".repeat(3000);
+        let parser =
+            Parser::new_with_broken_link_callback(&text, Options::empty(), Some(&mut callback));
+        let mut out = String::new();
+        html::push_html(&mut out, parser);
+        let links = out.matches("<a href").count();
+        assert!(2900 < links && asked < 3050, "{links} {asked}");
     }
 
     #[test]

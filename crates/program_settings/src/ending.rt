@@ -34,7 +34,9 @@ pub fn finish<H: Eprint, W: Write>(
             Err(fault) => fault,
         },
         Err(Stop::BadLine) => {
-            let _ = eprintln!(host; "{name}: bad command line; the text is read from standard input, and {name} --help lists the flags");
+            let _ = eprintln!(host;
+                "{name}: bad command line; the text is read from standard input, and {name} --help lists the flags"
+            );
             return ExitCode::from(BAD_LINE_STATUS);
         }
         Err(Stop::Fault(fault)) => fault,
