@@ -13,14 +13,10 @@ use std::test::Fail;
 fn placed(delimiter: u8, slot: usize, run_length: usize, opens: bool) -> PlacedRun {
     PlacedRun {
         slot,
-        run: Run {
-            delimiter,
-            run_length,
-            at: slot,
-            left: run_length,
-            opens,
-            closes: !opens,
-        },
+        run_length,
+        delimiter,
+        opens,
+        closes: !opens,
     }
 }
 
