@@ -1,6 +1,6 @@
 -- Sets of ASCII bytes, in which sixteen lanes are looked up at once.
 use borrow.Rule.Slice.PartMut.{put_mid, post_of}
-use Rattle.std.proofs.Common.{◌≡◌, ℕ, zero, suc, ◌+◌, ◌-◌, ◌*◌, ◌/◌, ◌%◌, ◌^◌, ◌<◌, ◌≤◌, Bool, true, false, not, ◌==◌, ◌&&◌, nat_lt, if◌then◌else◌, pow_pos, cond, eqb, List, [], ◌∷◌, ◌++◌, length, min, get_or, map, replicate, drop, take, append_assoc, drop-drop, take-append-drop, length-append, length-drop, refl, sym, ap, subst, ◌∙◌, arith, w8, bit_and, Fits, inl, inr, Option, Some, None}
+use Rattle.std.proofs.Common.{lit<, ◌≡◌, ℕ, zero, suc, ◌+◌, ◌-◌, ◌*◌, ◌/◌, ◌%◌, ◌^◌, ◌<◌, ◌≤◌, Bool, true, false, not, ◌==◌, ◌&&◌, nat_lt, if◌then◌else◌, pow_pos, cond, eqb, List, [], ◌∷◌, ◌++◌, length, min, get_or, map, replicate, drop, take, append_assoc, drop-drop, take-append-drop, length-append, length-drop, refl, sym, ap, subst, ◌∙◌, arith, w8, bit_and, Fits, inl, inr, Option, Some, None}
 use Rattle.std.specs.Int.{bit_at}
 use Rattle.std.specs.List.{position_or_len}
 use Rattle.std.specs.Simd.Lanes.{zip2, mask_l, top, Each1}
@@ -290,3 +290,10 @@ no-place p bs at is past k low high here = both_ways (p (get_or bs k 0)) (fails_
 pub first-same : (p q : ℕ → Bool) (bs : List ℕ) (found : Option ℕ) → ((b : ℕ) → b < 256 → p b ≡ q b) → ((k : ℕ) → get_or bs k 0 < 256) → IsFirstByte p bs found → IsFirstByte q bs found
 first-same p q bs found agree bytes =
     IsFirst-agree (Passes p bs) (Passes q bs) 0 (length bs) (λ k below here. sym (agree (get_or bs k 0) (bytes k)) ∙ here) (λ k below here. agree (get_or bs k 0) (bytes k) ∙ here) found
+
+-- a byte that is looked up in the first bytes of a list is a byte of the list, or 0
+pub small-before : (bs : List ℕ) (n k : ℕ) → ((j : ℕ) → get_or bs j 0 < 256) → get_or (take n bs) k 0 < 256
+small-before bs zero k small = lit< tt
+small-before [] (suc n) k small = lit< tt
+small-before (b ∷ bs) (suc n) zero small = small 0
+small-before (b ∷ bs) (suc n) (suc k) small = small-before bs n k (λ j. small (suc j))

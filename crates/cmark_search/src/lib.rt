@@ -4,5 +4,6 @@
 mod search;
 
 pub use search::{
-    AsciiSet, find_backtick, find_escape, find_first, find_first_within, find_line_end, find_pipe,
+    AsciiSet, find_backtick, find_escape, find_first, find_first_within, find_line_end,
+    find_line_end_within, find_pipe,
 };

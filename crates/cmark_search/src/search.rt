@@ -226,11 +226,19 @@ fn find<S: LaneSet>(set: &S, bytes: &[u8]) -> usize
     }
     let last = len - 16;
     let mut at = 0;
-    while at < last {
+    while at + 16 < last {
         if let Some(passed) = first_from(set, bytes, at) {
             return at + passed;
         }
-        at += 16;
+        if let Some(passed) = first_from(set, bytes, at + 16) {
+            return at + 16 + passed;
+        }
+        at += 32;
+    }
+    if at < last {
+        if let Some(passed) = first_from(set, bytes, at) {
+            return at + passed;
+        }
     }
     last + bytes_before(set, bytes, last)
 }
@@ -347,6 +355,15 @@ pub fn find_line_end(bytes: &[u8]) -> Option<usize>
     ensures { IsFirstByte (is_byte2 10 13) bytes.now result }
 {
     find_first(LINE_ENDS, bytes)
+}
+
+/// Like `find_line_end`, for the bytes before `to`. A step may load bytes after `to`; they do not count.
+#[inline(always)]
+pub fn find_line_end_within(bytes: &[u8], to: usize) -> Option<usize>
+    requires { to ≤ length bytes.now }
+    ensures { IsFirstByte (is_byte2 10 13) (take to bytes.now) result }
+{
+    find_first_within(LINE_ENDS, bytes, to)
 }
 
 /// The offset of the first ampersand or backslash, with which an entity or an escape begins.
