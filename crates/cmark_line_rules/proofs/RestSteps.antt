@@ -1,12 +1,14 @@
 -- The places of a line's rest, in order, at character boundaries.
-use Rattle.std.proofs.Common.{◌≡◌, ℕ, suc, ◌+◌, ◌≤◌, Bool, true, false, ◌==◌, List, [], ◌∷◌, length, refl, sym, ap, ◌∙◌, subst, arith}
+use Rattle.std.proofs.Common.{◌≡◌, ℕ, suc, ◌+◌, ◌≤◌, Bool, true, false, ◌==◌, List, [], ◌∷◌, length, drop, drop-drop, refl, sym, ap, ◌∙◌, subst, arith}
 use Rattle.std.specs.Prelude.{if◌then◌else◌}
 use Rattle.std.specs.Str.{IsCharBoundary}
 use Rattle.cmark_grammar.specs.Columns.{Column, expand, indent, without_indent, bytes_of}
 use Rattle.cmark_grammar.specs.Rows.{Row, without, indent_of, begin_of, start_of}
 use Rattle.cmark_block_model.proofs.RowPlaces.{Runs, Runs-le, drop-Runs, expand-Runs}
 use Rattle.cmark_block_model.proofs.RowEdges.{GoodRow, IsAsciiColumn, front-less, indent-front, without-good}
-use Rattle.cmark_scan_lines.specs.LineStart.{columns_taken}
+use Rattle.cmark_scan_lines.proofs.PlaceSteps.{indent-drop}
+use Rattle.cmark_scan_lines.specs.LineStart.{columns_taken, row_from}
+use Rattle.cmark_scan_lines.specs.declared.line_start.LineStart.{LineStart}
 use Rattle.cmark_line_rules.specs.Rests.{row_of, IsIn}
 use Rattle.cmark_line_rules.specs.declared.line_rest.LineRest.{LineRest}
 
@@ -60,3 +62,16 @@ in-following text n rest moved is le h =
     in-moved text rest moved (without n (row_of rest)) is refl
     (without-good (IsCharBoundary text) n (row_of rest) h.good (front-less IsAsciiColumn n (indent (row_of rest).columns) (row_of rest).columns le (indent-front (row_of rest).columns)))
     h
+
+-- the blanks of a line may be passed in two steps
+pub without-rest : (r : Row) (n : ℕ) → n ≤ indent_of r → without (indent_of (without n r)) (without n r) ≡ without (indent_of r) r
+without-rest r n le =
+    let d = indent-drop n r.columns le in
+    ap (λ cs. record r { columns = cs }) (drop-drop (indent (drop n r.columns)) n r.columns ∙ ap (λ k. drop k r.columns) (let s : n + indent (drop n r.columns) ≡ indent r.columns = omega (arith, d) in s))
+
+-- the line after some of its blanks, and then after all others, is the line after its blanks
+pub passed-twice : (start line_end count : ℕ) (front middle last : LineStart) → count ≤ indent_of (row_from start line_end front)
+    → row_from start line_end middle ≡ without count (row_from start line_end front)
+    → row_from start line_end last ≡ without (indent_of (row_from start line_end middle)) (row_from start line_end middle)
+    → row_from start line_end last ≡ without (indent_of (row_from start line_end front)) (row_from start line_end front)
+passed-twice start line_end count front middle last le some all = all ∙ ap (λ r. without (indent_of r) r) some ∙ without-rest (row_from start line_end front) count le

@@ -155,20 +155,34 @@ impl<'a> LineRest<'a> {
         ahead.remaining_bytes()
     }
 
-    /// The words, if the line is not blank: `is_blank` and `words` in one, with a single look at the spaces and tabs at the beginning.
+    /// The indent in columns, at most 4, and the words, if the line is not blank. The spaces and tabs at the beginning are passed once.
     #[inline(always)]
-    pub(crate) fn words_unless_blank(&self) -> Option<&'a [u8]>
+    pub(crate) fn indent_and_words(&self) -> Option<(usize, &'a [u8])>
         ensures blank { result ≡ None → is_blank_line (row_of self.now) ≡ true }
-        ensures words { IfSome result
-            (λ words. (is_blank_line (row_of self.now) ≡ false)
-            × (words.now ≡ words_of (row_of self.now))) }
+        ensures some { IfSome result (λ found. is_blank_line (row_of self.now) ≡ false) }
+        ensures indent { IfSome result (λ found. found.0 ≡ min 4 (indent_of (row_of self.now))) }
+        ensures words { IfSome result (λ found. found.1.now ≡ words_of (row_of self.now)) }
     {
         let mut following = self.front;
+        let indent = following.scan_space_upto(4);
         following.scan_all_space();
         if following.is_at_eol() {
             return None;
         }
-        Some(following.remaining_bytes())
+        Some((indent, following.remaining_bytes()))
+    }
+
+    /// The words, if the line is not indented: then they are all that is left of it, and no blank has to be passed.
+    #[inline(always)]
+    pub(crate) fn words_without_indent(&self) -> Option<&'a [u8]>
+        ensures indented { result ≡ None → 0 < indent_of (row_of self.now) }
+        ensures words { IfSome result
+            (λ words. (indent_of (row_of self.now) ≡ 0) × (words.now ≡ words_of (row_of self.now))) }
+    {
+        if self.indent_upto(1) > 0 {
+            return None;
+        }
+        Some(self.bytes())
     }
 
     /// Whether the words begin with an ASCII letter, as most lines of prose do. Such a line neither interrupts a paragraph nor underlines

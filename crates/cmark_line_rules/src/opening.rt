@@ -70,10 +70,9 @@ pub fn what_opens<'a>(rest: LineRest<'a>, options: Options) -> Opening<'a>
     ensures info_placed { (text : List ℕ) → IsIn text rest.entry
         → InfoIsIn text result (row_of rest.entry) }
 {
-    let Some(words) = rest.words_unless_blank() else {
+    let Some((indent, words)) = rest.indent_and_words() else {
         return Opening::Blank;
     };
-    let indent = rest.indent_upto(4);
     if indent == 4 {
         return Opening::IndentedCode;
     }
@@ -204,7 +203,10 @@ pub fn begins_with_text(rest: LineRest<'_>) -> bool
         ((indent_of (row_of rest.entry) == 0) && first_is is_letter
         (words_of (row_of rest.entry))) }
 {
-    rest.indent_upto(1) == 0 && rest.begins_with_letter()
+    match rest.words_without_indent() {
+        Some(words) => begins_with_letter(words),
+        None => false,
+    }
 }
 
 /// Whether a line begins with an opening bracket, without indent, and footnotes are off. Such a line begins a link reference definition, a
@@ -217,5 +219,8 @@ pub fn begins_with_label(rest: LineRest<'_>, options: Options) -> bool
         (begins_with left_bracket (words_of (row_of rest.entry)) && not
         (are_read (footnotes_in (shown_options options))))) }
 {
-    rest.indent_upto(1) == 0 && begins_with_bracket(rest.words()) && !reads_footnotes(options)
+    match rest.words_without_indent() {
+        Some(words) => begins_with_bracket(words) && !reads_footnotes(options),
+        None => false,
+    }
 }

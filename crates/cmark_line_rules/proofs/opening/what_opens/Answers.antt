@@ -14,39 +14,39 @@ use Rattle.cmark_line_rules.proofs.OpeningRows.{opens-blank, opens-code, opens-s
 use Rattle.cmark_line_rules.proofs.opening.what_opens.Goals as goal
 
 pub returns-in_default-clause-opens : goal.returns-in_default-clause-opens
-returns-in_default-clause-opens c ahead = opens-blank (shown_options c.args.options) (row_of c.args.rest) ahead (whole c.args.rest) (c.words_unless_blank.ensures.blank c.in_default.is)
+returns-in_default-clause-opens c ahead = opens-blank (shown_options c.args.options) (row_of c.args.rest) ahead (whole c.args.rest) (c.indent_and_words.ensures.blank c.in_default.is)
 
 pub returns-then-indent-eq4-clause-opens : goal.returns-then-indent-eq4-clause-opens
 returns-then-indent-eq4-clause-opens c ahead =
-    let count = c.indent_upto-indent.ensures in
+    let count = c.in-Some.ensures.indent in
     let four = c.if-indent-eq4.true in
-    opens-code (shown_options c.args.options) (row_of c.args.rest) ahead (whole c.args.rest) c.in-Some.ensures.words.0 (omega (arith, count, four))
+    opens-code (shown_options c.args.options) (row_of c.args.rest) ahead (whole c.args.rest) c.in-Some.ensures.some (omega (arith, count, four))
 
 pub returns-then-begins_with_letter-clause-opens : goal.returns-then-begins_with_letter-clause-opens
 returns-then-begins_with_letter-clause-opens c ahead =
-    let count = c.indent_upto-indent.ensures in
+    let count = c.in-Some.ensures.indent in
     let other = c.if-indent-eq4.false in
     let options = shown_options c.args.options in
     let row = row_of c.args.rest in
-    let letter = ap (first_is is_letter) (sym c.in-Some.ensures.words.1) ∙ sym c.begins_with_letter.ensures ∙ c.if-begins_with_letter.true in
-    opens-shallow options row ahead (whole c.args.rest) c.in-Some.ensures.words.0 (omega (arith, count, other))
+    let letter = ap (first_is is_letter) (sym c.in-Some.ensures.words) ∙ sym c.begins_with_letter.ensures ∙ c.if-begins_with_letter.true in
+    opens-shallow options row ahead (whole c.args.rest) c.in-Some.ensures.some (omega (arith, count, other))
     ∙ ap (λ o. or_else (metadata_begun (metadata_kind options row) ahead) (or_else (nests_if o) (leaf_of options row ahead))) (letter-container options row letter)
     ∙ ap (or_else (metadata_begun (metadata_kind options row) ahead)) (letter-leaf options row ahead letter)
 
 pub returns-in-Some-container_start-clause-opens : goal.returns-in-Some-container_start-clause-opens
 returns-in-Some-container_start-clause-opens c ahead =
-    let count = c.indent_upto-indent.ensures in
+    let count = c.in-Some.ensures.indent in
     let other = c.if-indent-eq4.false in
     let row = row_of c.args.rest in
-    opens-shallow (shown_options c.args.options) row ahead (whole c.args.rest) c.in-Some.ensures.words.0 (omega (arith, count, other))
+    opens-shallow (shown_options c.args.options) row ahead (whole c.args.rest) c.in-Some.ensures.some (omega (arith, count, other))
     ∙ ap (λ o. or_else (metadata_begun (metadata_kind (shown_options c.args.options) row) ahead) (or_else (nests_if o) (leaf_of (shown_options c.args.options) row ahead))) (sym (c.in-Some-container_start.ensures.container))
 
 begun : (c : goal.In-Some-container_start) → opens (shown_options c.args.options) (row_of c.args.rest) [] ≡ Nests (shown_start (shown_options c.args.options) (row_of c.args.rest) c.in-Some-container_start.start)
 begun c =
-    let count = c.indent_upto-indent.ensures in
+    let count = c.in-Some.ensures.indent in
     let other = c.if-indent-eq4.false in
     let row = row_of c.args.rest in
-    opens-shallow (shown_options c.args.options) row [] (whole c.args.rest) c.in-Some.ensures.words.0 (omega (arith, count, other))
+    opens-shallow (shown_options c.args.options) row [] (whole c.args.rest) c.in-Some.ensures.some (omega (arith, count, other))
     ∙ none_ahead (metadata_kind (shown_options c.args.options) row) _
     ∙ ap (λ o. or_else (nests_if o) (leaf_of (shown_options c.args.options) row [])) (sym (c.in-Some-container_start.ensures.container))
 
@@ -58,13 +58,13 @@ returns-in-Some-container_start-clause-shorter c = begun-shorter (shown_options 
 
 pub returns-clause-opens : goal.returns-clause-opens
 returns-clause-opens c ahead =
-    let count = c.indent_upto-indent.ensures in
+    let count = c.in-Some.ensures.indent in
     let other = c.if-indent-eq4.false in
     let row = row_of c.args.rest in
     let le : indent_of row ≤ 3 = omega (arith, count, other) in
-    opens-shallow (shown_options c.args.options) row ahead (whole c.args.rest) c.in-Some.ensures.words.0 le
+    opens-shallow (shown_options c.args.options) row ahead (whole c.args.rest) c.in-Some.ensures.some le
     ∙ ap (λ o. or_else (metadata_begun (metadata_kind (shown_options c.args.options) row) ahead) (or_else (nests_if o) (leaf_of (shown_options c.args.options) row ahead))) (sym (c.in_default-container_start.ensures.container))
-    ∙ ap (or_else (metadata_begun (metadata_kind (shown_options c.args.options) row) ahead)) (c.leaf_opening.ensures.opens row ahead (sym c.in-Some.ensures.words.1) (omega (arith, count, le)))
+    ∙ ap (or_else (metadata_begun (metadata_kind (shown_options c.args.options) row) ahead)) (c.leaf_opening.ensures.opens row ahead (sym c.in-Some.ensures.words) (omega (arith, count, le)))
 
 pub returns-clause-placed : goal.returns-clause-placed
 returns-clause-placed c text placed = c.leaf_opening.ensures.placed text
