@@ -5,6 +5,7 @@ mod EmailSteps
 pub mod Endings
 pub mod EntitySteps
 pub mod FootnoteSteps
+mod Labels
 pub mod Links
 pub mod Lists
 pub mod PartSteps

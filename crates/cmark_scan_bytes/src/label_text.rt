@@ -1,6 +1,7 @@
 //! The bytes that are the text of a label (CommonMark 6.3).
 
 ghost use Rattle.std.specs.Prelude.{◌≡◌, ◌||◌, not, nat_lt, nat_le, count_by};
+ghost use Rattle.std.specs.List.{list_all};
 ghost use Rattle.std.specs.Char.{is_ascii_whitespace};
 ghost use Rattle.cmark_grammar.specs.LinkDefinitions.{characters, is_label};
 
@@ -19,19 +20,30 @@ fn characters(bytes: &[u8]) -> usize
     bytes.iter().filter(|byte| begins_character(**byte)).count()
 }
 
+/// Whether all bytes are white space.
+fn is_white(bytes: &[u8]) -> bool
+    ensures { result ≡ list_all is_ascii_whitespace bytes.now }
+{
+    bytes.iter().all(|byte| byte.is_ascii_whitespace())
+}
+
 /// Whether some byte is not white space.
 fn has_words(bytes: &[u8]) -> bool
     ensures { result ≡ nat_lt 0 (count_by (λ b. not (is_ascii_whitespace b)) bytes.now) }
 {
-    0 < bytes
-        .iter()
-        .filter(|byte| !byte.is_ascii_whitespace())
-        .count()
+    !is_white(bytes)
+}
+
+/// Whether these bytes have at most 999 characters. Most labels have fewer bytes than that, so their characters need not be counted.
+fn is_short(bytes: &[u8]) -> bool
+    ensures { result ≡ nat_le (characters bytes.now) 999 }
+{
+    bytes.len() <= 999 || characters(bytes) <= 999
 }
 
 /// Whether these bytes are the text of a label: 1 to 999 characters, not only white space.
 pub fn is_label(bytes: &[u8]) -> bool
     ensures { result ≡ is_label bytes.now }
 {
-    characters(bytes) <= 999 && has_words(bytes)
+    is_short(bytes) && has_words(bytes)
 }
