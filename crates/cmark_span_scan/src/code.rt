@@ -9,7 +9,7 @@ ghost use Rattle.cmark_values.specs.Lending.{IsBorrowed, IsPartIfBorrowed, IsPar
 ghost use Rattle.cmark_span_scan.specs.Backticks.{runs_in};
 ghost use Rattle.cmark_span_scan.specs.Shown.{shown_code, IsCodeAt, ClosesFirst};
 
-use crate::line_end::{has_line_ending, with_line_ends};
+use crate::line_end::{has_line_ending_within, with_line_ends};
 use cmark_search::find_backtick;
 use cmark_values::CowStr;
 use std::alloc::{AllocError, Global};
@@ -115,16 +115,19 @@ fn without_padding(text: &str) -> &str
     }
 }
 
-/// The text of a code span with this content, which has no line ending (CommonMark 6.1): a part of the content.
+/// The text of a code span whose content is the first `len` bytes of `ahead`, if the content has no line ending (CommonMark 6.1): a part of
+/// the content. `len` has to be a character boundary.
 #[inline(always)]
-pub fn code_part<'t>(content: &'t str) -> Option<&'t str>
-    ensures value { IfSome result (λ made. made.now ≡ code_text content.entry.now) }
-    ensures part { IfSome result (λ made. IsPartOf content.entry.now made.now) }
-    ensures none { result ≡ None → takes_lines content.entry.now ≡ true }
+pub fn code_part<'t>(ahead: &'t str, len: usize) -> Option<&'t str>
+    requires { IsCharBoundary ahead.now len }
+    ensures value { IfSome result (λ made. made.now ≡ code_text (take len ahead.entry.now)) }
+    ensures part { IfSome result (λ made. IsPartOf (take len ahead.entry.now) made.now) }
+    ensures none { result ≡ None → takes_lines (take len ahead.entry.now) ≡ true }
 {
-    if has_line_ending(content) {
+    if has_line_ending_within(ahead, len) {
         return None;
     }
+    let content = &ahead[..len];
     Some(without_padding(content))
 }
 
@@ -136,7 +139,7 @@ pub fn code_text<'t>(alloc: Global, content: &'t str) -> Result<CowStr<'t>, Allo
     ensures part { IfOk result (IsPartIfBorrowed content.entry.now) }
     ensures succeeds { takes_lines content.entry.now ≡ false → IsOk result }
 {
-    if let Some(part) = code_part(content) {
+    if let Some(part) = code_part(content, content.len()) {
         return Ok(CowStr::Borrowed(part));
     }
     let text = with_line_ends(alloc, content, " ")?;

@@ -1,12 +1,12 @@
 //! Line endings in a text: a line feed, a carriage return, and both in this order.
 
-ghost use Rattle.std.specs.Prelude.{◌≡◌, string_bytes, IfOk, MatchOption};
+ghost use Rattle.std.specs.Prelude.{◌≡◌, ◌≤◌, length, take, string_bytes, IfOk, MatchOption};
 ghost use Rattle.cmark_grammar.specs.CodeSpans.{with_line_ends};
 ghost use Rattle.cmark_grammar.specs.InlineHtml.{takes_lines};
 ghost use Rattle.cmark_span_scan.specs.Ends.{HasNoEnd, EndsLine};
 
 use cmark_scan_bytes::bytes::ending_len;
-use cmark_search::find_line_end;
+use cmark_search::{find_line_end, find_line_end_within};
 use std::alloc::{AllocError, Global};
 
 /// Whether the text has a line ending.
@@ -14,6 +14,15 @@ pub fn has_line_ending(text: &str) -> bool
     ensures { result ≡ takes_lines text.now }
 {
     find_line_end(text.as_bytes()).is_some()
+}
+
+/// Whether the first `len` bytes of the text have a line ending. The search may read bytes after them, and so takes fewer steps.
+#[inline(always)]
+pub(crate) fn has_line_ending_within(text: &str, len: usize) -> bool
+    requires { len ≤ length text.now }
+    ensures { result ≡ takes_lines (take len text.now) }
+{
+    find_line_end_within(text.as_bytes(), len).is_some()
 }
 
 /// The offsets of a line ending.
