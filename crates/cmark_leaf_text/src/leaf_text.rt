@@ -167,6 +167,34 @@ impl<'a> LeafText<'a> {
             → place_of self.now (to - 1) + 1 ≢ place_of self.now from + (to - from) }
     {
         let range = self.range(from, to);
+        self.slice_ahead_at(&range, from, to)
+    }
+
+    /// Like `slice_ahead`, with the range of these bytes in the source, which `range` returns.
+    #[inline(always)]
+    pub fn slice_ahead_at(
+        &self,
+        range: &Range<usize>,
+        from: usize,
+        to: usize,
+    ) -> Option<&'a str>
+        requires read { IsRead self.now }
+        requires part { IsPart (text_of self.now) from to }
+        requires start { range.now.start ≡ place_of self.now from }
+        requires end { range.now.end ≡ place_of self.now (to - 1) + 1 }
+        requires inside { IsPart (source_of self.now) range.now.start range.now.end }
+        ensures ahead { IfSome result
+            (λ ahead. ahead.now ≡ drop (place_of self.now from) (source_of self.now)) }
+        ensures source { IfSome result
+            (λ ahead. take (to - from) ahead.now
+            ≡ slice (source_of self.now) (place_of self.now from)
+            (place_of self.now (to - 1) + 1)) }
+        ensures text { IfSome result
+            (λ ahead. take (to - from) ahead.now ≡ slice (text_of self.now) from to) }
+        ensures ends { IfSome result (λ ahead. IsCharBoundary ahead.now (to - from)) }
+        ensures apart { result ≡ None
+            → place_of self.now (to - 1) + 1 ≢ place_of self.now from + (to - from) }
+    {
         if range.end - range.start == to - from {
             Some(self.source_ahead(range.start))
         } else {

@@ -33,6 +33,7 @@ use cmark_slots::text::before_backticks;
 use cmark_span_scan::code_part;
 use cmark_text::{Excerpt, PlainTag, Short, Step, TagEnd};
 use std::alloc::AllocError;
+use std::ops::Range;
 
 impl<'a> LeafEvents<'a> {
     /// The next event of the resolved leaf, with its range in the source, if it owns nothing. An event of another kind is reported as
@@ -175,19 +176,19 @@ fn single_short<'a>(leaf: &LeafText<'a>, slot: Slot) -> Step<'a>
         (events_of leaf.now texts links (slot ∷ following) opened)
         (events_of leaf.now texts links following opened) }
 {
-    match part_of(leaf, slot) {
-        Some(short) => {
-            let range = leaf.range(slot.start, slot.end);
-            Step::Short(short, range.start, range.end)
-        }
+    let range = leaf.range(slot.start, slot.end);
+    match part_of(leaf, slot, &range) {
+        Some(short) => Step::Short(short, range.start, range.end),
         None => Step::Long,
     }
 }
 
-// The event of a slot that is not an element, if its text is a part of the source.
+// The event of a slot that is not an element, if its text is a part of the source. `range` is the slot's range in the source.
 #[inline(always)]
-fn part_of<'a>(leaf: &LeafText<'a>, slot: Slot) -> Option<Short<'a>>
+fn part_of<'a>(leaf: &LeafText<'a>, slot: Slot, range: &Range<usize>) -> Option<Short<'a>>
     requires read { IsRead leaf.now }
+    requires start { range.now.start ≡ place_of leaf.now slot.start }
+    requires end { range.now.end ≡ place_of leaf.now (slot.end - 1) + 1 }
     requires slot { IsSlot (text_of leaf.now) (length (text_of leaf.now)) slot }
     requires alone { IsAlone slot.kind }
     ensures stands { IfSome result (StandsFor leaf.now slot) }
@@ -199,7 +200,7 @@ fn part_of<'a>(leaf: &LeafText<'a>, slot: Slot) -> Option<Short<'a>>
 {
     match slot.kind {
         SlotKind::Text => {
-            let Some(ahead) = leaf.slice_ahead(slot.start, slot.end) else {
+            let Some(ahead) = leaf.slice_ahead_at(range, slot.start, slot.end) else {
                 return None;
             };
             Some(Short::Text(Excerpt::new(ahead, slot.end - slot.start)))
@@ -242,8 +243,8 @@ fn code_in<'a>(leaf: &LeafText<'a>, from: usize, end: usize) -> Option<&'a str>
     if from >= to {
         return None;
     }
-    match leaf.slice(from, to) {
-        Some(content) => code_part(content),
+    match leaf.slice_ahead(from, to) {
+        Some(ahead) => code_part(ahead, to - from),
         None => None,
     }
 }
