@@ -72,6 +72,8 @@ fn is_used_up(rest: LineRest<'_>) -> bool
 }
 
 /// The number of these containers up to the innermost one that does not keep every empty line, which is among the first `strict` ones.
+/// A container that the search passes has a prefix or a marker in the line that began the container that was closed. So all searches together
+/// take time in proportion to the text.
 fn strict_count(outer: &Vec<OpenContainer>, strict: usize) -> usize
     requires { KeepEmptyFrom strict outer.now.items }
     ensures { KeepEmptyFrom result outer.now.items }
