@@ -7,6 +7,7 @@ pub mod CountSteps
 pub mod CutSteps
 pub mod DefinitionRows
 pub mod DefinitionSteps
+pub mod EmptySteps
 pub mod FeedSteps
 pub mod FlushRows
 pub mod FootnoteSteps

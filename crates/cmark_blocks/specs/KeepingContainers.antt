@@ -1,5 +1,5 @@
 -- The number of containers that keep a line.
-use Rattle.std.specs.Prelude.{◌≡◌, ℕ, Bool, List, [], take, drop}
+use Rattle.std.specs.Prelude.{◌≡◌, ◌≤◌, ℕ, Bool, false, List, [], take, drop}
 use Rattle.cmark_grammar.specs.Answers.{Lookup}
 use Rattle.cmark_grammar.specs.Options.{Options}
 use Rattle.cmark_grammar.specs.Rows.{without}
@@ -13,6 +13,13 @@ use Rattle.cmark_blocks.specs.Runs.{Runs}
 -- this is the rest of the line after some of its columns, held by a container without a prefix or not
 abbrev pub IsAfter : LineRest → LineRest → Type 0
 IsAfter line rest = (n : ℕ) × ((held : Bool) × (record (without n (row_of line)) { held = held } ≡ row_of rest))
+
+module _ {E : Type 0} where
+  -- the containers from this index on keep an empty line, and nothing is left of this line
+  pub record KeepsEmptyRest (pass : Pass E) (index : ℕ) (rest : LineRest) : Type 0 where
+    pub strict : pass.strict ≤ index
+    pub bare : pass.bare ≡ false
+    pub columns : (row_of rest).columns ≡ []
 
 module _ {E : Type 0} (replacement : E → Lookup) where
   -- this many containers keep the line, and this is the rest of it

@@ -1,6 +1,7 @@
 pub mod Ahead
 pub mod Brackets
 pub mod Cuts
+pub mod EmptyLines
 pub mod Entered
 pub mod FirstPass
 pub mod Footnotes

@@ -1,10 +1,11 @@
 //! Containers: their beginnings, the lines that they keep, and their ends (CommonMark 5).
 
-ghost use Rattle.std.specs.Prelude.{◌≡◌, Bool, List, Option, ℕ, OnOk, unwrap_or, option_map, length, ◌-◌, ◌<◌, ◌&&◌, ◌==◌, suc, ◌≤◌, IfOk, IfSome};
+ghost use Rattle.std.specs.Prelude.{◌≡◌, Bool, true, [], List, Option, ℕ, OnOk, unwrap_or, option_map, length, ◌-◌, ◌<◌, ◌&&◌, ◌==◌, if◌then◌else◌, suc, ◌≤◌, IfOk, IfSome};
 ghost use Rattle.cmark_grammar.specs.Containers as grammar;
 ghost use Rattle.cmark_items.specs.ItemNodes.{list_number};
 ghost use Rattle.cmark_values.specs.Shown.{shown_block_quote_kind, shown_options};
 ghost use Rattle.cmark_line_rules.specs.Starts.{Shows, inside_of};
+ghost use Rattle.cmark_blocks.specs.EmptyLines.{KeepEmptyFrom, keeps_empty};
 ghost use Rattle.cmark_blocks.specs.Shown.{shown_siblings, ShowsContainer};
 ghost use Rattle.cmark_block_model.specs.BlockPass.{inside_of as stepped_inside, block_quote_begun, item_begun_in, definition_begun_in, after_container};
 ghost use Rattle.cmark_block_model.specs.OpenBlocks as model;
@@ -36,9 +37,60 @@ fn reads_tasklists(options: Options) -> bool
     options.contains(Options::ENABLE_TASKLISTS)
 }
 
+/// Whether this container keeps every empty line, unless the line before was its blank first line. A block quote does not, nor a footnote
+/// definition in the old style (CommonMark 5.1 and 5.2; this profile's own).
+fn keeps_empty(container: Container) -> bool
+    ensures { result ≡ keeps_empty container }
+{
+    match container {
+        Container::BlockQuote => false,
+        Container::Item { .. } | Container::Definition { .. } => true,
+        Container::Footnote { old } => !old,
+    }
+}
+
+/// The number of `count` containers up to the innermost one that does not keep every empty line. The last one is `container`, and `strict`
+/// is the number for those before it.
+fn strict_with(container: Container, strict: usize, count: usize) -> usize
+    ensures { result ≡ (if keeps_empty container then strict else count) }
+{
+    if keeps_empty(container) {
+        strict
+    } else {
+        count
+    }
+}
+
+/// Whether nothing is left of a line, not even a part of a tab.
+fn is_used_up(rest: LineRest<'_>) -> bool
+    ensures { result ≡ true → (row_of rest.entry).columns ≡ [] }
+{
+    if !rest.bytes().is_empty() {
+        return false;
+    }
+    rest.remaining_space() == 0
+}
+
+/// The number of these containers up to the innermost one that does not keep every empty line, which is among the first `strict` ones.
+/// A container that the search passes has a prefix or a marker in the line that began the container that was closed. So all searches together
+/// take time in proportion to the text.
+fn strict_count(outer: &Vec<OpenContainer>, strict: usize) -> usize
+    requires { KeepEmptyFrom strict outer.now.items }
+    ensures { KeepEmptyFrom result outer.now.items }
+{
+    let mut count = strict.min(outer.len());
+    while count > 0 {
+        if !keeps_empty(outer[count - 1].container) {
+            return count;
+        }
+        count -= 1;
+    }
+    count
+}
+
 impl<'a, E: EntityLookup> Pass<'a, E> {
     ghost use Rattle.cmark_blocks.specs.Steps.{Keeps, Steps, ClosesLast, ClosesAll, BeginsTask};
-    ghost use Rattle.cmark_blocks.specs.KeepingContainers.{IsAfter, KeepsOf};
+    ghost use Rattle.cmark_blocks.specs.KeepingContainers.{IsAfter, KeepsEmptyRest, KeepsOf};
     ghost use Rattle.cmark_blocks.specs.declared.state.OpenLeaf.TheVariants as leaf;
     ghost use Rattle.cmark_leaf_nodes.specs.TextColumns.{IsRead};
 
@@ -136,6 +188,7 @@ impl<'a, E: EntityLookup> Pass<'a, E> {
             container,
             around: self.inner,
         })?;
+        self.strict = strict_with(container, self.strict, self.outer.len());
         self.inner = Siblings::none();
         Ok(())
     }
@@ -194,7 +247,19 @@ impl<'a, E: EntityLookup> Pass<'a, E> {
         self.bare && index + 1 == self.outer.len()
     }
 
-    /// The number of containers that keep the line, from the outermost on, and the rest of it after their prefixes.
+    /// Whether nothing is left of this line, and the containers from this index on all keep such a line.
+    #[inline(always)]
+    fn keeps_rest(&self, index: usize, rest: LineRest<'a>) -> bool
+        ensures { result ≡ true → KeepsEmptyRest self.now index rest.entry }
+    {
+        if index < self.strict || self.bare {
+            return false;
+        }
+        is_used_up(rest)
+    }
+
+    /// The number of containers that keep the line, from the outermost on, and the rest of it after their prefixes. A rest that is used up
+    /// is kept by all containers from `strict` on.
     #[inline(always)]
     pub(crate) fn kept_by(&self, line: LineRest<'a>) -> (usize, LineRest<'a>)
         ensures kept { KeepsOf E.replacement self.now line.entry result.0 result.1 }
@@ -205,6 +270,9 @@ impl<'a, E: EntityLookup> Pass<'a, E> {
         let mut kept = 0;
         let mut rest = line;
         while kept < self.outer.len() {
+            if self.keeps_rest(kept, rest) {
+                return (self.outer.len(), rest);
+            }
             let bare = self.is_bare(kept);
             let Some(inside) = self.outer[kept].container.keeps(bare, rest) else {
                 return (kept, rest);
@@ -225,6 +293,7 @@ impl<'a, E: EntityLookup> Pass<'a, E> {
         if let Some(open) = self.outer.pop() {
             self.builder.close(self.line_end);
             self.inner = open.siblings_after(self.inner, self.line_end);
+            self.strict = strict_count(&self.outer, self.strict);
         }
     }
 

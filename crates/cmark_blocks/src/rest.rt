@@ -44,6 +44,7 @@ impl<'a, E: EntityLookup> Pass<'a, E> {
             builder,
             inner: Siblings::none(),
             outer: Vec::new(alloc),
+            strict: 0,
             bare: false,
             leaf: OpenLeaf::Closed,
             blank_lines: Vec::new(alloc),

@@ -5,6 +5,7 @@ ghost use Rattle.std.specs.Str.{IsCharBoundary};
 ghost use Rattle.cmark_leaf_nodes.specs.Contents.{AreRead};
 ghost use Rattle.cmark_leaf_nodes.specs.ReadFacts.{AreRead-prop};
 ghost use Rattle.cmark_values.specs.Shown.{shown_options};
+ghost use Rattle.cmark_blocks.specs.EmptyLines.{KeepEmptyFrom, KeepEmptyFrom-prop};
 ghost use Rattle.cmark_blocks.specs.LastLines.{IsLastRead, IsLastRead-prop};
 
 use crate::siblings::Siblings;
@@ -65,6 +66,8 @@ pub(crate) struct Pass<'a, E> {
     pub inner: Siblings,
     /// The open containers, the outermost first.
     pub outer: Vec<OpenContainer>,
+    /// The number of open containers up to the innermost one that does not keep every empty line. Those after it do.
+    pub strict: usize,
     /// Whether the last line was the blank first line of an item, which is the innermost container.
     pub bare: bool,
     pub leaf: OpenLeaf<'a>,
@@ -77,6 +80,7 @@ pub(crate) struct Pass<'a, E> {
     ghost begins: { IsCharBoundary text.now line_end },
     ghost lines: { AreRead text.now blank_lines.items } by { AreRead-prop text.now blank_lines.items },
     ghost last: { IsLastRead text.now leaf } by { IsLastRead-prop text.now leaf },
+    ghost empties: { KeepEmptyFrom strict outer.items } by { KeepEmptyFrom-prop strict outer.items },
 }
 
 // A text with fewer bytes than this mostly has few nodes.
@@ -114,6 +118,7 @@ impl<'a, E: EntityLookup> Pass<'a, E> {
             builder,
             inner: Siblings::none(),
             outer: Vec::new(alloc),
+            strict: 0,
             bare: false,
             leaf: OpenLeaf::Closed,
             blank_lines: Vec::new(alloc),

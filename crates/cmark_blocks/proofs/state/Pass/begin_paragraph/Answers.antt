@@ -12,6 +12,9 @@ use Rattle.cmark_items.specs.Tables.{defined}
 use Rattle.cmark_blocks.specs.Runs.{state_of}
 use Rattle.cmark_blocks.proofs.state.Pass.begin_paragraph.Goals as goal
 
+pub invariant_of-self-2-clause-empties : goal.invariant_of-self-2-clause-empties
+invariant_of-self-2-clause-empties g c = c.begin_text_block.new.self.empties
+
 pub returns-clause-runs : goal.returns-clause-runs
 returns-clause-runs g c text options lookup m runs =
     let replacement = g.E.EntityLookup.replacement in

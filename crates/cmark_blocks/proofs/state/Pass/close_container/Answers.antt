@@ -4,11 +4,18 @@ use Rattle.cmark_block_model.specs.BlockPass.{ended, after_container}
 use Rattle.cmark_block_model.specs.Drawing.{closed_at}
 use Rattle.cmark_builder.specs.Drawn.{Draws}
 use Rattle.cmark_builder.proofs.DrawnSteps.{draws-close}
+use Rattle.cmark_blocks.specs.EmptyLines.{KeepEmptyFrom}
+use Rattle.cmark_blocks.proofs.EmptySteps.{keep-fewer}
 use Rattle.cmark_blocks.specs.Shown.{shown_siblings, ShowsContainers}
 use Rattle.cmark_blocks.proofs.RunSteps.{shows-unsnoc, shows-none, runs-builder, runs-inner, runs-outer}
 use Rattle.cmark_items.specs.Tables.{defined}
 use Rattle.cmark_blocks.specs.Runs.{state_of}
 use Rattle.cmark_blocks.proofs.state.Pass.close_container.Goals as goal
+
+pub strict_count-self-requires : goal.strict_count-self-requires
+strict_count-self-requires g c =
+    let strict = c.close_list.new.self.strict in
+    keep-fewer c.pop.new.self.items c.in-Some.open strict (subst (KeepEmptyFrom strict) c.in-Some.ensures.items c.close_list.new.self.empties)
 
 pub returns-in-Some-clause-runs : goal.returns-in-Some-clause-runs
 returns-in-Some-clause-runs g c text options lookup m outer last split runs =

@@ -1,9 +1,15 @@
-use Rattle.std.proofs.Common.{List, ◌∷◌, [], ◌++◌, subst, sym}
+use Rattle.std.proofs.Common.{List, ◌∷◌, [], ◌++◌, subst, sym, arith}
 use Rattle.cmark_block_model.specs.OpenBlocks as model
 use Rattle.cmark_blocks.specs.Shown.{ShowsContainers}
+use Rattle.cmark_blocks.proofs.EmptySteps.{keep-entered}
 use Rattle.cmark_blocks.proofs.RunSteps.{shows-snoc, runs-inner, runs-outer}
 use Rattle.cmark_blocks.specs.Runs.{state_of}
 use Rattle.cmark_blocks.proofs.state.Pass.enter.Goals as goal
+
+pub invariant_of-self-2-clause-empties : goal.invariant_of-self-2-clause-empties
+invariant_of-self-2-clause-empties g c =
+    keep-entered c.args.self.now.outer.items c.push.new.self.items (record { container = c.args.container; around = c.args.self.now.inner }) c.args.self.now.strict c.len.result c.strict_with-self.result c.in_ok-push.ensures.items
+    (omega (arith, c.len.ensures, c.push.new.self.ok)) c.strict_with-self.ensures c.args.self.now.empties
 
 pub returns-clause-runs : goal.returns-clause-runs
 returns-clause-runs g c k shows text options lookup m runs =

@@ -16,6 +16,7 @@ invariant_of-self g c = record {
   begins = c.args.self.now.begins;
   lines = read-pushed c.args.self.now.text.now c.args.self.now.blank_lines.items c.push.new.self.items c.args.rest (is_ok c.push.result) c.push.ensures.items c.args.self.now.lines c.requires.line;
   last = c.args.self.now.last;
+  empties = c.args.self.now.empties;
 }
 
 pub returns-clause-runs : goal.returns-clause-runs

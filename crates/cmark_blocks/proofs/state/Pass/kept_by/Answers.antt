@@ -4,11 +4,19 @@ use Rattle.std.proofs.lemmas.Option.{slice_get_read}
 use Rattle.cmark_grammar.specs.Containers as grammar
 use Rattle.cmark_line_rules.specs.Rests.{row_of}
 use Rattle.cmark_line_rules.specs.Starts.{Shows}
+use Rattle.cmark_blocks.proofs.EmptySteps.{all-keep-used-up}
 use Rattle.cmark_blocks.proofs.KeepingSteps.{keeps-on, keeps-not, keeps-all, following-more}
 use Rattle.cmark_blocks.proofs.state.Pass.kept_by.Goals as goal
 
 pub loop-kept-init : goal.loop-kept-init
 loop-kept-init g c = (λ text options lookup m runs. refl, omega arith, λ text is. is, (0, ((row_of c.args.line).held, refl)))
+
+pub returns-then-keeps_rest-clause-kept : goal.returns-then-keeps_rest-clause-kept
+returns-then-keeps_rest-clause-kept g c text options lookup m runs =
+    let empty = c.keeps_rest.ensures c.if-keeps_rest.true in
+    c.loop-kept.invariant.0 text options lookup m runs
+    ∙ all-keep-used-up text options lookup c.args.self.now.outer.items m.outer c.args.self.now.strict c.loop-kept.kept c.len-then-keeps_rest.result m.bare c.loop-kept.rest runs.outer c.args.self.now.empties empty.strict
+    (omega (arith, c.len-then-keeps_rest.ensures, c.args.self.now.outer.ok.0)) (sym runs.bare ∙ empty.bare) empty.columns
 
 pub returns-in_default-clause-kept : goal.returns-in_default-clause-kept
 returns-in_default-clause-kept g c text options lookup m runs =

@@ -1,3 +1,4 @@
+use Rattle.cmark_blocks.proofs.EmptySteps.{keep-nothing}
 use Rattle.cmark_blocks.proofs.SetextSteps.{read-none}
 use Rattle.cmark_blocks.proofs.state.Pass.starting_at.Goals as goal
 
@@ -6,4 +7,5 @@ invariant_of-result g c = record {
   begins = c.requires.begins;
   lines = read-none _ _ c.new-2.ensures.items;
   last = tt;
+  empties = keep-nothing _ 0 c.new.ensures.items;
 }
