@@ -24,6 +24,13 @@ MADE = ROOT / "bin" / "profiled"
 RUNTIME = "lib/clang/{major}/lib/linux/libclang_rt.profile-x86_64.a"
 # The profile covers only what the runs reach.
 WITH_PROFILE = ("-Wno-profile-instr-unprofiled", "-Wno-profile-instr-missing", "-Wno-backend-plugin")
+# With a profile the compiler puts so much code into one function that it gives up its search for stores that nothing reads. So it may take
+# more steps than it does by default.
+STEPS = {
+    "dse-memoryssa-scanlimit": 5000, "dse-memoryssa-walklimit": 5000, "dse-memoryssa-path-check-limit": 5000,
+    "dse-memoryssa-partial-store-limit": 100, "dse-memoryssa-defs-per-block-limit": 50000, "memssa-check-limit": 2000,
+}
+SEARCH = [it for name, steps in STEPS.items() for it in ("-mllvm", f"-{name}={steps}")] + ["-mllvm", "-enable-dse-initializes-attr-improvement"]
 # How often a text of the table of tests is in its file, and how often the library reads it alone. Each is short, and a profile counts how
 # often code runs. A call on a short text shows what each call does once.
 REPEATED = 20
@@ -113,7 +120,7 @@ def compiled(tools, code, parts, calls, room):
     with_first = merged(tools, first, room / "first.profile")
     second = counts(tools, code, parts, calls, room / "second", with_first, "-fcs-profile-generate", *WITH_PROFILE)
     with_both = merged(tools, [*first, *second], room / "both.profile")
-    return code.compiled(room / "profiled.o", with_both, *WITH_PROFILE)
+    return code.compiled(room / "profiled.o", with_both, *WITH_PROFILE, *SEARCH)
 
 
 def caller(tools, room):

@@ -172,12 +172,7 @@ impl<'a> LeafText<'a> {
 
     /// Like `slice_ahead`, with the range of these bytes in the source, which `range` returns.
     #[inline(always)]
-    pub fn slice_ahead_at(
-        &self,
-        range: &Range<usize>,
-        from: usize,
-        to: usize,
-    ) -> Option<&'a str>
+    pub fn slice_ahead_at(&self, range: &Range<usize>, from: usize, to: usize) -> Option<&'a str>
         requires read { IsRead self.now }
         requires part { IsPart (text_of self.now) from to }
         requires start { range.now.start ≡ place_of self.now from }

@@ -12,7 +12,7 @@ use Rattle.cmark_scan_bytes.specs.declared.entity.Entity.{Entity}
 use Rattle.cmark_scan_bytes.specs.Shown.{Closes}
 use Rattle.cmark_grammar.specs.Letters.{after_if, lower, is_number, is_alphanumeric}
 use Rattle.cmark_grammar.specs.Tokens.{is_hexadecimal, is_character, character}
-use Rattle.std.proofs.Common.{◌-◌, ◌==◌, Option, Some, ◌≡◌, ℕ, zero, suc, ◌*◌, ◌<◌, ◌≤◌, Bool, true, false, ◌||◌, ◌&&◌, List, [], ◌∷◌, length, take, drop, get_or, refl, sym, ap, subst, ◌∙◌, arith, ⊎_elim, if◌then◌else◌}
+use Rattle.std.proofs.Common.{◌==◌, Option, Some, ◌≡◌, ℕ, zero, suc, ◌*◌, ◌<◌, ◌≤◌, Bool, true, false, ◌||◌, ◌&&◌, List, [], ◌∷◌, length, take, drop, get_or, refl, sym, ap, subst, ◌∙◌, arith, ⊎_elim, if◌then◌else◌}
 
 -- the number of values of this many hexadecimal digits
 abbrev pub room : ℕ → ℕ

@@ -3,7 +3,6 @@ use Rattle.std.proofs.Common.{◌≡◌, ◌≢◌, ℕ, zero, suc, ◌+◌, ◌
 use Rattle.std.specs.Option.{MatchOption}
 use Rattle.std.proofs.lemmas.Bool.{false_from_ne_true}
 use Rattle.memchr.specs.Find.{OccursAt, FindsNeedle}
-use Rattle.cmark_grammar.specs.Letters.{starts}
 use Rattle.cmark_grammar.specs.InlineTokens.{without_pipe_escapes}
 use Rattle.cmark_grammar.specs.LabelsOverLines.{piped}
 use Rattle.cmark_scan_bytes.specs.Pipes.{LeavesOut}

@@ -8,7 +8,7 @@ ghost use Rattle.cmark_inline_model.specs.LeafSpans.{IsInline, IsSpan};
 ghost use Rattle.cmark_grammar.specs.TagEnd.{end_of};
 ghost use Rattle.cmark_grammar.specs.Tokens.{slice};
 ghost use Rattle.cmark_inline_model.specs.FirstEvents.{BeginWithoutEnd};
-ghost use Rattle.cmark_leaf_text.specs.Reads.{IsRead, is_cell_of, place_of, source_of, text_of};
+ghost use Rattle.cmark_leaf_text.specs.Reads.{IsPart, IsRead, is_cell_of, place_of, source_of, text_of};
 ghost use Rattle.cmark_text.specs.Short.{IsShortZeroCopy, shown_plain, shown_short};
 ghost use Rattle.cmark_text.specs.Shown.{shown_end};
 ghost use Rattle.cmark_values.specs.Lending.{IsPartOf};
@@ -189,6 +189,7 @@ fn part_of<'a>(leaf: &LeafText<'a>, slot: Slot, range: &Range<usize>) -> Option<
     requires read { IsRead leaf.now }
     requires start { range.now.start ≡ place_of leaf.now slot.start }
     requires end { range.now.end ≡ place_of leaf.now (slot.end - 1) + 1 }
+    requires inside { IsPart (source_of leaf.now) range.now.start range.now.end }
     requires slot { IsSlot (text_of leaf.now) (length (text_of leaf.now)) slot }
     requires alone { IsAlone slot.kind }
     ensures stands { IfSome result (StandsFor leaf.now slot) }

@@ -1,4 +1,4 @@
-use Rattle.std.proofs.Common.{◌-◌, arith}
+use Rattle.std.proofs.Common.{arith}
 use Rattle.cmark_scan_bytes.proofs.TrailingSteps.{drop_end-cut}
 use Rattle.cmark_scan_bytes.proofs.bytes.without_trailing.Goals as goal
 

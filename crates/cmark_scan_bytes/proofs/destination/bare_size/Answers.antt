@@ -1,4 +1,4 @@
-use Rattle.std.proofs.Common.{◌≡◌, ℕ, ◌-◌, List, [], length, take, drop, Option, None, Some, Bool, false, if◌then◌else◌, eq-eqb, sym, ap, ◌∙◌, arith}
+use Rattle.std.proofs.Common.{◌≡◌, ℕ, ◌-◌, List, [], length, take, drop, Option, None, Some, Bool, if◌then◌else◌, eq-eqb, sym, ap, ◌∙◌, arith}
 use Rattle.std.proofs.lemmas.Bool.{ne_eqb}
 use Rattle.cmark_grammar.specs.LinkDefinitions.{Parsed, bare_in}
 use Rattle.cmark_scan_bytes.specs.Steps.{puts}

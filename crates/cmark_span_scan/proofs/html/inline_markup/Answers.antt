@@ -1,5 +1,4 @@
-use Rattle.std.proofs.Common.{◌+◌, inl, inr, drop, false, refl, sym, ap, ◌∙◌}
-use Rattle.cmark_grammar.specs.Letters.{starts}
+use Rattle.std.proofs.Common.{◌+◌, inl, inr, drop, refl, sym, ap, ◌∙◌}
 use Rattle.cmark_scan_bytes.proofs.Lists.{rest_of}
 use Rattle.cmark_scan_bytes.proofs.Marks.{marks-further}
 use Rattle.cmark_span_scan.proofs.HtmlSteps.{instruction_value, is_markup, markup_value}

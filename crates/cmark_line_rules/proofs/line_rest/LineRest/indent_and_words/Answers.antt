@@ -1,5 +1,5 @@
 use Rattle.cmark_line_rules.specs.Rests.{row_of}
-use Rattle.std.proofs.Common.{◌≡◌, ap, ◌∙◌, sym, arith}
+use Rattle.std.proofs.Common.{ap, ◌∙◌, sym, arith}
 use Rattle.cmark_grammar.specs.Columns.{bytes_of}
 use Rattle.cmark_grammar.specs.Rows.{is_bare}
 use Rattle.cmark_line_rules.proofs.RestSteps.{passed-twice}
