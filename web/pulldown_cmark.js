@@ -115,8 +115,10 @@ var pulldownCmark = ((records) => {
   const settingsOf = (given, defaults) => {
     if (given === null || typeof given !== "object") throw new TypeError(`settings are an object, not ${records.typeOf(given)}`);
     const names = Object.keys(defaults), settings = { ...defaults };
-    for (const [name, value] of Object.entries(given)) {
-      if (!names.includes(name)) throw new TypeError(`there is no setting ${name}, only ${names.join(", ")}`);
+    for (const name in given) if (!names.includes(name)) throw new TypeError(`there is no setting ${name}, only ${names.join(", ")}`);
+    // A setting counts too if it is inherited, or a getter of a class: a `safe` that is overlooked would leave the HTML as it is.
+    for (const name of names) {
+      const value = given[name];
       if (value !== undefined) settings[name] = value;
     }
     return settings;

@@ -127,6 +127,7 @@ const WRONG = [
   [() => new Stream(0, { schemes: ["tel"] }), "RangeError: schemes are for safe HTML: set safe too"],
   [() => new Stream(0, { expansionLimit: "5" }), "TypeError: a limit is a whole number"],
   [() => html("a", 0, { saef: true }), "TypeError: there is no setting saef, only safe, schemes, expansionLimit, brokenLink"],
+  [() => html("a", 0, Object.create({ saef: true })), "TypeError: there is no setting saef, only safe, schemes, expansionLimit, brokenLink"],
   [() => html("a", 0, "safe"), "TypeError: settings are an object, not string"],
   [() => html("a", 0, null), "TypeError: settings are an object, not null"],
   [() => html("a", 0, { schemes: ["tel"] }), "RangeError: schemes are for safe HTML: set safe too"],
@@ -152,6 +153,8 @@ const tryErrors = () => {
   judge("a call after the errors", html("*a*"), "<p><em>a</em></p>\n");
   const link = "[a](tel:1)", set = new Set(["sms", "tel"]);
   judge("schemes of a set", html(link, 0, { safe: true, schemes: set }), html(link, 0, { safe: true, schemes: [...set] }));
+  const getter = new (class { get safe() { return true; } })(), hidden = Object.defineProperty({}, "safe", { value: true });
+  for (const given of [Object.create({ safe: true }), getter, hidden]) judge("safe, inherited or hidden", html("<b>", 0, given), html("<b>", 0, { safe: true }));
   judge("settings that are undefined", html("<b>", 0, { safe: undefined, schemes: undefined, expansionLimit: undefined }), html("<b>"));
   judge("limits that no text reaches", [Infinity, 2n ** 70n].map((it) => html("[b]\n\n[b]: c", 0, { expansionLimit: it })), Array(2).fill(html("[b]\n\n[b]: c")));
   for (const [error, base] of [["NotUtf8Error", TypeError], ["MalformedError", TypeError], ["OutOfMemoryError", RangeError]]) {
