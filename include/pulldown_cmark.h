@@ -93,8 +93,8 @@ uint32_t pcm_safe_html(const uint8_t *text, size_t text_len, uint32_t options, u
 uint32_t pcm_safe_html_with(const uint8_t *text, size_t text_len, uint32_t options, const uint8_t *schemes, size_t schemes_len, uint8_t *room, size_t room_len, size_t *size);
 
 /* The HTML of a text that grows at its end, such as the output of a language model. The library keeps nothing: the caller keeps the text,
-   its HTML, and the cut, an offset in bytes. A call reads only the lines from the cut on. It looks at the earlier bytes only to see that
-   the text is UTF-8.
+   its HTML, and the cut, an offset in bytes. A call reads only the lines from the cut on, and looks at the earlier bytes only to see that the
+   text is UTF-8. But if the lines from the cut on define a link or a footnote, it reads the whole text.
 
    - *cut is 0 at first. Later it is what the last call that returned PCM_DONE left, for a beginning of this text, with the same options,
      limit and schemes.
