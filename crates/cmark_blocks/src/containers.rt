@@ -161,7 +161,7 @@ impl<'a, E: EntityLookup> Pass<'a, E> {
 
     /// The width in columns of the definition that a line begins, and the line after its marker. The definition begins after a paragraph,
     /// which is its title, or after another definition (this profile's own).
-    #[inline]
+    #[inline(always)]
     pub(crate) fn definition_begun(&self, rest: LineRest<'a>) -> Option<(usize, LineRest<'a>)>
         ensures width { DefinesAs E.replacement self.now rest.entry (option_map width_of result) }
         ensures inside { IfSome result (EntersDefinition (row_of rest.entry)) }

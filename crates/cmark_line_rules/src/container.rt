@@ -93,27 +93,8 @@ impl Container {
 
 /// The container that the line begins, indented by at most three columns, and the line after its marker. With footnotes on, a footnote
 /// definition comes first. `words` are the line's words.
-#[inline]
+#[inline(always)]
 pub(crate) fn container_start<'a>(
-    rest: LineRest<'a>,
-    words: &[u8],
-    options: Options,
-) -> Option<ContainerStart<'a>>
-    requires { words.now ≡ words_of (row_of rest) }
-    ensures container { option_map (shown_start (shown_options options) (row_of rest.entry)) result
-        ≡ begun_container (shown_options options) (row_of rest.entry) }
-    ensures inside { IfSome result (Enters (row_of rest.entry)) }
-    ensures marker { IfSome result (HasMarker (row_of rest.entry)) }
-{
-    if reads_footnotes(options) {
-        return footnote_or_marker_start(rest, words, options);
-    }
-    marker_start(rest, words)
-}
-
-/// The container that the line begins, if footnotes are read.
-#[inline(never)]
-fn footnote_or_marker_start<'a>(
     rest: LineRest<'a>,
     words: &[u8],
     options: Options,
@@ -132,7 +113,7 @@ fn footnote_or_marker_start<'a>(
 
 /// The footnote definition that the line begins, indented by at most three columns, and the line after the blanks that follow its marker
 /// (this profile's own).
-#[inline]
+#[inline(always)]
 fn footnote_start<'a>(rest: LineRest<'a>, options: Options) -> Option<ContainerStart<'a>>
     ensures container { option_map (shown_start (shown_options options) (row_of rest.entry)) result
         ≡ begun_footnote (shown_options options) (row_of rest.entry) }

@@ -21,7 +21,7 @@ pub fn reads_definition_lists(options: Options) -> bool
 /// The width in columns of the prefix that a definition's later lines have, and the line after its marker. `None` unless definition lists
 /// are read, and the line lacks no prefix, is indented by at most three columns and begins with the marker. Such a line begins a definition
 /// only after a paragraph or another definition.
-#[inline]
+#[inline(always)]
 pub fn definition_start<'a>(rest: LineRest<'a>, options: Options) -> Option<(usize, LineRest<'a>)>
     ensures width { option_map width_of result
         ≡ definition_marker (shown_options options) (row_of rest.entry) }

@@ -62,7 +62,7 @@ pub static FLAGS: [LineFlag; 18] = [
     LineFlag {
         name: "old-footnotes",
         option: Options::ENABLE_OLD_FOOTNOTES,
-        help: "Footnotes as they were read before",
+        help: "Footnotes in the older style",
     },
     LineFlag {
         name: "math",

@@ -94,6 +94,7 @@ impl<'a> LineRest<'a> {
 
     /// The number of bytes of a footnote definition's label, and the line after the blanks that follow the marker (this profile's own). The
     /// line begins the definition, indented by at most three columns.
+    #[inline(always)]
     pub(crate) fn after_footnote_marker(self) -> Option<(usize, LineRest<'a>)>
         ensures label { option_map (label_shown (row_of self.entry)) result
             ≡ begun_label (row_of self.entry) }
@@ -108,7 +109,7 @@ impl<'a> LineRest<'a> {
 
     /// The width in columns of the definition that the line begins, indented by at most three columns, and the line after the marker (this
     /// profile's own).
-    #[inline]
+    #[inline(always)]
     pub(crate) fn after_definition(self) -> Option<(usize, LineRest<'a>)>
         ensures width { option_map width_of result ≡ definition_after (row_of self.entry) }
         ensures inside { IfSome result (EntersDefinition (row_of self.entry)) }

@@ -1,7 +1,7 @@
 use Rattle.cmark_values.specs.Shown.{shown_options}
 use Rattle.cmark_line_rules.specs.Rests.{row_of}
 use Rattle.cmark_line_rules.proofs.FootnoteStarts.{begun-other}
-use Rattle.cmark_line_rules.proofs.container.footnote_or_marker_start.Goals as goal
+use Rattle.cmark_line_rules.proofs.container.container_start.Goals as goal
 
 pub returns-clause-container : goal.returns-clause-container
 returns-clause-container c =
