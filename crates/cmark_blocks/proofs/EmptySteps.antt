@@ -102,7 +102,7 @@ none-left (c ∷ cs) bytes cut = go (c.part == 0) bytes cut
     go true bytes cut = absurd (let q : c.byte ∷ bytes_of cs ≡ [] = bytes in cc)
     go false bytes cut = absurd (omega (arith, cut))
 
-not-lazy : (rest : LineRest) → (row_of rest).lazy ≡ false
+pub not-lazy : (rest : LineRest) → (row_of rest).lazy ≡ false
 unfolding row_of
 not-lazy rest = refl
 

@@ -22,6 +22,7 @@ pub mod LineFacts
 pub mod LineFeeds
 pub mod LineSteps
 pub mod MetadataSteps
+pub mod OldFootnoteSteps
 pub mod OpeningSteps
 pub mod PassSteps
 pub mod PipeRows

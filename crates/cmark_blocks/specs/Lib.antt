@@ -4,6 +4,7 @@ pub mod Cuts
 pub mod EmptyLines
 pub mod Entered
 pub mod FirstPass
+pub mod FootnoteRuns
 pub mod Footnotes
 pub mod Gathered
 pub mod IndentedLines

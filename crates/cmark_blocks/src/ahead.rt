@@ -41,10 +41,13 @@ impl<'a, E: EntityLookup> Pass<'a, E> {
         ensures following { IfSome result (IsAfter line.entry) }
     {
         let mut at = 0;
+        let mut run = 0;
         let mut rest = line;
         while at < count {
             rest = self.outer[at].container.keeps(false, rest)?;
-            at += 1;
+            let (after, next) = self.after_kept(at, run);
+            at = after.min(count);
+            run = next;
         }
         Some(rest)
     }

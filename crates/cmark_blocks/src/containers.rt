@@ -1,11 +1,12 @@
 //! Containers: their beginnings, the lines that they keep, and their ends (CommonMark 5).
 
-ghost use Rattle.std.specs.Prelude.{◌≡◌, Bool, true, [], List, Option, ℕ, OnOk, unwrap_or, option_map, length, ◌-◌, ◌<◌, ◌&&◌, ◌==◌, if◌then◌else◌, suc, ◌≤◌, IfOk, IfSome};
+ghost use Rattle.std.specs.Prelude.{◌≡◌, Bool, true, [], List, Option, ℕ, OnOk, unwrap_or, option_map, length, ◌-◌, ◌<◌, ◌∷◌, ◌++◌, ◌&&◌, ◌==◌, if◌then◌else◌, suc, ◌≤◌, IfOk, IfSome};
 ghost use Rattle.cmark_grammar.specs.Containers as grammar;
 ghost use Rattle.cmark_items.specs.ItemNodes.{list_number};
 ghost use Rattle.cmark_values.specs.Shown.{shown_block_quote_kind, shown_options};
 ghost use Rattle.cmark_line_rules.specs.Starts.{Shows, inside_of};
 ghost use Rattle.cmark_blocks.specs.EmptyLines.{KeepEmptyFrom, keeps_empty};
+ghost use Rattle.cmark_blocks.specs.FootnoteRuns.{AreRuns, is_old, KeepAlike};
 ghost use Rattle.cmark_blocks.specs.Shown.{shown_siblings, ShowsContainer};
 ghost use Rattle.cmark_block_model.specs.BlockPass.{inside_of as stepped_inside, block_quote_begun, item_begun_in, definition_begun_in, after_container};
 ghost use Rattle.cmark_block_model.specs.OpenBlocks as model;
@@ -14,7 +15,7 @@ ghost use Rattle.cmark_blocks.specs.Entered.{BeginsContainer, DefinesAs, IsStart
 ghost use Rattle.cmark_line_rules.specs.Definitions.{EntersDefinition, width_of};
 
 use crate::siblings::Siblings;
-use crate::state::{OpenContainer, OpenLeaf, Pass};
+use crate::state::{FootnoteRun, OpenContainer, OpenLeaf, Pass};
 use bitflags::Flags;
 use cmark_items::ItemBody;
 use cmark_line_rules::{
@@ -86,6 +87,52 @@ fn strict_count(outer: &Vec<OpenContainer>, strict: usize) -> usize
         count -= 1;
     }
     count
+}
+
+/// Whether this container is a footnote definition in the old style.
+fn is_old(container: Container) -> bool
+    ensures { result ≡ is_old container }
+{
+    match container {
+        Container::Footnote { old } => old,
+        Container::BlockQuote | Container::Item { .. } | Container::Definition { .. } => false,
+    }
+}
+
+/// Adds the last of `count` containers, a footnote definition in the old style, to the last run, or begins a run. Fails only if memory is
+/// refused.
+fn add_to_runs(runs: &mut Vec<FootnoteRun>, count: usize) -> Result<(), AllocError>
+    requires { 0 < count }
+    ensures { (outer : List OpenContainer) (entered : OpenContainer) → suc (length outer) ≡ count
+        → is_old entered.container ≡ true → AreRuns outer 0 runs.old.items
+        → AreRuns (outer ++ entered ∷ []) 0 runs.new.items }
+{
+    let known = runs.len();
+    if known > 0 && runs[known - 1].end == count - 1 {
+        runs[known - 1].end = count;
+        return Ok(());
+    }
+    runs.push(FootnoteRun {
+        start: count - 1,
+        end: count,
+    })?;
+    Ok(())
+}
+
+/// Takes the container that was closed out of the last run, if it was in it. `count` containers are left.
+fn cut_runs(runs: &mut Vec<FootnoteRun>, count: usize)
+    ensures { (outer : List OpenContainer) (closed : OpenContainer) → length outer ≡ count
+        → AreRuns (outer ++ closed ∷ []) 0 runs.old.items → AreRuns outer 0 runs.new.items }
+{
+    let known = runs.len();
+    if known == 0 || runs[known - 1].end <= count {
+        return;
+    }
+    if runs[known - 1].start < count {
+        runs[known - 1].end = count;
+    } else {
+        runs.pop();
+    }
 }
 
 impl<'a, E: EntityLookup> Pass<'a, E> {
@@ -190,6 +237,9 @@ impl<'a, E: EntityLookup> Pass<'a, E> {
         })?;
         self.strict = strict_with(container, self.strict, self.outer.len());
         self.inner = Siblings::none();
+        if is_old(container) {
+            add_to_runs(&mut self.footnote_runs, self.outer.len())?;
+        }
         Ok(())
     }
 
@@ -258,8 +308,22 @@ impl<'a, E: EntityLookup> Pass<'a, E> {
         is_used_up(rest)
     }
 
+    /// The index of the first container that may not keep a line as the container at this index does, and the number of the next run.
+    /// `run` is the number of the first run that does not end before the container. If the run begins there, the index is its end: all its
+    /// containers keep the same lines, and take nothing of them (this profile's own).
+    #[inline(always)]
+    pub(crate) fn after_kept(&self, index: usize, run: usize) -> (usize, usize)
+        requires { index < length self.now.outer.items }
+        ensures { KeepAlike self.now.outer.items index result.0 }
+    {
+        if run < self.footnote_runs.len() && self.footnote_runs[run].start == index {
+            return (self.footnote_runs[run].end, run + 1);
+        }
+        (index + 1, run)
+    }
+
     /// The number of containers that keep the line, from the outermost on, and the rest of it after their prefixes. A rest that is used up
-    /// is kept by all containers from `strict` on.
+    /// is kept by all containers from `strict` on. A run of footnote definitions in the old style takes one step.
     #[inline(always)]
     pub(crate) fn kept_by(&self, line: LineRest<'a>) -> (usize, LineRest<'a>)
         ensures kept { KeepsOf E.replacement self.now line.entry result.0 result.1 }
@@ -268,6 +332,7 @@ impl<'a, E: EntityLookup> Pass<'a, E> {
         ensures following { IsAfter line.entry result.1 }
     {
         let mut kept = 0;
+        let mut run = 0;
         let mut rest = line;
         while kept < self.outer.len() {
             if self.keeps_rest(kept, rest) {
@@ -278,7 +343,7 @@ impl<'a, E: EntityLookup> Pass<'a, E> {
                 return (kept, rest);
             };
             rest = inside;
-            kept += 1;
+            (kept, run) = self.after_kept(kept, run);
         }
         (kept, rest)
     }
@@ -294,6 +359,7 @@ impl<'a, E: EntityLookup> Pass<'a, E> {
             self.builder.close(self.line_end);
             self.inner = open.siblings_after(self.inner, self.line_end);
             self.strict = strict_count(&self.outer, self.strict);
+            cut_runs(&mut self.footnote_runs, self.outer.len());
         }
     }
 

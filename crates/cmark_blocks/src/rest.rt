@@ -45,6 +45,7 @@ impl<'a, E: EntityLookup> Pass<'a, E> {
             inner: Siblings::none(),
             outer: Vec::new(alloc),
             strict: 0,
+            footnote_runs: Vec::new(alloc),
             bare: false,
             leaf: OpenLeaf::Closed,
             blank_lines: Vec::new(alloc),

@@ -6,6 +6,7 @@ ghost use Rattle.cmark_leaf_nodes.specs.Contents.{AreRead};
 ghost use Rattle.cmark_leaf_nodes.specs.ReadFacts.{AreRead-prop};
 ghost use Rattle.cmark_values.specs.Shown.{shown_options};
 ghost use Rattle.cmark_blocks.specs.EmptyLines.{KeepEmptyFrom, KeepEmptyFrom-prop};
+ghost use Rattle.cmark_blocks.specs.FootnoteRuns.{AreRuns, AreRuns-prop};
 ghost use Rattle.cmark_blocks.specs.LastLines.{IsLastRead, IsLastRead-prop};
 
 use crate::siblings::Siblings;
@@ -53,6 +54,15 @@ pub(crate) struct OpenContainer {
 // A text may have an open container for each of its bytes.
 const _: () = prove!(size_of::<OpenContainer>() == 56);
 
+/// A run of footnote definitions in the old style that are open, each directly inside the one before.
+#[derive(Clone, Copy)]
+pub(crate) struct FootnoteRun {
+    /// The index of its first container.
+    pub start: usize,
+    /// The index after its last container.
+    pub end: usize,
+}
+
 /// The block pass between two lines.
 #[derive(Drop)]
 pub(crate) struct Pass<'a, E> {
@@ -68,6 +78,8 @@ pub(crate) struct Pass<'a, E> {
     pub outer: Vec<OpenContainer>,
     /// The number of open containers up to the innermost one that does not keep every empty line. Those after it do.
     pub strict: usize,
+    /// The runs of footnote definitions in the old style among the open containers, the outermost first.
+    pub footnote_runs: Vec<FootnoteRun>,
     /// Whether the last line was the blank first line of an item, which is the innermost container.
     pub bare: bool,
     pub leaf: OpenLeaf<'a>,
@@ -81,6 +93,7 @@ pub(crate) struct Pass<'a, E> {
     ghost lines: { AreRead text.now blank_lines.items } by { AreRead-prop text.now blank_lines.items },
     ghost last: { IsLastRead text.now leaf } by { IsLastRead-prop text.now leaf },
     ghost empties: { KeepEmptyFrom strict outer.items } by { KeepEmptyFrom-prop strict outer.items },
+    ghost footnotes: { AreRuns outer.items 0 footnote_runs.items } by { AreRuns-prop outer.items 0 footnote_runs.items },
 }
 
 // A text with fewer bytes than this mostly has few nodes.
@@ -119,6 +132,7 @@ impl<'a, E: EntityLookup> Pass<'a, E> {
             inner: Siblings::none(),
             outer: Vec::new(alloc),
             strict: 0,
+            footnote_runs: Vec::new(alloc),
             bare: false,
             leaf: OpenLeaf::Closed,
             blank_lines: Vec::new(alloc),

@@ -15,6 +15,9 @@ use Rattle.cmark_blocks.proofs.state.Pass.begin_paragraph.Goals as goal
 pub invariant_of-self-2-clause-empties : goal.invariant_of-self-2-clause-empties
 invariant_of-self-2-clause-empties g c = c.begin_text_block.new.self.empties
 
+pub invariant_of-self-2-clause-footnotes : goal.invariant_of-self-2-clause-footnotes
+invariant_of-self-2-clause-footnotes g c = c.begin_text_block.new.self.footnotes
+
 pub returns-clause-runs : goal.returns-clause-runs
 returns-clause-runs g c text options lookup m runs =
     let replacement = g.E.EntityLookup.replacement in

@@ -1,9 +1,11 @@
 use Rattle.std.proofs.Common.{◌<◌, length, option_map, refl, sym, ap, ◌∙◌, arith}
+use Rattle.std.proofs.Math.Nat.{min-le_right}
 use Rattle.std.proofs.lemmas.Option.{slice_get_read}
 use Rattle.cmark_line_rules.specs.Rests.{row_of}
 use Rattle.cmark_blocks.proofs.AheadSteps.{inside-start}
-use Rattle.cmark_blocks.proofs.InsideSteps.{first-keeps, first-misses, first-all}
+use Rattle.cmark_blocks.proofs.InsideSteps.{first-misses, first-all}
 use Rattle.cmark_blocks.proofs.KeepingSteps.{following-more}
+use Rattle.cmark_blocks.proofs.OldFootnoteSteps.{first-alike}
 use Rattle.cmark_blocks.proofs.state.Pass.inside_first.Goals as goal
 
 pub loop-at-init : goal.loop-at-init
@@ -32,12 +34,12 @@ loop-at-preserved g c =
     let within : at < length cs = omega (arith, c.loop-at-test.true, c.requires) in
     record {
       seen = λ text options lookup m more runs.
-          first-keeps text options lookup cs m.outer runs.outer c.args.count at c.index.result.now (row_of c.args.line) more rest
-          (slice_get_read cs (length cs) at c.index.result.now refl within c.index.ensures) c.loop-at-test.true inside
-          (λ k shows. ap (option_map row_of) (sym c.in_ok-rest.was) ∙ c.keeps.ensures.row k shows) _ (omega arith) (c.loop-at.invariant.seen text options lookup m more runs);
+          first-alike text options lookup cs m.outer runs.outer c.args.count (row_of c.args.line) more at c.after_kept-after.result.0 c.min-at.result c.index.result.now rest inside
+          (slice_get_read cs (length cs) at c.index.result.now refl within c.index.ensures) c.loop-at-test.true
+          (λ k shows. ap (option_map row_of) (sym c.in_ok-rest.was) ∙ c.keeps.ensures.row k shows) c.after_kept-after.ensures c.min-at.ensures (c.loop-at.invariant.seen text options lookup m more runs);
       placed = λ text is. c.in_ok-rest.ensures.placed text (c.loop-at.invariant.placed text is);
       following = following-more c.args.line rest inside c.index.result.now.container _ (λ k shows. ap (option_map row_of) (sym c.in_ok-rest.was) ∙ c.keeps.ensures.row k shows) c.loop-at.invariant.following;
-      within = omega (arith, c.loop-at-test.true);
+      within = omega (arith, c.min-at.ensures, min-le_right c.after_kept-after.result.0 c.args.count);
     }
 
 pub returns-clause-seen : goal.returns-clause-seen

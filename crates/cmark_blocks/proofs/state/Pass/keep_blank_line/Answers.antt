@@ -17,6 +17,7 @@ invariant_of-self g c = record {
   lines = read-pushed c.args.self.now.text.now c.args.self.now.blank_lines.items c.push.new.self.items c.args.rest (is_ok c.push.result) c.push.ensures.items c.args.self.now.lines c.requires.line;
   last = c.args.self.now.last;
   empties = c.args.self.now.empties;
+  footnotes = c.args.self.now.footnotes;
 }
 
 pub returns-clause-runs : goal.returns-clause-runs

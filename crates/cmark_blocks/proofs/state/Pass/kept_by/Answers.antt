@@ -5,7 +5,8 @@ use Rattle.cmark_grammar.specs.Containers as grammar
 use Rattle.cmark_line_rules.specs.Rests.{row_of}
 use Rattle.cmark_line_rules.specs.Starts.{Shows}
 use Rattle.cmark_blocks.proofs.EmptySteps.{all-keep-used-up}
-use Rattle.cmark_blocks.proofs.KeepingSteps.{keeps-on, keeps-not, keeps-all, following-more}
+use Rattle.cmark_blocks.proofs.KeepingSteps.{keeps-not, keeps-all, following-more}
+use Rattle.cmark_blocks.proofs.OldFootnoteSteps.{keeps-alike}
 use Rattle.cmark_blocks.proofs.state.Pass.kept_by.Goals as goal
 
 pub loop-kept-init : goal.loop-kept-init
@@ -38,11 +39,11 @@ loop-kept-preserved g c =
     let within : k < length cs = omega (arith, c.loop-kept-test.true, c.len.ensures, c.args.self.now.outer.ok.0) in (
       λ text options lookup m runs.
           c.loop-kept.invariant.0 text options lookup m runs
-          ∙ keeps-on text options lookup cs m.outer k c.index.result.now m.bare rest c.in-Some.inside runs.outer (slice_get_read cs (length cs) k c.index.result.now refl within c.index.ensures) within
+          ∙ keeps-alike text options lookup cs m.outer k c.after_kept.result.0 c.index.result.now m.bare rest c.in-Some.inside runs.outer (slice_get_read cs (length cs) k c.index.result.now refl within c.index.ensures) within
           (λ k shows. ap (option_map row_of) (sym c.in-Some.is) ∙ c.keeps.ensures.row k shows ∙ ap (λ b. grammar.keeps k b (row_of rest)) c.is_bare-bare.ensures
           ∙ ap (λ b. grammar.keeps k (b && (suc c.loop-kept.kept == length cs)) (row_of rest)) runs.bare)
-          _ (omega arith),
-      omega (arith, within),
+          c.after_kept.ensures,
+      c.after_kept.ensures.within,
       λ text is. c.in-Some.ensures.placed text (c.loop-kept.invariant.2 text is),
       following-more c.args.line rest c.in-Some.inside c.index.result.now.container c.is_bare-bare.result
           (λ k shows. ap (option_map row_of) (sym c.in-Some.is) ∙ c.keeps.ensures.row k shows) c.loop-kept.invariant.3,
