@@ -49,6 +49,9 @@ if TYPE_CHECKING:
         def __getitem__(self, index: slice) -> Tuple[Any, ...]:
             ...
 
+        def __getitem__(self, index: Any) -> Any:
+            ...
+
         def _asdict(self) -> Dict[str, Any]:
             ...
 
