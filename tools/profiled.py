@@ -4,8 +4,8 @@ The toolchain's clang compiles the same LLVM module as for `make`, with the same
 counted programs and the counted library read the Markdown files of this repository and the texts of tests/texts/rows.json. Then it inlines
 code by the counts, adds counters once more, and the runs are repeated: a function that is inlined at several places is now counted at each.
 At last it compiles with both profiles and a longer search for stores that nothing reads. So the compiler makes other choices, and nothing
-else changes. The counts depend only on the code and
-on these texts, so the object code is the same each time. docs/PERFORMANCE.md has the gain.
+else changes. The counts depend only on the code and on these texts, so the object code is the same each time. docs/PERFORMANCE.md has the
+gain.
 
 This needs llvm-profdata and the runtime of the counters in the version of the toolchain's clang (Debian: llvm-22 and libclang-rt-22-dev), and
 a C compiler.
