@@ -4,6 +4,7 @@ ghost use Rattle.std.specs.Prelude.{◌≡◌, ◌<◌, ◌≤◌, ◌++◌, ◌
 ghost use Rattle.program_io.specs.Statuses.{Answers};
 
 use crate::render::Render;
+use simdutf8::basic::from_utf8;
 use std::alloc::Global;
 
 /// The output was written.
@@ -47,7 +48,7 @@ pub fn answer<P: Render>(
     ensures refused { result ≡ 3 → P.refuses renderer.now text.now }
 {
     *size = 0;
-    let Ok(text) = str::from_utf8(text) else {
+    let Ok(text) = from_utf8(text) else {
         return NOT_UTF8;
     };
     let Ok(answer) = renderer.render(alloc, text) else {

@@ -9,6 +9,7 @@ use crate::read::read_all;
 use crate::render::Render;
 use crate::watched::Watched;
 use crate::write::write_text;
+use simdutf8::basic::from_utf8;
 use std::alloc::Global;
 use std::io::{Read, Write};
 
@@ -33,7 +34,7 @@ pub fn run<R: Read, W: Write, P: Render>(
 {
     writer.reset();
     let bytes = read_all(alloc, reader, INPUT_LIMIT)?;
-    let Ok(text) = str::from_utf8(bytes.as_slice()) else {
+    let Ok(text) = from_utf8(bytes.as_slice()) else {
         return Err(RunFault::NotUtf8);
     };
     let output = renderer.render(alloc, text)?;

@@ -14,6 +14,7 @@ use cmark_parser::{OffsetIter, Parser};
 use cmark_text::Step;
 use cmark_values::{EntityLookup, Options};
 use program_io::{NO_MEMORY, NOT_UTF8, hand_over};
+use simdutf8::basic::from_utf8;
 use std::alloc::{AllocError, Global};
 
 /// The bytes are not the flat records that a call reads.
@@ -37,7 +38,7 @@ pub extern "C" fn pcm_events(
         return refuse_unknown(size);
     }
     *size = 0;
-    let Ok(text) = str::from_utf8(text) else {
+    let Ok(text) = from_utf8(text) else {
         return NOT_UTF8;
     };
     let entities = Entities { bits: options };

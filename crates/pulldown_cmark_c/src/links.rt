@@ -17,6 +17,7 @@ use cmark_flat_links::{AnswerTable, Answering, append_definitions};
 use cmark_parser::{OffsetIter, Parser};
 use cmark_values::{EntityLookup, Options};
 use program_io::{NO_MEMORY, NOT_UTF8, hand_over};
+use simdutf8::basic::from_utf8;
 use std::alloc::{AllocError, Global};
 
 /// Like `pcm_events`, but writes the records of the text's link reference definitions.
@@ -37,7 +38,7 @@ pub extern "C" fn pcm_references(
         return refuse_unknown(size);
     }
     *size = 0;
-    let Ok(text) = str::from_utf8(text) else {
+    let Ok(text) = from_utf8(text) else {
         return NOT_UTF8;
     };
     let entities = Entities { bits: options };
@@ -86,7 +87,7 @@ pub extern "C" fn pcm_events_answered(
         return refuse_unknown(size);
     }
     *size = 0;
-    let Ok(text) = str::from_utf8(text) else {
+    let Ok(text) = from_utf8(text) else {
         return NOT_UTF8;
     };
     let entities = Entities { bits: options };

@@ -13,6 +13,7 @@ use cmark_parser::Filtering;
 use cmark_stream::{Rest, read_from};
 use cmark_values::Options;
 use program_io::{DONE, NO_MEMORY, NOT_UTF8, hand_over};
+use simdutf8::basic::from_utf8;
 use std::alloc::Global;
 
 /// The cut is past the end of the text, or inside a character.
@@ -123,7 +124,7 @@ fn answer_from(
 {
     *size = 0;
     *settled = 0;
-    let Ok(text) = str::from_utf8(text) else {
+    let Ok(text) = from_utf8(text) else {
         return NOT_UTF8;
     };
     if !text.is_char_boundary(*cut) {
