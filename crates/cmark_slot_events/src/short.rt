@@ -176,20 +176,50 @@ fn single_short<'a>(leaf: &LeafText<'a>, slot: Slot) -> Step<'a>
         (events_of leaf.now texts links (slot ∷ following) opened)
         (events_of leaf.now texts links following opened) }
 {
-    let range = leaf.range(slot.start, slot.end);
-    match part_of(leaf, slot, &range) {
-        Some(short) => Step::Short(short, range.start, range.end),
-        None => Step::Long,
+    // Only a text needs its range to be found. The caller that writes HTML does not read the range, so it is not computed for other kinds.
+    match slot.kind {
+        SlotKind::Text => {
+            let range = leaf.range(slot.start, slot.end);
+            match text_in(leaf, slot, &range) {
+                Some(short) => Step::Short(short, range.start, range.end),
+                None => Step::Long,
+            }
+        }
+        _ => match part_of(leaf, slot) {
+            Some(short) => {
+                let range = leaf.range(slot.start, slot.end);
+                Step::Short(short, range.start, range.end)
+            }
+            None => Step::Long,
+        },
     }
 }
 
-// The event of a slot that is not an element, if its text is a part of the source. `range` is the slot's range in the source.
+// The event of a text, if it is in the source without a gap. `range` is the slot's range in the source.
 #[inline(always)]
-fn part_of<'a>(leaf: &LeafText<'a>, slot: Slot, range: &Range<usize>) -> Option<Short<'a>>
+fn text_in<'a>(leaf: &LeafText<'a>, slot: Slot, range: &Range<usize>) -> Option<Short<'a>>
     requires read { IsRead leaf.now }
     requires start { range.now.start ≡ place_of leaf.now slot.start }
     requires end { range.now.end ≡ place_of leaf.now (slot.end - 1) + 1 }
     requires inside { IsPart (source_of leaf.now) range.now.start range.now.end }
+    requires slot { IsSlot (text_of leaf.now) (length (text_of leaf.now)) slot }
+    requires text { slot.kind ≡ SlotKind.Text }
+    ensures stands { IfSome result (StandsFor leaf.now slot) }
+    ensures inline { IfSome result (λ short. IsInline (shown_short short)) }
+    ensures lent { IfSome result
+        (λ short. IsShortZeroCopy (source_of leaf.now) short (place_of leaf.now slot.start)
+        (place_of leaf.now (slot.end - 1) + 1)) }
+{
+    match leaf.slice_ahead_at(range, slot.start, slot.end) {
+        Some(ahead) => Some(Short::Text(Excerpt::new(ahead, slot.end - slot.start))),
+        None => None,
+    }
+}
+
+// The event of a slot that is neither an element nor a text, if its text is a part of the source.
+#[inline(always)]
+fn part_of<'a>(leaf: &LeafText<'a>, slot: Slot) -> Option<Short<'a>>
+    requires read { IsRead leaf.now }
     requires slot { IsSlot (text_of leaf.now) (length (text_of leaf.now)) slot }
     requires alone { IsAlone slot.kind }
     ensures stands { IfSome result (StandsFor leaf.now slot) }
@@ -200,12 +230,6 @@ fn part_of<'a>(leaf: &LeafText<'a>, slot: Slot, range: &Range<usize>) -> Option<
         (place_of leaf.now (slot.end - 1) + 1)) }
 {
     match slot.kind {
-        SlotKind::Text => {
-            let Some(ahead) = leaf.slice_ahead_at(range, slot.start, slot.end) else {
-                return None;
-            };
-            Some(Short::Text(Excerpt::new(ahead, slot.end - slot.start)))
-        }
         SlotKind::SoftBreak => Some(Short::SoftBreak),
         SlotKind::HardBreak => Some(Short::HardBreak),
         SlotKind::Code(from) => match code_in(leaf, from, slot.end) {
