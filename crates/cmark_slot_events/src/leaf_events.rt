@@ -74,7 +74,7 @@ impl<'a> LeafEvents<'a> {
     }
 
     /// Begins with the slots of a leaf and the texts and links that they name. They are swapped with those of the last leaf, so that memory
-    /// can be reused.
+    /// can be reused. Most leaves have no texts and no links, and then those lists stay where they are.
     pub fn begin_leaf(
         &mut self,
         slots: &mut Vec<Slot>,
@@ -82,8 +82,8 @@ impl<'a> LeafEvents<'a> {
         links: &mut Vec<Link<'a>>,
     )
         ensures slots { self.new.slots ≡ slots.old }
-        ensures texts { self.new.texts ≡ texts.old }
-        ensures links { self.new.links ≡ links.old }
+        ensures texts { self.new.texts.items ≡ texts.old.items }
+        ensures links { self.new.links.items ≡ links.old.items }
         ensures next { self.new.walk.next ≡ 0 }
         ensures opened { self.new.walk.opened.items ≡ [] }
         ensures events { (leaf : LeafText)
@@ -94,8 +94,12 @@ impl<'a> LeafEvents<'a> {
             → AreLeft leaf self.new }
     {
         mem::swap(&mut self.slots, slots);
-        mem::swap(&mut self.texts, texts);
-        mem::swap(&mut self.links, links);
+        if !self.texts.is_empty() || !texts.is_empty() {
+            mem::swap(&mut self.texts, texts);
+        }
+        if !self.links.is_empty() || !links.is_empty() {
+            mem::swap(&mut self.links, links);
+        }
         self.walk.clear();
     }
 }
