@@ -11,7 +11,7 @@ typedef uint32_t (*pcm)(const uint8_t *, size_t, uint32_t, uint8_t *, size_t, si
 typedef char *(*cmark)(const char *, size_t, int);
 typedef int (*md4c)(const char *, unsigned, void (*)(const char *, unsigned, void *), void *, unsigned, unsigned);
 
-static char text[1 << 20], room[1 << 24];
+static char text[1 << 24], room[1 << 28];
 
 static double now(void)
 {

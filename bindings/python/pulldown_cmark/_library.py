@@ -101,6 +101,8 @@ def bytes_of(text: Text) -> bytes:
 def bits_of(options: int) -> int:
     """The bits of a set of options."""
     bits = operator.index(options)
+    if bits < 0:
+        raise ValueError(f"options are joined by |, and {bits} is below 0")
     if bits & ~_ALL:
         raise ValueError(f"there is no option of the bits {bits & ~_ALL}")
     return bits

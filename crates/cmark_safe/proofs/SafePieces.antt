@@ -1,7 +1,7 @@
 -- The HTML of a safe event outside images is safe.
 use Rattle.std.proofs.Common.{◌≡◌, ℕ, Bool, true, false, ◌==◌, if◌then◌else◌, List, [], ◌∷◌, ◌++◌, refl, sym, subst}
 use Rattle.std.specs.Prelude.{codes, decimal, take_while, Option, Some, None, option_map}
-use Rattle.std.specs.List.{slice_get}
+use Rattle.std.specs.List.{list_all, slice_get}
 use Rattle.std.proofs.lemmas.List.{append_assoc, append-nil}
 use Rattle.cmark_grammar.specs.Alignment.{Alignment, Unaligned, Left, Center, Right}
 use Rattle.cmark_grammar.specs.BlockQuoteKind.{BlockQuoteKind, Note, Tip, Important, Warning, Caution}
@@ -14,9 +14,10 @@ use Rattle.cmark_grammar.specs.Tag as tag
 use Rattle.cmark_grammar.specs.Tag.{Tag}
 use Rattle.cmark_grammar.specs.TagEnd as end
 use Rattle.cmark_grammar.specs.TagEnd.{TagEnd}
-use Rattle.cmark_safe.specs.SafeHtml.{is_level, own_prefix, plain_tags, IsAnchor, NoAnchor, Anchor, IsValue, Byte, IsAddress, IsTitle, NoTitle, Title, HeadingStart, HeadingEnd, Plain, LinkStart, OrderedFrom, Language, Footnote, ToFootnote, IsSafe, Nothing, Sign, Tagged}
-use Rattle.cmark_safe.specs.SafeEvents.{safe, safe_tag, safe_end, safe_level, anchored, safe_destination, own_name}
+use Rattle.cmark_safe.specs.SafeHtml.{is_in_word, is_level, own_prefix, plain_tags, IsAnchor, NoAnchor, Anchor, IsValue, Byte, IsAddress, IsTitle, NoTitle, Title, HeadingStart, HeadingEnd, Plain, LinkStart, OrderedFrom, Language, Footnote, ToFootnote, IsSafe, Nothing, Sign, Tagged}
+use Rattle.cmark_safe.specs.SafeEvents.{safe, safe_tag, safe_end, safe_level, anchored, safe_code, safe_destination, first_word, own_name}
 use Rattle.cmark_safe.specs.Schemes.{is_allowed, is_one_of}
+use Rattle.cmark_safe.proofs.SafeWords.{escaped_word, front_keeps, front_passes}
 use Rattle.cmark_safe.proofs.SafeParts.{safe_then, tag_safe, value_safe, body_text_safe, html_value, href_value, decimal_value}
 
 destination_choice : (further : List ℕ) (x : Bool) (d : List ℕ) → is_allowed further (escaped_href d) ≡ x → is_allowed further (escaped_href (if x then d else [])) ≡ true
@@ -80,13 +81,13 @@ quote_safe (Some Important) = line (codes "<blockquote class=\"markdown-alert-im
 quote_safe (Some Warning) = line (codes "<blockquote class=\"markdown-alert-warning\">") refl
 quote_safe (Some Caution) = line (codes "<blockquote class=\"markdown-alert-caution\">") refl
 
-language_safe : {further : List ℕ} (word : List ℕ) → IsSafe further (language_start word)
-language_safe [] = plain_then (codes "<pre>") _ refl (plain (codes "<code>") refl)
-language_safe (b ∷ bs) = plain_then (codes "<pre>") _ refl (tag_safe _ (Language _ (html_value (b ∷ bs))))
+language_safe : {further : List ℕ} (word : List ℕ) → list_all is_in_word word ≡ true → IsSafe further (language_start word)
+language_safe [] one = plain_then (codes "<pre>") _ refl (plain (codes "<code>") refl)
+language_safe (b ∷ bs) one = plain_then (codes "<pre>") _ refl (tag_safe _ (Language _ (record { value = html_value (b ∷ bs); one = escaped_word (b ∷ bs) one })))
 
-code_safe : {further : List ℕ} (kind : CodeBlockKind) → IsSafe further (code_block_start kind)
+code_safe : {further : List ℕ} (kind : CodeBlockKind) → IsSafe further (code_block_start (safe_code kind))
 code_safe Indented = plain_then (codes "<pre>") _ refl (plain (codes "<code>") refl)
-code_safe (Fenced info) = language_safe (take_while is_within_word info)
+code_safe (Fenced info) = language_safe (take_while is_within_word (first_word info)) (front_keeps is_in_word is_within_word (first_word info) (front_passes is_in_word info))
 
 numbered : (further : List ℕ) (x : Bool) (first : ℕ) → IsSafe further (if x then codes "<ol>\n" else codes "<ol start=\"" ++ (decimal first ++ codes "\">\n"))
 numbered further true first = line (codes "<ol>") refl

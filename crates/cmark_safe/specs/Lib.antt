@@ -1,4 +1,4 @@
-pub mod Names
+pub mod Memory
 pub mod SafeEvents
 pub mod SafeHtml
 pub mod Schemes

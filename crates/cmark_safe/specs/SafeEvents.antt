@@ -1,6 +1,8 @@
 -- The safe events of a text: one for each event of the text.
 use Rattle.std.specs.Prelude.{ℕ, if◌then◌else◌, List, [], ◌++◌, Option, option_map, IfSome, ◌≡◌, false, true, map}
+use Rattle.std.specs.List.{take_while}
 use Rattle.cmark_grammar.specs.Attributes.{Attributes}
+use Rattle.cmark_grammar.specs.CodeBlockKind.{CodeBlockKind, Fenced}
 use Rattle.cmark_grammar.specs.Escapes.{escaped_href}
 use Rattle.cmark_grammar.specs.Event.{Event, Start, End, Text, Html, InlineHtml, FootnoteReference}
 use Rattle.cmark_grammar.specs.Html.{html}
@@ -8,7 +10,7 @@ use Rattle.cmark_grammar.specs.Tag as tag
 use Rattle.cmark_grammar.specs.Tag.{Tag, Linked}
 use Rattle.cmark_grammar.specs.TagEnd as end
 use Rattle.cmark_grammar.specs.TagEnd.{TagEnd}
-use Rattle.cmark_safe.specs.SafeHtml.{IsSafe, is_level, own_prefix}
+use Rattle.cmark_safe.specs.SafeHtml.{IsSafe, is_in_word, is_level, own_prefix}
 use Rattle.cmark_safe.specs.Schemes.{is_allowed, is_one_of, refused_schemes, scheme_of}
 
 -- a name has a prefix
@@ -30,10 +32,19 @@ safe_destination further destination = if is_allowed further (escaped_href desti
 abbrev pub safe_linked : (further : List ℕ) → Linked → Linked
 safe_linked further l = record { link_type = l.link_type; destination = safe_destination further l.destination; title = l.title; id = l.id }
 
+-- an info string is cut before its first white space, so the text chooses one class of the code
+abbrev pub first_word : List ℕ → List ℕ
+first_word info = take_while is_in_word info
+
+abbrev pub safe_code : CodeBlockKind → CodeBlockKind
+safe_code (Fenced info) = Fenced (first_word info)
+safe_code kind = kind
+
 -- an HTML block is a paragraph
 abbrev pub safe_tag : (further : List ℕ) → Tag → Tag
 safe_tag further tag.HtmlBlock = tag.Paragraph
 safe_tag further (tag.Heading level attributes) = tag.Heading (safe_level level) (anchored attributes.id)
+safe_tag further (tag.CodeBlock kind) = tag.CodeBlock (safe_code kind)
 safe_tag further (tag.FootnoteDefinition label) = tag.FootnoteDefinition (own_name label)
 safe_tag further (tag.Link linked) = tag.Link (safe_linked further linked)
 safe_tag further (tag.Image linked) = tag.Image (safe_linked further linked)

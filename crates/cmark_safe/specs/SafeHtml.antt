@@ -1,6 +1,8 @@
 -- HTML that is safe to show, whatever text it comes from. It consists of text, entities, and tags of a fixed list. Their values are
 -- quoted, and their addresses are relative or of an allowed scheme.
-use Rattle.std.specs.Prelude.{ℕ, Bool, true, false, ◌≡◌, ◌&&◌, nat_le, List, [], ◌∷◌, ◌++◌, codes}
+use Rattle.std.specs.Char.{is_ascii_whitespace}
+use Rattle.std.specs.List.{list_all}
+use Rattle.std.specs.Prelude.{ℕ, Bool, true, false, ◌≡◌, ◌&&◌, nat_le, not, List, [], ◌∷◌, ◌++◌, codes}
 use Rattle.cmark_grammar.specs.Html.{digit}
 use Rattle.cmark_safe.specs.Schemes.{is_allowed, is_among, is_one_of}
 
@@ -13,6 +15,15 @@ pub data IsValue : List ℕ → Type 0 where
   Empty : IsValue []
   Byte : (b : ℕ) (more : List ℕ) → is_among (codes "&<>\"") b ≡ false → IsValue more → IsValue (b ∷ more)
   Entity : (entity more : List ℕ) → is_one_of entities entity ≡ true → IsValue more → IsValue (entity ++ more)
+
+-- White space separates the classes of an element (HTML, section 3.2.6.2).
+abbrev pub is_in_word : ℕ → Bool
+is_in_word b = not (is_ascii_whitespace b)
+
+-- a value without white space: within a class it adds no other class
+pub record IsWord (word : List ℕ) : Type 0 where
+  pub value : IsValue word
+  pub one : list_all is_in_word word ≡ true
 
 -- an address as it is written, with these further schemes
 pub record IsAddress (further address : List ℕ) : Type 0 where
@@ -62,7 +73,7 @@ pub data IsTag (further : List ℕ) : List ℕ → Type 0 where
   Image : (address alternative title : List ℕ) → IsAddress further address → IsValue alternative → IsTitle title
       → IsTag further (codes "<img src=\"" ++ (address ++ (codes "\" alt=\"" ++ (alternative ++ (codes "\"" ++ (title ++ codes " />"))))))
   OrderedFrom : (first : List ℕ) → IsValue first → IsTag further (codes "<ol start=\"" ++ (first ++ codes "\">"))
-  Language : (name : List ℕ) → IsValue name → IsTag further (codes "<code class=\"language-" ++ (name ++ codes "\">"))
+  Language : (name : List ℕ) → IsWord name → IsTag further (codes "<code class=\"language-" ++ (name ++ codes "\">"))
   Footnote : (name : List ℕ) → IsValue name → IsTag further (codes "<div class=\"footnote-definition\" id=\"" ++ (own_prefix ++ (name ++ codes "\">")))
   ToFootnote : (name : List ℕ) → IsValue name → IsTag further (codes "<a href=\"#" ++ (own_prefix ++ (name ++ codes "\">")))
 

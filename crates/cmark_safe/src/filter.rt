@@ -1,23 +1,27 @@
 //! The safe form of an event.
 
-ghost use Rattle.std.specs.Prelude.{◌≡◌, ℕ, List, IfErr, IfOk, IsSome, option_map, string_bytes, false};
+ghost use Rattle.std.specs.Prelude.{◌≡◌, ℕ, List, IfErr, IfOk, IsSome, length, option_map, string_bytes, false};
+ghost use Rattle.std.specs.Str.{IsCharBoundary};
 ghost use Rattle.cmark_grammar.specs.Tag as grammar;
 ghost use Rattle.cmark_text.specs.Short.{shown_short};
 ghost use Rattle.cmark_text.specs.Shown.{shown, shown_end, shown_tag};
-ghost use Rattle.cmark_values.specs.Shown.{level_number, text_bytes};
-ghost use Rattle.cmark_safe.specs.Names.{HasName, TagHasName};
-ghost use Rattle.cmark_safe.specs.SafeEvents.{anchored, own_name, safe, safe_destination, safe_end, safe_tag};
+ghost use Rattle.cmark_values.specs.Shown.{IsInlined, level_number, text_bytes};
+ghost use Rattle.cmark_safe.specs.Memory.{NeedsMemory, TagNeedsMemory};
+ghost use Rattle.cmark_safe.specs.SafeEvents.{anchored, first_word, own_name, safe, safe_destination, safe_end, safe_tag};
 
 use crate::scheme::is_allowed;
-use cmark_text::{CowStr, Event, Excerpt, HeadingLevel, PlainTag, Short, Tag, TagEnd};
+use cmark_text::{
+    CodeBlockKind, CowStr, Event, Excerpt, HeadingLevel, PlainTag, Short, Tag, TagEnd,
+};
 use std::alloc::{AllocError, Global};
 
 /// The safe form of an event. The HTML of safe forms is safe, whatever the events are. `further` is a list of further schemes that
 /// addresses may have, separated by white space; `javascript`, `vbscript`, `data` and `file` are never taken from it.
 ///
 /// Raw HTML becomes text, and an HTML block a paragraph. A heading keeps its level and its anchor, and no other attribute. An anchor and
-/// the name of a footnote get the prefix `user-content-`, the only step that takes memory. A destination becomes empty unless its address
-/// is relative or has an allowed scheme.
+/// the name of a footnote get the prefix `user-content-`, which takes memory. A destination becomes empty unless its address is relative or
+/// has an allowed scheme. An info string is cut before its first white space, so a code block has one class; memory is taken only for a
+/// short owned text.
 #[inline(always)]
 pub fn safe_event<'a>(
     alloc: Global,
@@ -25,7 +29,7 @@ pub fn safe_event<'a>(
     event: Event<'a>,
 ) -> Result<Event<'a>, AllocError>
     ensures value { IfOk result (λ made. shown made ≡ safe further.now (shown event.entry)) }
-    ensures refused { IfErr result (λ error. HasName event.entry) }
+    ensures refused { IfErr result (λ error. NeedsMemory event.entry) }
 {
     match event {
         Event::Start(tag) => safe_tag(alloc, further, tag).map(Event::Start),
@@ -81,7 +85,7 @@ pub fn safe_destination<'x>(further: &str, destination: &'x str) -> &'x str
 fn safe_tag<'a>(alloc: Global, further: &str, tag: Tag<'a>) -> Result<Tag<'a>, AllocError>
     ensures value { IfOk result
         (λ made. shown_tag made ≡ safe_tag further.now (shown_tag tag.entry)) }
-    ensures refused { IfErr result (λ error. TagHasName tag.entry) }
+    ensures refused { IfErr result (λ error. TagNeedsMemory tag.entry) }
 {
     match tag {
         Tag::HtmlBlock => Ok(Tag::Paragraph),
@@ -94,6 +98,10 @@ fn safe_tag<'a>(alloc: Global, further: &str, tag: Tag<'a>) -> Result<Tag<'a>, A
             drop(classes);
             drop(attrs);
             safe_heading(alloc, level, id)
+        }
+        Tag::CodeBlock(CodeBlockKind::Fenced(info)) => {
+            let language = language(alloc, info)?;
+            Ok(Tag::CodeBlock(CodeBlockKind::Fenced(language)))
         }
         Tag::FootnoteDefinition(name) => own_name(alloc, name).map(Tag::FootnoteDefinition),
         Tag::Link {
@@ -152,6 +160,33 @@ fn safe_heading<'a>(
         classes: Vec::new(alloc),
         attrs: Vec::new(alloc),
     })
+}
+
+/// The first word of an info string. Only a short owned text takes memory.
+fn language<'a>(alloc: Global, info: CowStr<'a>) -> Result<CowStr<'a>, AllocError>
+    ensures value { IfOk result (λ made. text_bytes made ≡ first_word (text_bytes info.entry)) }
+    ensures refused { IfErr result (λ error. IsInlined info.entry) }
+{
+    let end = word_end(info.as_str());
+    match info {
+        CowStr::Borrowed(text) => Ok(CowStr::Borrowed(&text[..end])),
+        owned => {
+            let mut text = owned.into_string(alloc)?;
+            text.truncate(end);
+            CowStr::from_string(text)
+        }
+    }
+}
+
+/// The offset of a text's first white space, or its length if it has none.
+fn word_end(text: &str) -> usize
+    ensures value { result ≡ length (first_word text.now) }
+    ensures starts { IsCharBoundary text.now result }
+{
+    text.as_bytes()
+        .iter()
+        .take_while(|byte| !byte.is_ascii_whitespace())
+        .count()
 }
 
 /// The destination, or an empty one if it is not allowed.

@@ -1,8 +1,8 @@
 //! Safe events of any iterator.
 
 ghost use Rattle.std.specs.Prelude.{◌≡◌, ℕ, false, IfErr, IfOk, List};
-ghost use Rattle.cmark_safe.specs.Names.{HasName};
-ghost use Rattle.cmark_safe.specs.Streams.{CanGo, Gives, IsSafeForm, IsSafeRanged, RangedHasName, items_left};
+ghost use Rattle.cmark_safe.specs.Memory.{NeedsMemory};
+ghost use Rattle.cmark_safe.specs.Streams.{CanGo, Gives, IsSafeForm, IsSafeRanged, RangedNeedsMemory, items_left};
 
 use crate::filter::safe_event;
 use cmark_text::Event;
@@ -15,18 +15,18 @@ pub trait SafeItem: Drop {
     ghost is_safe_form: { List ℕ → Self → Self → Type 0 };
 
     /// It has a name of the text's own, for which memory is asked.
-    ghost has_name: { Self → Type 0 };
+    ghost needs_memory: { Self → Type 0 };
 
     /// The safe form.
     fn safe_form(self, alloc: Global, further: &str) -> Result<Self, AllocError>
         ensures value { IfOk result (is_safe_form further.now self) }
-        ensures refused { IfErr result (λ error. has_name self) };
+        ensures refused { IfErr result (λ error. needs_memory self) };
 }
 
 impl SafeItem for Event<'_> {
     ghost is_safe_form = { IsSafeForm };
 
-    ghost has_name = { HasName };
+    ghost needs_memory = { NeedsMemory };
 
     fn safe_form(self, alloc: Global, further: &str) -> Result<Self, AllocError> {
         safe_event(alloc, further, self)
@@ -36,7 +36,7 @@ impl SafeItem for Event<'_> {
 impl SafeItem for (Event<'_>, Range<usize>) {
     ghost is_safe_form = { IsSafeRanged };
 
-    ghost has_name = { RangedHasName };
+    ghost needs_memory = { RangedNeedsMemory };
 
     fn safe_form(self, alloc: Global, further: &str) -> Result<Self, AllocError> {
         let (event, range) = self;
@@ -86,7 +86,7 @@ impl<'s, T: SafeItem, I: Iterator<Item = Result<T, AllocError>>> Iterator for Sa
 
     ghost can_next = { CanGo I.can_next };
 
-    ghost next_gives = { Gives T.is_safe_form T.has_name I.next_gives };
+    ghost next_gives = { Gives T.is_safe_form T.needs_memory I.next_gives };
 
     ghost remaining = { items_left I.remaining };
 
