@@ -84,8 +84,9 @@ uint32_t pcm_html_within(const uint8_t *text, size_t text_len, uint32_t options,
 
 /* Like pcm_html, but writes safe HTML, for a text of a stranger. Raw HTML is shown as text. Addresses are relative, or begin with
    http:, https: or mailto:; others are empty. A heading has no attribute but its anchor, and anchors and names of footnotes begin with
-   user-content-; a link #a of the text keeps its address. It is proved that the output has only these tags and addresses. It is not proved
-   that links lead to good places, that images do not track, or that a math renderer handles formulas safely. */
+   user-content-; a link #a of the text keeps its address. The text chooses no class but language- with the first word of an info string. It
+   is proved that the output has only these tags and addresses. It is not proved that links lead to good places, that images do not track,
+   or that a math renderer handles formulas safely. */
 uint32_t pcm_safe_html(const uint8_t *text, size_t text_len, uint32_t options, uint8_t *room, size_t room_len, size_t *size);
 
 /* Like pcm_safe_html, but addresses may also begin with further schemes: names in UTF-8 with white space between them, such as

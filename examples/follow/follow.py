@@ -54,7 +54,7 @@ class Follower:
         """Takes what came since the last step. Returns whether there was anything."""
         if os.fstat(self.file.fileno()).st_size < self.file.tell():
             self.file.seek(0)
-            self.stream = new_stream()
+            self.stream, self.is_shown = new_stream(), False
         chunk = self.file.read(1 << 16)
         if chunk:
             self.stream.push(chunk)

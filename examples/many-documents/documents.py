@@ -11,6 +11,8 @@ OPTIONS = pulldown_cmark.Options.TABLES | pulldown_cmark.Options.STRIKETHROUGH |
 
 def left(source, target):
     """The files of a folder whose HTML is missing or older than the text, each with the path of its HTML."""
+    if not source.is_dir():
+        sys.exit(f"there is no folder {source}")
     for text in sorted(source.rglob("*.md")):
         html = target / text.relative_to(source).with_suffix(".html")
         if not html.exists() or html.stat().st_mtime < text.stat().st_mtime:

@@ -63,9 +63,9 @@ def html(
 
     It is not safe to show if the text comes from a stranger: raw HTML is kept as it is, links may lead to ``javascript:``, and headings may
     have attributes such as ``onclick``. With ``safe=True`` it is safe: HTML is shown as text, a heading has no attribute but its anchor, and
-    anchors and names of footnotes begin with ``user-content-``; a link ``#a`` of the text keeps its address. Addresses are relative or begin
-    with ``http:``, ``https:``, ``mailto:`` or one of ``schemes``; ``javascript``, ``vbscript``, ``data`` and ``file`` are never taken from
-    ``schemes``. A scheme has no colon.
+    anchors and names of footnotes begin with ``user-content-``; a link ``#a`` of the text keeps its address. The text chooses no class but
+    ``language-`` with the first word of an info string. Addresses are relative or begin with ``http:``, ``https:``, ``mailto:`` or one of
+    ``schemes``; ``javascript``, ``vbscript``, ``data`` and ``file`` are never taken from ``schemes``. A scheme has no colon.
 
     Once the destinations and titles of references have ``expansion_limit`` bytes in all, further references stay text. The default limit is
     100,000 bytes, or the length of the text if that is more.

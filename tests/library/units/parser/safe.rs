@@ -67,6 +67,16 @@ fn headings_have_an_anchor_alone(rt: HostRuntime) -> Result<(), Fail> {
 }
 
 #[test]
+fn a_code_block_has_one_class(rt: HostRuntime) -> Result<(), Fail> {
+    let html = safe(rt.alloc(), "```a\tb c\n```\n\n```d&#10;e\n```\n\n```&#9;f\n```\n", "")?;
+    assert_eq!(rt;
+        html.as_str(),
+        "<pre><code class=\"language-a\"></code></pre>\n<pre><code class=\"language-d\"></code></pre>\n<pre><code></code></pre>\n"
+    );
+    Ok(())
+}
+
+#[test]
 fn names_of_footnotes_have_a_prefix(rt: HostRuntime) -> Result<(), Fail> {
     let html = safe(rt.alloc(), "a[^b]\n\n[^b]: c\n", "")?;
     assert_eq!(rt;
