@@ -11,7 +11,7 @@ const { execFileSync } = require("child_process");
 const { readFileSync } = require("fs");
 const { resolve } = require("path");
 const TURNS = 3, WARM = 300, ROUNDS = 80, MILLISECONDS = 2;
-const ROOT = resolve(__dirname, "..");
+const ROOT = resolve(__dirname, "../..");
 
 const SHORT = "Hi, *you* and [me](a)";
 const SMALL = readFileSync(`${ROOT}/README.md`, "utf8").slice(0, 938);
