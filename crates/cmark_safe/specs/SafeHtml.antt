@@ -16,7 +16,7 @@ pub data IsValue : List ℕ → Type 0 where
   Byte : (b : ℕ) (more : List ℕ) → is_among (codes "&<>\"") b ≡ false → IsValue more → IsValue (b ∷ more)
   Entity : (entity more : List ℕ) → is_one_of entities entity ≡ true → IsValue more → IsValue (entity ++ more)
 
--- White space separates the classes of an element (HTML, section 3.2.6.2).
+-- White space separates the classes of an element (HTML, section 2.3.7).
 abbrev pub is_in_word : ℕ → Bool
 is_in_word b = not (is_ascii_whitespace b)
 
