@@ -176,7 +176,7 @@ fn single_short<'a>(leaf: &LeafText<'a>, slot: Slot) -> Step<'a>
         (events_of leaf.now texts links (slot ∷ following) opened)
         (events_of leaf.now texts links following opened) }
 {
-    // Only a text needs its range to be found. The caller that writes HTML does not read the range, so it is not computed for other kinds.
+    // Only a text is found by its range. Where the caller reads no range, as for HTML, the compiler drops it for the other kinds.
     match slot.kind {
         SlotKind::Text => {
             let range = leaf.range(slot.start, slot.end);
